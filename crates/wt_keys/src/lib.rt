@@ -1,0 +1,14 @@
+//! What every layer of the cache speaks of: keys, what a value offers, and why a call is refused.
+#![tactic(auto)]
+
+mod fault;
+mod key;
+mod shared;
+#[cfg(test)]
+mod tests;
+mod value;
+
+pub use fault::{Fault, Field, NoMemory};
+pub use key::CacheKey;
+pub use shared::Shared;
+pub use value::{Answers, Share};
