@@ -3,6 +3,7 @@
 
 mod fault;
 mod key;
+mod rows;
 mod shared;
 #[cfg(test)]
 mod tests;
@@ -10,5 +11,6 @@ mod value;
 
 pub use fault::{Fault, Field, NoMemory};
 pub use key::CacheKey;
+pub use rows::{bits_for, places, shard_of};
 pub use shared::Shared;
 pub use value::{Answers, Share};

@@ -1,0 +1,10 @@
+use Rattle.std.proofs.Common.{◌≡◌, ◌++◌, take, string_bytes}
+use Rattle.std.specs.List.{flat_map}
+use Rattle.wt_replay.specs.Answers.{notice_text}
+use Rattle.wt_replay.specs.Keys.{keys_by}
+use Rattle.wt_replay.proofs.answers.show_notices.Given as goal
+
+abbrev pub invariant-loop-notice : goal.invariant-loop-notice
+invariant-loop-notice g l =
+    string_bytes l.out ≡ string_bytes l.initial.out
+    ++ flat_map (notice_text (keys_by g.K.PartialEq.eq g.K.CacheKey.word g.K.TraceKey.read g.K.TraceKey.shown)) (take l.notice-index l.notices)

@@ -1,0 +1,102 @@
+-- What one shard answers to the lines of a trace.
+use Rattle.std.specs.Prelude.{ℕ, ◌+◌, ◌%◌, ◌==◌, Bool, true, false, List, [], ◌∷◌, ◌++◌, codes, decimal}
+use Rattle.std.specs.List.{flat_map}
+use Rattle.std.specs.Option.{option_map_or}
+use Rattle.wt_keys.specs.Hash.{shard_of}
+use Rattle.wt_keys.specs.declared.fault.Fault.TheVariants.{TooHeavy}
+use Rattle.wt_core.specs.declared.kinds.Cause.{Cause}
+use Rattle.wt_core.specs.declared.kinds.Cause.TheVariants.{Explicit, Replaced, Expired, Size}
+use Rattle.wt_core.specs.declared.kinds.Notice.{Notice}
+use Rattle.wt_core.specs.declared.kinds.Call.{Call}
+use Rattle.wt_core.specs.declared.kinds.Call.TheVariants as call
+use Rattle.wt_core.specs.declared.kinds.Reply.{Reply}
+use Rattle.wt_core.specs.declared.kinds.Reply.TheVariants as reply
+use Rattle.wt_core.specs.declared.kinds.Stats.{Stats}
+use Rattle.wt_core.specs.State.{State, Made, opening, stats_of}
+use Rattle.wt_core.specs.Run.{taken}
+use Rattle.wt_replay.specs.declared.line.Act.{Act}
+use Rattle.wt_replay.specs.declared.line.Act.TheVariants as act
+use Rattle.wt_replay.specs.declared.line.Line.{Line}
+use Rattle.wt_replay.specs.declared.options.Options.{Options}
+use Rattle.wt_replay.specs.declared.line.Version.{Version}
+use Rattle.wt_replay.specs.Keys.{Keys}
+use Rattle.wt_replay.specs.Line.{key_of}
+use Rattle.wt_replay.specs.Options.{config_of}
+
+-- what a shard answers: the text that it adds to each line, of another shard's line nothing, and its numbers at the end
+pub record Answers : Type 0 where
+  pub texts : List (List ℕ)
+  pub stats : Stats
+
+-- the name of a cause
+abbrev pub cause_name : Cause → List ℕ
+cause_name Explicit = codes "explicit"
+cause_name Replaced = codes "replaced"
+cause_name Expired = codes "expired"
+cause_name Size = codes "size"
+
+module _ {K : Type 0} where
+  -- the words of a reply
+  abbrev pub words_of : ℕ → Reply (Version K) → List ℕ
+  words_of shard (reply.Hit v) = codes " hit " ++ decimal v.line
+  words_of shard reply.Absent = codes " absent"
+  words_of shard reply.Stored = codes " put"
+  words_of shard (reply.Refused (TooHeavy weight bound)) = codes " heavy"
+  words_of shard (reply.Refused fault) = []
+
+-- a state, and the text added to a line on the way there
+pub record Shown (K : Type 0) : Type 0 where
+  pub state : State K (Version K)
+  pub text : List ℕ
+
+module _ {K : Type 0} (keys : Keys K) where
+  -- what a call makes of a state, for values of a trace
+  abbrev pub take : State K (Version K) → Call K (Version K) → Made K (Version K)
+  take s c = taken keys.eq keys.word (λ v. v.weight) s c
+
+  -- what is printed of an entry that left
+  abbrev pub notice_text : Notice K (Version K) → List ℕ
+  notice_text e = codes " " ++ (keys.shown e.key ++ (codes ":" ++ (decimal e.value.line ++ (codes ":" ++ cause_name e.cause))))
+
+  -- the words, then the notices
+  abbrev pub shown : List ℕ → List (Notice K (Version K)) → State K (Version K) → Shown K
+  shown words notices s = record { state = s; text = words ++ flat_map notice_text notices }
+
+  -- one call: its words and its notices
+  abbrev pub one_call : ℕ → State K (Version K) → Call K (Version K) → Shown K
+  one_call shard s c = let m = take s c in shown (words_of shard m.reply) m.notices m.state
+
+module _ {K : Type 0} (keys : Keys K) (o : Options) where
+  -- the value that line n makes
+  abbrev pub version : ℕ → K → Version K
+  version n k = record { key = k; line = n; weight = 1 + keys.word k % o.modulus }
+
+  -- line n at the shards that it belongs to
+  abbrev pub act_step : ℕ → ℕ → ℕ → Act K → State K (Version K) → Shown K
+  act_step shard n moment (act.Look k) s = one_call keys shard s (call.Look k moment)
+  act_step shard n moment (act.Put k) s = one_call keys shard s (call.Put k (version n k) moment)
+
+  -- whether a line belongs to the shard: one without a key belongs to each
+  abbrev pub belongs : ℕ → Act K → Bool
+  belongs shard a = option_map_or (λ k. shard_of (keys.word k) o.shards == shard) (key_of a) true
+
+  -- by whether the line belongs to the shard
+  abbrev pub line_if : Bool → ℕ → ℕ → Line K → State K (Version K) → Shown K
+  line_if true shard n l s = act_step shard n l.moment l.act s
+  line_if false shard n l s = record { state = s; text = [] }
+
+  -- line n at a shard
+  unfoldable pub line_step : ℕ → ℕ → Line K → State K (Version K) → Shown K
+  line_step shard n l s = line_if (belongs shard l.act) shard n l s
+
+  -- the lines from line n on, at a shard
+  abbrev pub answers_from : ℕ → ℕ → List (Line K) → State K (Version K) → Answers
+  answers_from shard n [] s = record { texts = []; stats = stats_of s }
+  answers_from shard n (l ∷ ls) s =
+      let one = line_step shard n l s in
+      let rest = answers_from shard (n + 1) ls one.state in
+      record rest { texts = one.text ∷ rest.texts }
+
+  -- all of them, at a shard that is new
+  unfoldable pub answers : ℕ → List (Line K) → ℕ → Answers
+  answers n ls shard = answers_from shard n ls (opening (config_of o))

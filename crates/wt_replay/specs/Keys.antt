@@ -1,0 +1,33 @@
+-- The keys of a trace.
+use Rattle.std.specs.Prelude.{◌≡◌, ℕ, ◌^◌, ◌<◌, ◌≤◌, nat_eq, nat_lt, nat_le, Bool, true, ◌&&◌, if◌then◌else◌, List, length, Option, None, Some, decimal}
+use Rattle.std.specs.Str.{all_ascii_digits}
+use Rattle.std.specs.Str.Parse.{digits_value}
+
+-- a kind of keys: when two are equal, the word of one, how it is read, and how it is printed
+pub record Keys (K : Type 0) : Type 0 where
+  pub eq : K → K → Bool
+  pub word : K → ℕ
+  pub read : List ℕ → Option K
+  pub shown : K → List ℕ
+
+-- the kind of keys that have these
+abbrev pub keys_by : {K : Type 0} → (K → K → Bool) → (K → ℕ) → (List ℕ → Option K) → (K → List ℕ) → Keys K
+keys_by eq word read shown = record { eq = eq; word = word; read = read; shown = shown }
+
+-- 1 to 20 decimal digits, whose value is below 2^64
+pub record IsNumber (digits : List ℕ) (n : ℕ) : Type 0 where
+  pub decimal : all_ascii_digits digits ≡ true
+  pub some : 0 < length digits
+  pub few : length digits ≤ 20
+  pub value : digits_value 10 digits ≡ n
+  pub fits : n < 2 ^ 64
+
+-- the number that the bytes spell, if they spell one
+abbrev pub number_of : List ℕ → Option ℕ
+number_of digits =
+    if (all_ascii_digits digits && nat_lt 0 (length digits)) && (nat_le (length digits) 20 && nat_lt (digits_value 10 digits) (2 ^ 64))
+    then Some (digits_value 10 digits) else None
+
+-- keys that are numbers: each is its own word
+abbrev pub numbers : Keys ℕ
+numbers = record { eq = nat_eq; word = λ k. k; read = number_of; shown = decimal }

@@ -1,0 +1,10 @@
+pub mod Tally
+pub mod Options
+pub mod FaultLine
+pub mod Keys
+pub mod Line
+pub mod Trace
+pub mod Answers
+pub mod Pieces
+pub mod Report
+pub mod Replayed

@@ -1,0 +1,50 @@
+-- The options: their defaults and their ranges.
+use Rattle.std.specs.Prelude.{ℕ, ◌+◌, ◌/◌, nat_lt, max, Bool, ◌||◌, if◌then◌else◌, Option, None, Some, unwrap_or, is_some}
+use Rattle.wt_keys.specs.declared.fault.Field.{Field}
+use Rattle.wt_keys.specs.declared.fault.Field.TheVariants.{Shards, Entries, Window, Bound, Modulus, AfterWrite, AfterAccess, Refresh, FailMod, Flights, Ring, Threads, Turn, Workers}
+use Rattle.wt_core.specs.declared.kinds.Config.{Config}
+use Rattle.wt_replay.specs.declared.options.Options.{Options}
+
+-- the window, by default a hundredth of the entries and at least 1
+abbrev pub window_of : Options → ℕ
+window_of o = unwrap_or o.window (max (o.entries / 100) 1)
+
+-- the ring, by default one more than the flights and at least 64
+abbrev pub ring_of : Options → ℕ
+ring_of o = unwrap_or o.ring (max (o.flights + 1) 64)
+
+-- whether a number is outside low to high
+abbrev pub is_outside : ℕ → ℕ → ℕ → Bool
+is_outside low high n = nat_lt n low || nat_lt high n
+
+-- the first of the options from flights on that is out of its range
+abbrev pub later_fault : Options → Option Field
+later_fault o =
+    if is_outside 1 4096 o.flights then Some Flights else
+    if is_outside (o.flights + 1) 65536 (ring_of o) then Some Ring else
+    if nat_lt 0 o.threads then Some Threads else
+    if nat_lt 0 o.turn then Some Turn else
+    if nat_lt 0 o.workers then Some Workers else
+    None
+
+-- the first option that is out of its range; for now there is one shard of one region, with no durations, on one thread
+abbrev pub option_fault : Options → Option Field
+option_fault o =
+    if is_outside 1 1 o.shards then Some Shards else
+    if is_outside 1 65536 o.entries then Some Entries else
+    if is_outside o.entries o.entries (window_of o) then Some Window else
+    if is_outside 281474976710656 281474976710656 o.weight then Some Bound else
+    if is_outside 1 1000000 o.modulus then Some Modulus else
+    if is_some o.write then Some AfterWrite else
+    if is_some o.access then Some AfterAccess else
+    if is_some o.refresh then Some Refresh else
+    if is_some o.fail_mod then Some FailMod else
+    later_fault o
+
+-- what each shard is made for
+abbrev pub config_of : Options → Config
+config_of o = record { entries = o.entries; window = window_of o; bound = o.weight; after_write = o.write; after_access = o.access; refresh = o.refresh; flights = o.flights; ring = ring_of o }
+
+-- what stands where nothing is given
+abbrev pub default_options : Options
+default_options = record { shards = 1; entries = 1024; window = None; weight = 281474976710656; modulus = 1; write = None; access = None; refresh = None; fail_mod = None; flights = 32; ring = None; threads = 0; turn = 0; workers = 0 }

@@ -1,0 +1,149 @@
+//! Replays a trace of look-ups and stores on a cache, and reports what came of each line.
+#![tactic(auto)]
+
+mod answers;
+mod fault;
+mod key;
+mod line;
+mod options;
+mod replay;
+mod report;
+mod tallied;
+#[cfg(test)]
+mod tests;
+mod trace;
+
+use clap::{Arg, ArgAction, ArgMatches, Command, value_parser};
+use fault::ReplayFault;
+use options::Options;
+use std::alloc::Global;
+use std::io;
+use std::process::ExitCode;
+use tallied::Tallied;
+
+// An option that takes a whole number, with what it does, its range and its default.
+fn option<'a>(alloc: Global, name: &'a str, help: &'a str) -> Arg<'a> {
+    Arg::new(alloc, name)
+        .long(name)
+        .action(ArgAction::Set)
+        .value_parser(value_parser!(u64))
+        .help(help)
+}
+
+fn command<'a>(alloc: Global) -> Result<Command<'a>, clap::Error> {
+    let command = Command::new(alloc, "wt_replay")
+        .about("Replays the trace on standard input on a cache, and writes what came of each line")
+        .arg(option(alloc, "shards", "Number of shards: for now 1 [default: 1]"))?
+        .arg(option(
+            alloc,
+            "entries",
+            "Entries that a shard may hold: 1 to 65536 [default: 1024]",
+        ))?
+        .arg(option(
+            alloc,
+            "window",
+            "Entries that its window may hold: for now as many as --entries [default: entries / 100, at least 1]",
+        ))?
+        .arg(option(
+            alloc,
+            "weight",
+            "Weight that its entries may have together: for now 281474976710656 [default: 281474976710656]",
+        ))?
+        .arg(option(
+            alloc,
+            "mod",
+            "A value of key k weighs 1 + k mod this: 1 to 1000000 [default: 1]",
+        ))?
+        .arg(option(
+            alloc,
+            "write",
+            "Milliseconds after which an entry expires that isn't written: 1 up, not yet allowed [default: never]",
+        ))?
+        .arg(option(
+            alloc,
+            "access",
+            "Milliseconds after which an entry expires that isn't used: 1 up, not yet allowed [default: never]",
+        ))?
+        .arg(option(
+            alloc,
+            "fail-mod",
+            "Loads of keys that this divides fail: 1 up, not yet allowed [default: none fails]",
+        ))?
+        .arg(option(
+            alloc,
+            "flights",
+            "Loads that a shard may have open: 1 to 4096 [default: 32]",
+        ))?
+        .arg(option(
+            alloc,
+            "ring",
+            "Steps that a shard may record: flights + 1 to 65536 [default: 64, or flights + 1]",
+        ))?
+        .arg(option(
+            alloc,
+            "threads",
+            "Threads that replay shard by shard: for now 0 [default: 0]",
+        ))?
+        .arg(option(
+            alloc,
+            "turn",
+            "Threads that replay turn by turn: for now 0 [default: 0]",
+        ))?
+        .arg(option(
+            alloc,
+            "workers",
+            "Threads that run loads: for now 0 [default: 0]",
+        ))?;
+    Ok(command)
+}
+
+fn options_of(matches: &ArgMatches) -> Options {
+    let default = Options::default();
+    Options {
+        shards: matches.get_one("shards").unwrap_or(default.shards),
+        entries: matches.get_one("entries").unwrap_or(default.entries),
+        window: matches.get_one("window"),
+        weight: matches.get_one("weight").unwrap_or(default.weight),
+        modulus: matches.get_one("mod").unwrap_or(default.modulus),
+        write: matches.get_one("write"),
+        access: matches.get_one("access"),
+        refresh: None,
+        fail_mod: matches.get_one("fail-mod"),
+        flights: matches.get_one("flights").unwrap_or(default.flights),
+        ring: matches.get_one("ring"),
+        threads: matches.get_one("threads").unwrap_or(default.threads),
+        turn: matches.get_one("turn").unwrap_or(default.turn),
+        workers: matches.get_one("workers").unwrap_or(default.workers),
+    }
+}
+
+// The exit status of a run, after its fault line, if it has one, went to standard error.
+fn status_of<R: Eprint>(rt: &R, alloc: Global, outcome: Result<(), ReplayFault>) -> io::Result<u8> {
+    let Err(fault) = outcome else {
+        return Ok(0);
+    };
+    match fault::status_and_line(alloc, &fault) {
+        Ok((status, line)) => {
+            eprint!(rt; "{line}")?;
+            Ok(status)
+        }
+        Err(_) => Ok(1),
+    }
+}
+
+fn main(rt: HostRuntime) -> anyhow::Result<ExitCode> {
+    let alloc = rt.alloc();
+    let words: Vec<String> = std::env::args(&rt)?.collect(alloc)?;
+    let matches = match command(alloc)?.try_get_matches_from(words.as_slice()) {
+        Ok(matches) => matches,
+        Err(error) => {
+            error.print(&rt)?;
+            return Ok(ExitCode::from(error.exit_code() as u8));
+        }
+    };
+    let options = options_of(&matches);
+    let mut reader = Tallied::new(rt.reader());
+    let mut writer = Tallied::new(io::writer(&rt));
+    let outcome = replay::replay(alloc, &mut reader, &mut writer, &options);
+    Ok(ExitCode::from(status_of(&rt, alloc, outcome)?))
+}

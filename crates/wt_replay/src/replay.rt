@@ -1,0 +1,91 @@
+// From a reader to a writer.
+ghost use Rattle.std.specs.Prelude.{◌≡◌, ◌+◌, ◌-◌, ◌<◌, ◌≤◌, ◌^◌, ◌⊎◌, ◌↔◌, length, vec_len, MatchResult, MatchOption, IfOk, OnOk, OnErr, IfErr, Ok, Err, false};
+ghost use Rattle.std.specs.Io.KnownBytes.{Keeps, Appends, Consumes, IsAtEnd};
+ghost use Rattle.wt_replay.specs.Replayed.{Replayed, AppendsFront, Rises, is_config_fault};
+ghost use Rattle.wt_replay.specs.Options.{option_fault};
+ghost use Rattle.wt_keys.specs.declared.fault.Fault.TheVariants as cache;
+ghost use Rattle.wt_replay.specs.declared.fault.ReplayFault.TheVariants as fault;
+
+use crate::fault::ReplayFault;
+use crate::options::Options;
+use crate::report::report;
+use crate::tallied::Tallied;
+use std::alloc::Global;
+use std::io::{Read, Write};
+use wt_keys::Fault;
+
+// No trace of 1,000,000 lines of 64 bytes has more, each with its LF, so that one byte more shows a fault.
+const MOST_BYTES: usize = 65_000_001;
+
+// All that the reader gives, or its first bytes up to a limit. Each turn adds a byte or ends the loop.
+fn read_up_to<R: Read>(
+    alloc: Global,
+    reader: &mut Tallied<R>,
+    most: usize,
+) -> Result<Vec<u8>, ReplayFault>
+    ensures given { IfOk result (λ bytes. Consumes (R.remaining reader.old.inner) (R.remaining reader.new.inner) bytes.items) }
+    ensures all { IfOk result (λ bytes. (vec_len bytes ≡ most) ⊎ IsAtEnd (R.remaining reader.new.inner)) }
+    ensures faults { IfErr result (λ e. (e ≡ fault.Cache cache.NoMemory) ⊎ (e ≡ fault.ReadFault)) }
+    ensures kind { IfErr result (λ e. is_config_fault e ≡ false) }
+    ensures failed { Rises reader.old.failures reader.new.failures result fault.ReadFault }
+{
+    let mut bytes = Vec::new(alloc);
+    let mut part = [0u8; 16384];
+    while bytes.len() < most {
+        let room = part.len().min(most - bytes.len());
+        match reader.read(&mut part[..room]) {
+            Ok(0) => return Ok(bytes),
+            Ok(n) => {
+                if bytes.extend_from_slice(&part[..n]).is_err() {
+                    return Err(ReplayFault::Cache(Fault::NoMemory));
+                }
+            }
+            Err(_) => return Err(ReplayFault::ReadFault),
+        }
+    }
+    Ok(bytes)
+}
+
+// Writes all of the bytes.
+fn write_out<W: Write>(writer: &mut Tallied<W>, bytes: &[u8]) -> Result<(), ReplayFault>
+    ensures ok { OnOk result (Appends (W.contents writer.old.inner) (W.contents writer.new.inner) bytes.now) }
+    ensures err { IfErr result (λ e. (e ≡ fault.WriteFault) × AppendsFront (W.contents writer.old.inner) (W.contents writer.new.inner) bytes.now) }
+    ensures kind { IfErr result (λ e. is_config_fault e ≡ false) }
+    ensures failed { Rises writer.old.failures writer.new.failures result fault.WriteFault }
+{
+    let mut rest = bytes;
+    while !rest.is_empty() {
+        match writer.write(rest) {
+            Ok(0) | Err(_) => return Err(ReplayFault::WriteFault),
+            Ok(n) => rest = rest.split_at(n).1,
+        }
+    }
+    Ok(())
+}
+
+/// Replays the trace that a reader gives, and writes the report.
+///
+/// Reads until the reader's end, its failure or 65,000,001 bytes, and makes the whole report before it writes.
+/// Faults in their order: an option out of its range (nothing was read or written); `ReadFault`, exactly where the
+/// reader failed, and no memory (nothing was written); `WriteFault`, exactly where the writer failed or took nothing (a
+/// front of the report was written); then the fault of the first faulty line (the report of the lines before it was
+/// written). Takes memory for the bytes, the lines, what the shards answer and the report.
+pub fn replay<R: Read, W: Write>(
+    alloc: Global,
+    reader: &mut Tallied<R>,
+    writer: &mut Tallied<W>,
+    options: &Options,
+) -> Result<(), ReplayFault>
+    ensures config { MatchOption (option_fault options.now) (IfErr result (λ e. is_config_fault e ≡ false)) (λ field. (result ≡ Err (fault.Cache (cache.BadConfig field))) × (reader.new ≡ reader.old) × (writer.new ≡ writer.old)) }
+    ensures replayed { Replayed options.now (R.remaining reader.old.inner) (R.remaining reader.new.inner) (W.contents writer.old.inner) (W.contents writer.new.inner) result }
+    ensures reads { Rises reader.old.failures reader.new.failures result fault.ReadFault }
+    ensures writes { Rises writer.old.failures writer.new.failures result fault.WriteFault }
+{
+    if let Some(field) = options.fault() {
+        return Err(ReplayFault::Cache(Fault::BadConfig { field }));
+    }
+    let bytes = read_up_to(alloc, reader, MOST_BYTES)?;
+    let (text, verdict) = report(alloc, bytes.as_slice(), options)?;
+    write_out(writer, text.as_slice())?;
+    verdict
+}

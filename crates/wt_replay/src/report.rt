@@ -1,0 +1,168 @@
+// The report of a trace, printed from what each shard answers.
+ghost use Rattle.std.specs.Prelude.{◌≡◌, ◌++◌, ◌+◌, ◌<◌, ◌≤◌, ◌^◌, All, IfOk, OnOk, string_bytes, length, None, map};
+ghost use Rattle.std.specs.List.{range_with_len};
+ghost use Rattle.wt_replay.specs.Keys.{keys_by};
+ghost use Rattle.wt_replay.specs.Options.{option_fault};
+ghost use Rattle.wt_replay.specs.Report as spec;
+ghost use Rattle.wt_replay.specs.declared.fault.ReplayFault.{ReplayFault};
+
+use crate::answers::{Answers, shard_answers};
+use crate::fault::ReplayFault;
+use crate::key::TraceKey;
+use crate::options::Options;
+use crate::trace::{Lines, read_lines};
+use std::alloc::{AllocError, Global};
+use wt_core::Stats;
+use wt_keys::NoMemory;
+
+// Appends the digits of a number.
+fn show_number(out: &mut Vec<u8>, digits: &mut String, n: u64) -> Result<(), AllocError>
+    ensures { OnOk result (out.new.items ≡ out.old.items ++ decimal n) }
+{
+    digits.clear();
+    write!(digits, "{n}")?;
+    out.extend_from_slice(digits.as_bytes())
+}
+
+ghost use Rattle.std.specs.Prelude.{decimal};
+
+// Appends line i of the report: its number, and what each shard adds to it.
+#[tactic(auto, unfolding(crate::specs::Report::line_text))]
+fn show_line(
+    out: &mut Vec<u8>,
+    digits: &mut String,
+    first: u64,
+    all: &[Answers],
+    i: usize,
+) -> Result<(), AllocError>
+    requires whole { All (λ a. i < length a.texts) all.now }
+    requires fits { first + i < 2 ^ 64 }
+    ensures { OnOk result (out.new.items ≡ out.old.items ++ spec.line_text first all.now i) }
+{
+    show_number(out, digits, first + i as u64)?;
+    for answers in all {
+        out.extend_from_slice(answers.text(i))?;
+    }
+    out.push(b'\n')?;
+    Ok(())
+}
+
+// The sums of the numbers of all shards.
+fn totals(all: &[Answers]) -> Stats
+    requires { length all.now ≤ 4 }
+    ensures { spec.AreTotals result all.now }
+{
+    let mut sum = Stats {
+        lookups: 0,
+        hits: 0,
+        misses: 0,
+        loads: 0,
+        failed: 0,
+        evicted: 0,
+        entries: 0,
+        weight: 0,
+    };
+    for answers in all {
+        let stats = answers.stats();
+        sum.lookups += stats.lookups;
+        sum.hits += stats.hits;
+        sum.misses += stats.misses;
+        sum.loads += stats.loads;
+        sum.failed += stats.failed;
+        sum.evicted += stats.evicted;
+        sum.entries += stats.entries;
+        sum.weight += stats.weight;
+    }
+    sum
+}
+
+// Appends a label and a number.
+#[tactic(auto, unfolding(crate::specs::Report::count_text))]
+fn show_count(out: &mut Vec<u8>, digits: &mut String, label: &str, n: u64) -> Result<(), AllocError>
+    ensures { OnOk result (out.new.items ≡ out.old.items ++ spec.count_text label.now n) }
+{
+    out.extend_from_slice(label.as_bytes())?;
+    show_number(out, digits, n)
+}
+
+// Appends the summary.
+fn show_summary(out: &mut Vec<u8>, digits: &mut String, all: &[Answers]) -> Result<(), AllocError>
+    requires { length all.now ≤ 4 }
+    ensures { OnOk result (out.new.items ≡ out.old.items ++ spec.summary all.now) }
+{
+    let sum = totals(all);
+    show_count(out, digits, "lookups ", sum.lookups)?;
+    show_count(out, digits, " hits ", sum.hits)?;
+    show_count(out, digits, " misses ", sum.misses)?;
+    show_count(out, digits, " loads ", sum.loads)?;
+    show_count(out, digits, " failed ", sum.failed)?;
+    show_count(out, digits, " evicted ", sum.evicted)?;
+    show_count(out, digits, " entries ", sum.entries)?;
+    show_count(out, digits, " weight ", sum.weight)?;
+    out.push(b'\n')?;
+    Ok(())
+}
+
+/// Returns so many lines of a report by what the shards answer, and the summary where no line was at fault.
+#[tactic(auto, unfolding(crate::specs::Report::printed))]
+pub fn print(
+    alloc: Global,
+    first: u64,
+    count: usize,
+    complete: bool,
+    all: &[Answers],
+) -> Result<Vec<u8>, NoMemory>
+    requires whole { All (λ a. length a.texts ≡ count) all.now }
+    requires few { length all.now ≤ 4 }
+    requires fits { first + count < 2 ^ 64 }
+    ensures { IfOk result (λ out. out.items ≡ spec.printed first count complete all.now) }
+{
+    let mut out = Vec::new(alloc);
+    let mut digits = String::new(alloc);
+    for i in 0..count {
+        show_line(&mut out, &mut digits, first, all, i)?;
+    }
+    if complete {
+        show_summary(&mut out, &mut digits, all)?;
+    }
+    Ok(out)
+}
+
+// The report of lines, the first of which is line `first`.
+fn report_of<K: TraceKey>(
+    alloc: Global,
+    options: &Options,
+    first: u64,
+    read: Lines<K>,
+) -> Result<(Vec<u8>, Result<(), ReplayFault>), NoMemory>
+    requires options { option_fault options.now ≡ None }
+    requires first { first ≤ 1000001 }
+    ensures text { IfOk result (λ r. r.0.items ≡ (spec.report_of (keys_by K.eq K.word K.read K.shown) options.now first (record { lines = read.lines.items; verdict = read.verdict })).text) }
+    ensures verdict { IfOk result (λ r. r.1 ≡ read.verdict) }
+{
+    let Lines { lines, verdict } = read;
+    let mut all = Vec::new(alloc);
+    for shard in 0..options.shards() {
+        let one = shard_answers(alloc, options, shard, first, &lines)?;
+        all.push(one)?;
+    }
+    let text = print(alloc, first, lines.len(), verdict.is_ok(), &all)?;
+    Ok((text, verdict))
+}
+
+/// Returns the report of the bytes of a trace, and the verdict: what is wrong with the first faulty line, if
+/// there is one.
+pub fn report(
+    alloc: Global,
+    bytes: &[u8],
+    options: &Options,
+) -> Result<(Vec<u8>, Result<(), ReplayFault>), NoMemory>
+    requires { option_fault options.now ≡ None }
+    ensures text { IfOk result (λ r. r.0.items ≡ (spec.report options.now bytes.now).text) }
+    ensures verdict { IfOk result (λ r. r.1 ≡ (spec.report options.now bytes.now).verdict) }
+    ensures kind { IfOk result (λ r. spec.IsVerdict r.1) }
+{
+    let read = read_lines::<u64>(alloc, 1, bytes)?;
+    let report = report_of(alloc, options, 1, read)?;
+    Ok(report)
+}
