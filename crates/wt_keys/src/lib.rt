@@ -3,6 +3,7 @@
 
 mod fault;
 mod key;
+mod name;
 mod rows;
 mod shared;
 #[cfg(test)]
@@ -11,6 +12,7 @@ mod value;
 
 pub use fault::{Fault, Field, NoMemory};
 pub use key::CacheKey;
+pub use name::Name;
 pub use rows::{bits_for, places, shard_of};
 pub use shared::Shared;
 pub use value::{Answers, Share};

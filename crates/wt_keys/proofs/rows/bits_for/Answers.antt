@@ -1,7 +1,7 @@
-use Rattle.std.proofs.Common.{◌≡◌, ℕ, suc, ◌+◌, ◌-◌, ◌*◌, ◌^◌, ◌<◌, ◌≤◌, ◌%◌, max, nat_le, true, false, arith, ap, sym, inl, inr, ◌∙◌, rules}
+use Rattle.std.proofs.Common.{◌≡◌, ℕ, suc, ◌+◌, ◌-◌, ◌*◌, ◌^◌, ◌<◌, ◌≤◌, ◌%◌, max, nat_le, true, false, arith, ap, sym, inl, inr, ◌∙◌}
 use Rattle.std.proofs.lemmas.Grind.{common_steps}
 use Rattle.std.proofs.lemmas.Bool.{cases_lt}
-use Rattle.wt_keys.specs.Hash.{bits_from, bits_for}
+use Rattle.wt_keys.specs.Hash.{bits_from}
 use Rattle.wt_keys.proofs.Powers.{powers_rise, next_bits, found_bits, from_six}
 use Rattle.wt_keys.proofs.rows.bits_for.Invariants.{IsSeeking}
 use Rattle.wt_keys.proofs.rows.bits_for.Goals as goal

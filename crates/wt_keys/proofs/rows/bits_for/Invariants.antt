@@ -1,4 +1,4 @@
-use Rattle.std.proofs.Common.{◌≡◌, ℕ, ◌*◌, ◌^◌, ◌<◌, ◌≤◌, max, ◌+◌, ◌-◌}
+use Rattle.std.proofs.Common.{◌≡◌, ℕ, ◌^◌, ◌<◌, ◌≤◌, ◌-◌}
 use Rattle.wt_keys.specs.Hash.{bits_from, bits_for}
 use Rattle.wt_keys.proofs.rows.bits_for.Given as goal
 
