@@ -1,0 +1,5 @@
+pub mod Sketch
+pub mod Alone
+pub mod Lawful
+pub mod Nibbles
+pub mod Packed

@@ -1,0 +1,10 @@
+//! How often each key was used, about: counters of four bits that stop at 15 and fade.
+#![tactic(auto)]
+
+mod sketch;
+#[cfg(test)]
+mod tests;
+mod words;
+
+pub use sketch::Sketch;
+pub use words::halve;
