@@ -8,7 +8,7 @@
 //
 // The cell is written at most once, with no lock, and whoever reads it reads that one outcome. The
 // bell says nothing of the outcome: a waiter that is woken polls the cell.
-ghost use Rattle.std.specs.Prelude.{◌≡◌, ℕ, IfOk};
+ghost use Rattle.std.specs.Prelude.{◌≡◌, IfOk};
 ghost use Rattle.std.specs.Arc.{arc_value};
 ghost use Rattle.once_cell.specs.Once.{cell_name};
 ghost use Rattle.wt_flights.specs.Outcomes.{Leading};

@@ -6,3 +6,4 @@ pub mod Traces
 pub mod Ends
 pub mod Lines
 pub mod Sums
+pub mod Examples
