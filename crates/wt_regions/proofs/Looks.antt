@@ -1,0 +1,91 @@
+-- What a look finds, and what the use of it leaves.
+use Rattle.std.proofs.Common.{◌≡◌, ℕ, Bool, true, false, cond, List, ◌++◌, Option, Some, None, refl}
+use Rattle.std.specs.Option.{option_map_or, is_some}
+use Rattle.std.specs.Map.{lookup, lookup_entry, remove_entry}
+use Rattle.wt_regions.specs.declared.kinds.Caps.{Caps}
+use Rattle.wt_regions.specs.declared.kinds.Found.TheVariants.{Hit, Absent, Stale as StaleFound}
+use Rattle.wt_regions.specs.declared.kinds.Held.{Held}
+use Rattle.wt_regions.specs.declared.touch.Seen.{Seen}
+use Rattle.wt_regions.specs.declared.touch.Seen.TheVariants.{InWindow, InProbation, InProtected, Nowhere, Stale}
+use Rattle.wt_regions.specs.Lists.{Entry, Lists, lists_of, held_for, found_at, has_at, is_expired, used}
+use Rattle.wt_regions.specs.Touch.{promoted, looked_at}
+use Rattle.wt_regions.specs.Moves.{in_front, seen_at}
+use Rattle.wt_regions.proofs.Moves.{lookup-append}
+use Rattle.wt_regions.proofs.Apart.{entry-from_lookup}
+use Rattle.wt_regions.proofs.Touches.{promoted-0, promoted-1, touched-window, touched-probation, touched-protected}
+
+module _ {K V : Type 0} (eq : K → K → Bool) (k : K) (now : ℕ) where
+  -- an unexpired entry is a hit
+  pub hit-of : (r : Lists K V) (h : Held V) → held_for eq k r ≡ Some h → is_expired r.caps now h ≡ false → has_at eq k now r ≡ true
+  hit-of r h is fresh = rw (is, fresh) refl
+
+  module _ (c : Caps) (ws ps qs : List (Entry K V)) where
+    pub held-window : (h : Held V) → lookup (eq k) ws ≡ Some h → held_for eq k (lists_of c ws ps qs) ≡ Some h
+    held-window h is = rw (lookup-append (eq k) ws (ps ++ qs), is)
+
+    pub held-probation : (h : Held V) → lookup (eq k) ws ≡ None → lookup (eq k) ps ≡ Some h → held_for eq k (lists_of c ws ps qs) ≡ Some h
+    held-probation h nw is = rw (lookup-append (eq k) ws (ps ++ qs), nw, lookup-append (eq k) ps qs, is)
+
+    pub held-protected : (h : Held V) → lookup (eq k) ws ≡ None → lookup (eq k) ps ≡ None → lookup (eq k) qs ≡ Some h → held_for eq k (lists_of c ws ps qs) ≡ Some h
+    held-protected h nw np is = rw (lookup-append (eq k) ws (ps ++ qs), nw, lookup-append (eq k) ps qs, np, is)
+
+    held-nowhere : lookup (eq k) ws ≡ None → lookup (eq k) ps ≡ None → lookup (eq k) qs ≡ None → held_for eq k (lists_of c ws ps qs) ≡ None
+    held-nowhere nw np nq = rw (lookup-append (eq k) ws (ps ++ qs), nw, lookup-append (eq k) ps qs, np, nq)
+
+module _ {K V : Type 0} (eq : K → K → Bool) (same : (a b : K) → eq a b ≡ true → a ≡ b) (k : K) (now : ℕ) (c : Caps) (ws ps qs : List (Entry K V)) where
+  abbrev r : Lists K V
+  r = lists_of c ws ps qs
+
+  -- probation and protected after the promotion of an entry that is held as m
+  abbrev pub moved-0 : Held V → List (Entry K V)
+  moved-0 m = option_map_or (λ (e : Entry K V). (promoted c (e.0, m) (remove_entry (eq k) ps) qs).0) (lookup_entry (eq k) ps) ps
+
+  abbrev pub moved-1 : Held V → List (Entry K V)
+  moved-1 m = option_map_or (λ (e : Entry K V). (promoted c (e.0, m) (remove_entry (eq k) ps) qs).1) (lookup_entry (eq k) ps) qs
+
+  -- what follows from what a look saw
+  abbrev pub IsLook : Seen V → Type 0
+  IsLook (InWindow v) = (found_at eq k now r ≡ Hit v) × (looked_at eq k now r ≡ lists_of c (in_front eq k (used now) ws) ps qs)
+  IsLook (InProbation v m) = (found_at eq k now r ≡ Hit v)
+      × (looked_at eq k now r ≡ lists_of c ws (promoted-0 eq k (used now) c ps qs) (promoted-1 eq k (used now) c ps qs))
+      × (moved-0 m ≡ promoted-0 eq k (used now) c ps qs)
+      × (moved-1 m ≡ promoted-1 eq k (used now) c ps qs)
+  IsLook (InProtected v) = (found_at eq k now r ≡ Hit v) × (looked_at eq k now r ≡ lists_of c ws ps (in_front eq k (used now) qs))
+  IsLook Nowhere = (found_at eq k now r ≡ Absent) × (looked_at eq k now r ≡ r)
+  IsLook Stale = (found_at eq k now r ≡ StaleFound) × (looked_at eq k now r ≡ r)
+
+  stale : (h : Held V) → held_for eq k r ≡ Some h → is_expired c now h ≡ true → IsLook Stale
+  stale h is old = (rw (is, old) refl, rw (is, old) refl)
+
+  window_if : (h : Held V) (b : Bool) → lookup (eq k) ws ≡ Some h → is_expired c now h ≡ b → IsLook (cond b Stale (InWindow h.value))
+  window_if h true at e = stale h (held-window eq k now c ws ps qs h at) e
+  window_if h false at e =
+      let is = held-window eq k now c ws ps qs h at in
+      let there : is_some (lookup (eq k) ws) ≡ true = rw at refl in
+      (rw (is, e) refl, rw (is, e) (touched-window eq k (used now) c ws ps qs there))
+
+  probation_if : (h : Held V) (b : Bool) → lookup (eq k) ws ≡ None → lookup (eq k) ps ≡ Some h → is_expired c now h ≡ b → IsLook (cond b Stale (InProbation h.value (used now h)))
+  probation_if h true nw at e = stale h (held-probation eq k now c ws ps qs h nw at) e
+  probation_if h false nw at e =
+      let is = held-probation eq k now c ws ps qs h nw at in
+      let there : is_some (lookup (eq k) ps) ≡ true = rw at refl in
+      let entry = entry-from_lookup eq same k ps h at in
+      (rw (is, e) refl, rw (is, e) (touched-probation eq k (used now) c ws ps qs nw there), rw entry refl, rw entry refl)
+
+  protected_if : (h : Held V) (b : Bool) → lookup (eq k) ws ≡ None → lookup (eq k) ps ≡ None → lookup (eq k) qs ≡ Some h → is_expired c now h ≡ b → IsLook (cond b Stale (InProtected h.value))
+  protected_if h true nw np at e = stale h (held-protected eq k now c ws ps qs h nw np at) e
+  protected_if h false nw np at e =
+      let is = held-protected eq k now c ws ps qs h nw np at in
+      (rw (is, e) refl, rw (is, e) (touched-protected eq k (used now) c ws ps qs nw np))
+
+  look_at : (ow op oq : Option (Held V)) → lookup (eq k) ws ≡ ow → lookup (eq k) ps ≡ op → lookup (eq k) qs ≡ oq
+      → IsLook (option_map_or (λ (h : Held V). cond (is_expired c now h) Stale (InWindow h.value)) ow
+      (option_map_or (λ (h : Held V). cond (is_expired c now h) Stale (InProbation h.value (used now h))) op
+      (option_map_or (λ (h : Held V). cond (is_expired c now h) Stale (InProtected h.value)) oq Nowhere)))
+  look_at (Some h) op oq iw ip iq = window_if h (is_expired c now h) iw refl
+  look_at None (Some h) oq iw ip iq = probation_if h (is_expired c now h) iw ip refl
+  look_at None None (Some h) iw ip iq = protected_if h (is_expired c now h) iw ip iq refl
+  look_at None None None iw ip iq = let is = held-nowhere eq k now c ws ps qs iw ip iq in (rw is refl, rw is refl)
+
+  pub look-is : IsLook (seen_at eq k now r)
+  look-is = look_at (lookup (eq k) ws) (lookup (eq k) ps) (lookup (eq k) qs) refl refl refl

@@ -1,0 +1,126 @@
+-- The three regions of a cache as lists, and what stands in them.
+use Rattle.std.specs.Prelude.{ℕ, ◌-◌, ◌*◌, ◌/◌, nat_le, Bool, true, false, not, ◌&&◌, ◌||◌, if◌then◌else◌, List, [], ◌++◌, length, take, Option, sum_by}
+use Rattle.std.specs.Option.{option_map_or}
+use Rattle.std.specs.Map.{lookup, remove_entry}
+use Rattle.wt_regions.specs.declared.kinds.Caps.{Caps}
+use Rattle.wt_regions.specs.declared.kinds.Cause.{Cause}
+use Rattle.wt_regions.specs.declared.kinds.Cause.TheVariants.{Explicit, Replaced, Expired, Size}
+use Rattle.wt_regions.specs.declared.kinds.Found.{Found}
+use Rattle.wt_regions.specs.declared.kinds.Found.TheVariants.{Hit, Absent, Stale}
+use Rattle.wt_regions.specs.declared.kinds.Held.{Held}
+use Rattle.wt_regions.specs.declared.kinds.Notice.{Notice}
+use Rattle.wt_regions.specs.declared.kinds.Region.{Region}
+use Rattle.wt_regions.specs.declared.kinds.Region.TheVariants.{Window, Probation, Protected}
+
+-- an entry is a key with what is held for it
+abbrev pub Entry : Type 0 → Type 0 → Type 0
+Entry K V = K × Held V
+
+-- what is seen of the regions: their limits, and each region with the most recent entry first
+pub record Lists (K V : Type 0) : Type 0 where
+  pub caps : Caps
+  pub window : List (Entry K V)
+  pub probation : List (Entry K V)
+  pub protected : List (Entry K V)
+
+-- regions with the notices of what left them
+abbrev pub Told : Type 0 → Type 0 → Type 0
+Told K V = Lists K V × List (Notice K V)
+
+-- how many entries main may hold: probation and protected together
+abbrev pub main_cap : Caps → ℕ
+main_cap c = c.entries - c.window
+
+-- how many of them protected may hold
+abbrev pub protected_cap : Caps → ℕ
+protected_cap c = (4 * main_cap c) / 5
+
+-- whether a duration that is set has gone by
+abbrev pub gone_by : Option ℕ → ℕ → ℕ → Bool
+gone_by duration since now = option_map_or (λ d. nat_le d (now - since)) duration false
+
+-- whether a look-up found a value
+abbrev pub is_hit : {V : Type 0} → Found V → Bool
+is_hit (Hit v) = true
+is_hit Absent = false
+is_hit Stale = false
+
+-- whether a cause counts as an eviction
+abbrev pub is_eviction : Cause → Bool
+is_eviction Explicit = false
+is_eviction Replaced = false
+is_eviction Expired = true
+is_eviction Size = true
+
+module _ {V : Type 0} where
+  -- what is held for a value stored now
+  abbrev pub held : V → ℕ → ℕ → ℕ → Held V
+  held value weight stamp now = record { value = value; weight = weight; stamp = stamp; written = now; accessed = now }
+
+  -- what is held, read now
+  abbrev pub used : ℕ → Held V → Held V
+  used now h = record h { accessed = now }
+
+  -- whether it is too long since it was written, or since it was used
+  abbrev pub is_expired : Caps → ℕ → Held V → Bool
+  is_expired c now h = gone_by c.after_write h.written now || gone_by c.after_access h.accessed now
+
+  -- whether it is time to load it again
+  abbrev pub is_due : Caps → ℕ → Held V → Bool
+  is_due c now h = gone_by c.refresh h.written now
+
+module _ {K V : Type 0} where
+  -- regions of these limits with these entries
+  abbrev pub lists_of : Caps → List (Entry K V) → List (Entry K V) → List (Entry K V) → Lists K V
+  lists_of caps window probation protected = record { caps = caps; window = window; probation = probation; protected = protected }
+
+  -- regions with nothing in them
+  abbrev pub no_entries : Caps → Lists K V
+  no_entries caps = lists_of caps [] [] []
+
+  -- the entries of all three regions
+  abbrev pub all_entries : Lists K V → List (Entry K V)
+  all_entries r = r.window ++ (r.probation ++ r.protected)
+
+  -- what entries weigh together
+  abbrev pub weights : List (Entry K V) → ℕ
+  weights es = sum_by (λ (e : Entry K V). e.1.weight) es
+
+  -- what the regions weigh together
+  abbrev pub weight_of : Lists K V → ℕ
+  weight_of r = weights (all_entries r)
+
+  -- one of the three
+  abbrev pub region_of : Region → Lists K V → List (Entry K V)
+  region_of Window r = r.window
+  region_of Probation r = r.probation
+  region_of Protected r = r.protected
+
+  -- all but the last
+  abbrev pub front : List (Entry K V) → List (Entry K V)
+  front es = take (length es - 1) es
+
+  -- what is told of an entry that leaves
+  abbrev pub notice : Cause → Entry K V → Notice K V
+  notice cause e = record { key = e.0; value = e.1.value; cause = cause }
+
+  module _ (eq : K → K → Bool) where
+    -- what is held for a key
+    abbrev pub held_for : K → Lists K V → Option (Held V)
+    held_for k r = lookup (eq k) (all_entries r)
+
+    -- the regions without the entry of a key
+    abbrev pub cut : K → Lists K V → Lists K V
+    cut k r = record r { window = remove_entry (eq k) r.window; probation = remove_entry (eq k) r.probation; protected = remove_entry (eq k) r.protected }
+
+    -- what a look-up finds
+    abbrev pub found_at : K → ℕ → Lists K V → Found V
+    found_at k now r = option_map_or (λ h. if is_expired r.caps now h then Stale else Hit h.value) (held_for k r) Absent
+
+    -- whether an unexpired entry of the key is there
+    abbrev pub has_at : K → ℕ → Lists K V → Bool
+    has_at k now r = is_hit (found_at k now r)
+
+    -- whether one is there, and it is time to load it again
+    abbrev pub due_at : K → ℕ → Lists K V → Bool
+    due_at k now r = option_map_or (λ h. not (is_expired r.caps now h) && is_due r.caps now h) (held_for k r) false

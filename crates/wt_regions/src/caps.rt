@@ -1,0 +1,93 @@
+// The limits of the regions: what they allow, and what is expired by them.
+ghost use Rattle.std.specs.Prelude.{◌≡◌, ◌&&◌, not, if◌then◌else◌};
+ghost use Rattle.wt_regions.specs.declared.kinds.Cause.TheVariants.{Expired};
+ghost use Rattle.wt_regions.specs.Lists.{gone_by, is_expired, is_due, main_cap, protected_cap};
+ghost use Rattle.wt_regions.specs.Lawful.{IsFit, caps_fault};
+
+use crate::kinds::{Caps, Cause, Held};
+use wt_keys::Field;
+
+// Ours: more would make one shard's tables large, and shards are to be many.
+const MOST_ENTRIES: u32 = 65_536;
+
+// 2^48, so that a sum of weights and one more value's never wraps.
+const MOST_BOUND: u64 = 0x1_0000_0000_0000;
+
+impl Caps {
+    // The first field that is out of its range, in the order of the fields.
+    pub(crate) fn fault(&self) -> Option<Field>
+        ensures { result ≡ caps_fault self.now }
+    {
+        if self.entries < 1 || self.entries > MOST_ENTRIES {
+            return Some(Field::Entries);
+        }
+        if self.window < 1 || self.window > self.entries {
+            return Some(Field::Window);
+        }
+        if self.bound < 1 || self.bound > MOST_BOUND {
+            return Some(Field::Bound);
+        }
+        if self.after_write == Some(0) {
+            return Some(Field::AfterWrite);
+        }
+        if self.after_access == Some(0) {
+            return Some(Field::AfterAccess);
+        }
+        if self.refresh == Some(0) {
+            return Some(Field::Refresh);
+        }
+        None
+    }
+
+    // How many entries probation and protected may hold together.
+    pub(crate) fn main_cap(&self) -> usize
+        requires { IsFit self.now }
+        ensures { result ≡ main_cap self.now }
+    {
+        (self.entries - self.window) as usize
+    }
+
+    // How many of them protected may hold.
+    pub(crate) fn protected_cap(&self) -> usize
+        requires { IsFit self.now }
+        ensures { result ≡ protected_cap self.now }
+    {
+        (4 * (self.entries - self.window) / 5) as usize
+    }
+
+    // Whether an entry is too old, since it was written or since it was used.
+    pub(crate) fn is_expired<V>(&self, now: u64, held: &Held<V>) -> bool
+        ensures { result ≡ is_expired self.now now held.now }
+    {
+        gone_by(self.after_write, held.written, now)
+            || gone_by(self.after_access, held.accessed, now)
+    }
+
+    // Whether an unexpired entry is old enough to be loaded again.
+    pub(crate) fn is_due<V>(&self, now: u64, held: &Held<V>) -> bool
+        ensures { result ≡ (not (is_expired self.now now held.now) && is_due self.now now held.now) }
+    {
+        !self.is_expired(now, held) && gone_by(self.refresh, held.written, now)
+    }
+
+    // Why an entry leaves that is taken out.
+    pub(crate) fn cause_of<V>(&self, now: u64, held: &Held<V>, unexpired: Cause) -> Cause
+        ensures { result ≡ (if is_expired self.now now held.now then Expired else unexpired) }
+    {
+        if self.is_expired(now, held) {
+            Cause::Expired
+        } else {
+            unexpired
+        }
+    }
+}
+
+// Whether a duration that is set has gone by. An age that equals it counts; ours.
+fn gone_by(duration: Option<u64>, since: u64, now: u64) -> bool
+    ensures { result ≡ gone_by duration since now }
+{
+    match duration {
+        Some(duration) => duration <= now.saturating_sub(since),
+        None => false,
+    }
+}

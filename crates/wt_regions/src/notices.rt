@@ -1,0 +1,125 @@
+// The list of notices, whose room is made before the steps that tell.
+ghost use Rattle.std.specs.Prelude.{◌≡◌, ◌<◌, ◌+◌, ◌∷◌, [], IfOk, IsSome, length, nat_le};
+ghost use Rattle.std.specs.Option.{option_map_or};
+ghost use Rattle.wt_regions.specs.Lists.{notice};
+ghost use Rattle.wt_regions.specs.Moves.{heft};
+ghost use Rattle.wt_regions.specs.Notices.{appended, emptied, no_notices};
+
+use crate::kinds::{Cause, Held, Notice};
+use std::alloc::Global;
+use std::marker::Model;
+use wt_keys::{CacheKey, NoMemory};
+
+/// The notices of what left, in the order of leaving, with room for more that is made beforehand.
+///
+/// A call that tells notices asks for room for as many entries as the regions may hold, and never tells
+/// more: so telling takes no memory. Contracts see the list and the room that is left.
+#[derive(Drop)]
+pub struct Notices<K, V> {
+    items: Vec<Notice<K, V>>,
+    // The length at which no room is left; never changes.
+    most: usize,
+}
+
+impl<K, V> Model for Notices<K, V> {
+    ghost use Rattle.std.specs.Prelude.{◌≤◌, ◌-◌, length, vec_capacity};
+    ghost use Rattle.wt_regions.specs.Notices.{NoticeList};
+
+    ghost Value = { NoticeList K V };
+
+    ghost view = { λ n. record { list = n.items.items; room = n.most - length n.items.items } };
+
+    ghost invariant = { λ n. (length n.items.items ≤ n.most) × (n.most ≤ vec_capacity n.items) };
+}
+
+impl<K, V> Notices<K, V> {
+    /// Makes an empty list with room for so many notices.
+    ///
+    /// `NoMemory` where that room can't be made. O(1) beside the allocation.
+    pub fn new(alloc: Global, room: usize) -> Result<Self, NoMemory>
+        ensures { IfOk result (λ notices. notices ≡ no_notices room) }
+    {
+        let items = Vec::with_capacity(alloc, room)?;
+        Ok(Notices { items, most: room })
+    }
+
+    /// Returns whether there is room for so many more. Takes no memory. O(1).
+    pub fn has_room(&self, more: usize) -> bool
+        ensures { result ≡ nat_le more self.now.room }
+    {
+        more <= self.most - self.items.len()
+    }
+
+    /// Returns the notices, the earliest first. Takes no memory. O(1).
+    pub fn list(&self) -> &[Notice<K, V>]
+        ensures { result.now ≡ self.now.list }
+    {
+        self.items.as_slice()
+    }
+
+    // Appends one notice.
+    pub(crate) fn tell(&mut self, notice: Notice<K, V>)
+        requires { 0 < self.old.room }
+        ensures { self.new ≡ appended (notice ∷ []) self.old }
+    {
+        self.items.push_reserved(notice);
+    }
+}
+
+impl<K: Drop, V: Drop> Notices<K, V> {
+    /// Drops all notices, which gives their room back. Takes no memory. O(notices).
+    pub fn empty(&mut self)
+        ensures { self.new ≡ emptied self.old }
+    {
+        self.items.clear();
+    }
+}
+
+// Tells of the entry that left, if there is one, and answers its weight.
+pub(crate) fn tell_left<K: CacheKey, V: Drop>(
+    notices: &mut Notices<K, V>,
+    left: Option<(K, Held<V>)>,
+    cause: Cause,
+) -> u64
+    requires { 0 < notices.old.room }
+    ensures weight { result ≡ option_map_or (λ e. e.1.weight) left 0 }
+    ensures notices { notices.new ≡ appended (option_map_or (λ e. notice cause e ∷ []) left []) notices.old }
+{
+    match left {
+        Some((key, held)) => {
+            let weight = held.weight as u64;
+            notices.tell(Notice {
+                key,
+                value: held.value,
+                cause,
+            });
+            weight
+        }
+        None => 0,
+    }
+}
+
+// Tells of what was held for the key, if anything was, and answers its weight.
+pub(crate) fn tell_held<K: CacheKey, V: Drop>(
+    notices: &mut Notices<K, V>,
+    key: K,
+    held: Option<Held<V>>,
+    cause: Cause,
+) -> u64
+    requires { IsSome held → 0 < notices.old.room }
+    ensures weight { result ≡ heft held }
+    ensures notices { notices.new ≡ appended (option_map_or (λ h. notice cause (key, h) ∷ []) held []) notices.old }
+{
+    match held {
+        Some(held) => {
+            let weight = held.weight as u64;
+            notices.tell(Notice {
+                key,
+                value: held.value,
+                cause,
+            });
+            weight
+        }
+        None => 0,
+    }
+}

@@ -1,0 +1,257 @@
+// The three regions, each an `LruCache` with the most recent entry first, and their running weight.
+ghost use Rattle.std.specs.Prelude.{◌≡◌, ◌≤◌, false, IfOk, IfErr, OnOk, OnErr, IsOk, IsOkUnless, MatchOption};
+ghost use Rattle.wt_keys.specs.declared.fault.Fault.{Fault};
+ghost use Rattle.wt_keys.specs.declared.fault.Fault.TheVariants as fault;
+ghost use Rattle.wt_sketch.specs.Sketch.{estimate_of};
+ghost use Rattle.wt_regions.specs.Lawful.{caps_fault, store_fault};
+ghost use Rattle.wt_regions.specs.Lists.{found_at, has_at, no_entries};
+ghost use Rattle.wt_regions.specs.Notices.{appended};
+ghost use Rattle.wt_regions.specs.Steps.{cleaned, cleared, new_entry, removed, stored};
+ghost use Rattle.wt_regions.specs.Touch.{looked_at};
+
+mod reads;
+
+use crate::cache::{empty_cache, freshen};
+use crate::kinds::{Caps, Cause, Found, Held, Notice};
+use crate::notices::Notices;
+use crate::place::place;
+use crate::sweep::{clean_in, clear_in, take_out};
+use crate::touch::{Seen, look, promote};
+use crate::trim::trim;
+use crate::weighs::Weighs;
+use lru::LruCache;
+use std::alloc::Global;
+use std::marker::Model;
+use wt_keys::{CacheKey, Fault, NoMemory, Share};
+use wt_sketch::Sketch;
+
+/// The entries of a cache in three regions: window, probation and protected.
+///
+/// The structure is W-TinyLFU's: a new entry comes to window, under LRU and without admission; what window
+/// gives up enters probation only against its last entry, by how often each was counted; an entry that is
+/// used in probation comes to protected. Which entry stays is this type's to say, and it never counts:
+/// the caller hands its sketch in.
+///
+/// Contracts see three lists, the most recent entry first, and the limits. Moments are the caller's, in
+/// milliseconds; no call keeps one but in the entry that it writes or uses.
+#[derive(Drop)]
+pub struct Regions<K: CacheKey, V: Share + Weighs> {
+    caps: Caps,
+    window: LruCache<K, Held<V>>,
+    probation: LruCache<K, Held<V>>,
+    protected: LruCache<K, Held<V>>,
+    // What all entries weigh together; at most `caps.bound` between calls.
+    weight: u64,
+}
+
+impl<K: CacheKey, V: Share + Weighs> Model for Regions<K, V> {
+    ghost use Rattle.std.specs.Prelude.{◌≡◌, ◌+◌};
+    ghost use Rattle.wt_regions.specs.Lawful.{IsLawful};
+    ghost use Rattle.wt_regions.specs.Lists.{Lists, main_cap, protected_cap, weight_of};
+    ghost use Rattle.wt_regions.specs.Moves.{in_caches};
+
+    ghost Value = { Lists K V };
+
+    ghost view = { λ r. in_caches r.caps r.window r.probation r.protected };
+
+    ghost invariant = { λ r. IsLawful K.eq V.weight (in_caches r.caps r.window r.probation r.protected)
+        × (r.weight ≡ weight_of (in_caches r.caps r.window r.probation r.protected))
+        × (r.window.cap ≡ r.caps.window + 1)
+        × (r.probation.cap ≡ main_cap r.caps + 1)
+        × (r.protected.cap ≡ protected_cap r.caps + 1) };
+}
+
+impl<K: CacheKey, V: Share + Weighs> Regions<K, V> {
+    /// Makes three empty regions with these limits.
+    ///
+    /// `BadConfig` names the first field that is out of its range, in the order of the fields, and comes
+    /// before memory is asked for. Takes the tables of all three at once; each entry takes its own place
+    /// later. O(entries).
+    pub fn new(alloc: Global, caps: &Caps) -> Result<Self, Fault>
+        ensures ok { IfOk result (λ regions. regions ≡ no_entries caps.now) }
+        // What the limits refuse is refused whatever the memory does.
+        ensures refusal { MatchOption (caps_fault caps.now)
+            (IsOkUnless result fault.NoMemory) (λ field. result ≡ Err (fault.BadConfig field)) }
+    {
+        if let Some(field) = caps.fault() {
+            return Err(Fault::BadConfig { field });
+        }
+        let window = empty_cache(alloc, caps.window as usize)?;
+        let probation = empty_cache(alloc, caps.main_cap())?;
+        let protected = empty_cache(alloc, caps.protected_cap())?;
+        Ok(Regions {
+            caps: *caps,
+            window,
+            probation,
+            protected,
+            weight: 0,
+        })
+    }
+
+    /// Looks the key up at the moment `now`. A hit is used: it goes to the front of its region, or from
+    /// probation to protected.
+    ///
+    /// An expired entry is `Stale` and stays where it is. `now` is in milliseconds. Only a hit takes
+    /// memory: a share for the caller, and from probation one or two more with a place for each. Expected
+    /// O(1): the key is looked up in each region at most twice. The rule of the move is segmented LRU's.
+    pub fn get(&mut self, key: K, now: u64) -> Result<Found<V>, NoMemory>
+        ensures found { IfOk result (λ found. found ≡ found_at K.eq key now self.old) }
+        ensures state { OnOk result (self.new ≡ looked_at K.eq key now self.old) }
+        ensures same { self.new.caps ≡ self.old.caps }
+        ensures miss_succeeds { has_at K.eq key now self.old ≡ false → IsOk result }
+        ensures err { OnErr result (self.new ≡ self.old) }
+    {
+        let (caps, window) = (&self.caps, &self.window);
+        match look(caps, window, &self.probation, &self.protected, key, now)? {
+            Seen::InWindow(value) => {
+                freshen(&mut self.window, key, now);
+                Ok(Found::Hit(value))
+            }
+            Seen::InProbation(value, moved) => {
+                let (probation, protected) = (&mut self.probation, &mut self.protected);
+                drop(promote(&self.caps, probation, protected, key, moved)?);
+                Ok(Found::Hit(value))
+            }
+            Seen::InProtected(value) => {
+                freshen(&mut self.protected, key, now);
+                Ok(Found::Hit(value))
+            }
+            Seen::Nowhere => Ok(Found::Absent),
+            Seen::Stale => Ok(Found::Stale),
+        }
+    }
+
+    /// Stores the value under the key, at the moment `now` and by the step of number `stamp`.
+    ///
+    /// It takes the place of an unexpired entry of the key, which leaves as `Replaced`. An expired one
+    /// leaves first, as `Expired`, and the value settles as a new entry. Then entries leave as `Size` while
+    /// the weights are above the bound, never the one just stored. Notices are told in this order.
+    ///
+    /// `now` is in milliseconds, weights are the caller's. `TooHeavy` comes before memory is asked for;
+    /// `NoMemory` where a place or a share of a value that moves was refused. Expected O(1), O(entries)
+    /// where a trim takes many out. The duel is TinyLFU's; that a tie refuses the candidate is ours.
+    pub fn store(
+        &mut self,
+        key: K,
+        value: V,
+        now: u64,
+        stamp: u64,
+        sketch: &Sketch,
+        notices: &mut Notices<K, V>,
+    ) -> Result<(), Fault>
+        requires room { self.old.caps.entries ≤ notices.old.room }
+
+        ensures ok { OnOk result (V.weight value ≤ self.old.caps.bound) }
+        ensures state { OnOk result (self.new
+            ≡ (stored K.eq (λ k. estimate_of sketch.now (K.word k)) now
+            (new_entry V.weight key value now stamp) self.old).0) }
+        ensures notices { OnOk result (notices.new ≡ appended
+            (stored K.eq (λ k. estimate_of sketch.now (K.word k)) now
+            (new_entry V.weight key value now stamp) self.old).1 notices.old) }
+        ensures same { self.new.caps ≡ self.old.caps }
+
+        ensures refusal { IfErr result (λ fault. fault
+            ≡ store_fault (V.weight value) self.old.caps.bound) }
+        ensures err { OnErr result ((self.new ≡ self.old) × (notices.new ≡ notices.old)) }
+    {
+        let weight = value.weight();
+        if weight as u64 > self.caps.bound {
+            return Err(Fault::TooHeavy {
+                weight,
+                bound: self.caps.bound,
+            });
+        }
+        let held = Held {
+            value,
+            weight,
+            stamp,
+            written: now,
+            accessed: now,
+        };
+        let heavier = self.weight + weight as u64;
+        match place(
+            &self.caps,
+            &mut self.window,
+            &mut self.probation,
+            &mut self.protected,
+            key,
+            held,
+            sketch,
+            now,
+            notices,
+        ) {
+            Ok(gone) => {
+                self.weight = trim(
+                    &self.caps,
+                    &mut self.window,
+                    &mut self.probation,
+                    &mut self.protected,
+                    key,
+                    heavier - gone,
+                    notices,
+                );
+                Ok(())
+            }
+            Err(_) => Err(Fault::NoMemory),
+        }
+    }
+
+    /// Takes the key's entry out, and answers whether an unexpired one left.
+    ///
+    /// It leaves as `Explicit`, an expired one as `Expired`. `now` is in milliseconds. Takes no memory.
+    /// Expected O(1).
+    pub fn remove(&mut self, key: K, now: u64, notices: &mut Notices<K, V>) -> bool
+        requires room { self.old.caps.entries ≤ notices.old.room }
+        ensures answer { result ≡ has_at K.eq key now self.old }
+        ensures state { self.new ≡ (removed K.eq key now self.old).0 }
+        ensures notices { notices.new ≡ appended (removed K.eq key now self.old).1 notices.old }
+    {
+        match take_out(
+            &mut self.window,
+            &mut self.probation,
+            &mut self.protected,
+            key,
+        ) {
+            Some(held) => {
+                let cause = self.caps.cause_of(now, &held, Cause::Explicit);
+                let left = !self.caps.is_expired(now, &held);
+                self.weight -= held.weight as u64;
+                notices.tell(Notice {
+                    key,
+                    value: held.value,
+                    cause,
+                });
+                left
+            }
+            None => false,
+        }
+    }
+
+    /// Takes every expired entry out, as `Expired`: window, probation, protected, each from last to first.
+    ///
+    /// `now` is in milliseconds. Takes no memory. O(entries).
+    pub fn clean(&mut self, now: u64, notices: &mut Notices<K, V>)
+        requires room { self.old.caps.entries ≤ notices.old.room }
+        ensures state { self.new ≡ (cleaned now self.old).0 }
+        ensures notices { notices.new ≡ appended (cleaned now self.old).1 notices.old }
+    {
+        let weight = clean_in(&self.caps, &mut self.window, now, self.weight, notices);
+        let weight = clean_in(&self.caps, &mut self.probation, now, weight, notices);
+        self.weight = clean_in(&self.caps, &mut self.protected, now, weight, notices);
+    }
+
+    /// Takes every entry out: window, probation, protected, each from last to first.
+    ///
+    /// An expired one leaves as `Expired`, another as `Explicit`. `now` is in milliseconds. Takes no
+    /// memory. O(entries).
+    pub fn clear(&mut self, now: u64, notices: &mut Notices<K, V>)
+        requires room { self.old.caps.entries ≤ notices.old.room }
+        ensures state { self.new ≡ (cleared now self.old).0 }
+        ensures notices { notices.new ≡ appended (cleared now self.old).1 notices.old }
+    {
+        clear_in(&self.caps, &mut self.window, now, notices);
+        clear_in(&self.caps, &mut self.probation, now, notices);
+        clear_in(&self.caps, &mut self.protected, now, notices);
+        self.weight = 0;
+    }
+}

@@ -1,0 +1,85 @@
+// What is to be seen of the regions.
+ghost use Rattle.std.specs.Prelude.{◌≡◌, length, IfOk, option_copied};
+ghost use Rattle.std.specs.Map.{keys_of};
+ghost use Rattle.wt_regions.specs.Lawful.{IsLawful};
+ghost use Rattle.wt_regions.specs.Lists.{all_entries, due_at, has_at, held_for, region_of, weight_of};
+
+use super::Regions;
+use crate::cache::keys_in;
+use crate::kinds::{Held, Region};
+use crate::weighs::Weighs;
+use std::alloc::Global;
+use wt_keys::{CacheKey, NoMemory, Share};
+
+impl<K: CacheKey, V: Share + Weighs> Regions<K, V> {
+    /// Returns whether an unexpired entry of the key is there. It isn't used by that.
+    ///
+    /// `now` is in milliseconds. Takes no memory. Expected O(1).
+    pub fn has(&self, key: K, now: u64) -> bool
+        ensures { result ≡ has_at K.eq key now self.now }
+    {
+        let caps = self.caps;
+        match self.find(key) {
+            Some(held) => !caps.is_expired(now, held),
+            None => false,
+        }
+    }
+
+    /// Returns whether an unexpired entry of the key is there that is due for a further load.
+    ///
+    /// Due is what was written at least `refresh` milliseconds ago; the rule is Guava's refresh after
+    /// write. `now` is in milliseconds. Takes no memory. Expected O(1).
+    pub fn due(&self, key: K, now: u64) -> bool
+        ensures { result ≡ due_at K.eq key now self.now }
+    {
+        let caps = self.caps;
+        match self.find(key) {
+            Some(held) => caps.is_due(now, held),
+            None => false,
+        }
+    }
+
+    /// Returns how many entries there are, the expired ones among them. Takes no memory. O(1).
+    pub fn len(&self) -> usize
+        ensures len { result ≡ length (all_entries self.now) }
+        // What holds of the regions at all times.
+        ensures lawful { IsLawful K.eq V.weight self.now }
+    {
+        self.window.len() + (self.probation.len() + self.protected.len())
+    }
+
+    /// Returns what all entries weigh together, the expired ones among them: at most the bound.
+    ///
+    /// Takes no memory. O(1).
+    pub fn weight(&self) -> u64
+        ensures { result ≡ weight_of self.now }
+    {
+        self.weight
+    }
+
+    /// Returns the keys of a region in a new list, the most recent first.
+    ///
+    /// Takes memory for that list alone. O(entries of the region).
+    pub fn order(&self, alloc: Global, region: Region) -> Result<Vec<K>, NoMemory>
+        ensures { IfOk result (λ keys. keys.items ≡ keys_of (region_of region self.now)) }
+    {
+        match region {
+            Region::Window => keys_in(alloc, &self.window),
+            Region::Probation => keys_in(alloc, &self.probation),
+            Region::Protected => keys_in(alloc, &self.protected),
+        }
+    }
+
+    // What is held for the key.
+    fn find(&self, key: K) -> Option<&Held<V>>
+        ensures { option_copied result ≡ held_for K.eq key self.now }
+    {
+        if let Some(held) = self.window.peek(&key) {
+            return Some(held);
+        }
+        if let Some(held) = self.probation.peek(&key) {
+            return Some(held);
+        }
+        self.protected.peek(&key)
+    }
+}

@@ -1,0 +1,181 @@
+// Refused memory and refused shares: what is refused changes nothing, and goes well when it is tried again.
+use super::{Run, caps};
+use crate::{Caps, Cause, Found, Region, Weighs};
+use std::alloc::Global;
+use std::cell::Cell;
+use std::marker::Model;
+use std::rc::Rc;
+use std::test::Fail;
+use wt_keys::{Fault, NoMemory, Share};
+
+// A value that counts down with each share of it and of its like: the share that comes to 0 is refused.
+#[derive(Drop)]
+struct Fussy {
+    version: u64,
+    left: Rc<Cell<u32>>,
+}
+
+impl Model for Fussy {
+    ghost use Rattle.std.specs.Prelude.{ℕ};
+
+    ghost Value = { ℕ };
+
+    ghost view = { λ f. f.version };
+}
+
+impl Share for Fussy {
+    fn share(&self) -> Result<Fussy, NoMemory> {
+        let left = self.left.get();
+        self.left.set(left.saturating_sub(1));
+        if left == 1 {
+            return Err(NoMemory);
+        }
+        Ok(Fussy {
+            version: self.version,
+            left: self.left.clone()?,
+        })
+    }
+}
+
+impl Weighs for Fussy {
+    ghost weight = { λ _. 1 };
+
+    fn weight(&self) -> u32 {
+        1
+    }
+}
+
+#[derive(Clone, Copy)]
+enum Step {
+    Put,
+    Look,
+}
+
+// All that can be seen of the regions.
+#[derive(Drop, PartialEq, Eq, Debug)]
+struct Seen {
+    window: Vec<u64>,
+    probation: Vec<u64>,
+    protected: Vec<u64>,
+    len: usize,
+    weight: u64,
+    told: usize,
+    // For each key at each of some moments, whether it is there unexpired.
+    alive: [[bool; 8]; 8],
+}
+
+impl Run<Fussy> {
+    fn seen(&self, alloc: Global) -> Result<Seen, NoMemory> {
+        let mut alive = [[false; 8]; 8];
+        for (key, row) in alive.iter_mut().enumerate() {
+            for (turn, cell) in row.iter_mut().enumerate() {
+                *cell = self.regions.has(key as u64, 25 * turn as u64);
+            }
+        }
+        Ok(Seen {
+            window: self.regions.order(alloc, Region::Window)?,
+            probation: self.regions.order(alloc, Region::Probation)?,
+            protected: self.regions.order(alloc, Region::Protected)?,
+            len: self.regions.len(),
+            weight: self.regions.weight(),
+            told: self.notices.list().len(),
+            alive,
+        })
+    }
+
+    fn forget_notices(&mut self) {
+        self.notices.empty();
+    }
+
+    fn run_step(&mut self, step: Step, key: u64, value: Fussy, now: u64) -> Result<(), Fault> {
+        match step {
+            Step::Put => self.put(key, value, now),
+            Step::Look => {
+                self.look(key, now)?;
+                Ok(())
+            }
+        }
+    }
+}
+
+// Each step with the number of shares that it asks for, with ample memory. Entries 5, window 1: main 4,
+// protected 3. Values expire 100 ms after they were written.
+fn steps() -> [(Step, u64, u64, u32); 24] {
+    [
+        // window fills, and gives up candidates to probation
+        (Step::Put, 1, 0, 0),
+        (Step::Put, 2, 0, 1),
+        (Step::Put, 3, 0, 1),
+        (Step::Put, 4, 0, 1),
+        (Step::Put, 5, 0, 1),
+        // hits in window, in probation with room above, in protected, and with protected full
+        (Step::Look, 5, 10, 1),
+        (Step::Look, 1, 10, 2),
+        (Step::Look, 2, 10, 2),
+        (Step::Look, 3, 10, 2),
+        (Step::Look, 1, 10, 1),
+        (Step::Look, 4, 20, 3),
+        (Step::Look, 7, 20, 0),
+        // a candidate that loses against its victim, and one that wins
+        (Step::Put, 6, 20, 0),
+        (Step::Put, 2, 20, 1),
+        (Step::Look, 6, 20, 1),
+        (Step::Look, 6, 20, 1),
+        (Step::Put, 7, 30, 1),
+        // values that take the place of others, in each region
+        (Step::Put, 7, 30, 0),
+        (Step::Put, 6, 30, 1),
+        (Step::Put, 1, 30, 1),
+        // own expired entries in probation and protected, with a candidate that isn't and one that is
+        (Step::Put, 4, 110, 1),
+        (Step::Put, 2, 125, 1),
+        (Step::Put, 6, 230, 0),
+        (Step::Put, 7, 230, 1),
+    ]
+}
+
+#[test]
+fn a_refused_step_changes_nothing(rt: HostRuntime) -> Result<(), Fail> {
+    let left = match Rc::new(rt.alloc(), Cell::new(0)) {
+        Ok(left) => left,
+        Err(_) => Rc::new(rt.alloc(), Cell::new(0))?,
+    };
+    let limits = Caps {
+        after_write: Some(100),
+        ..caps(5, 1, 1000)
+    };
+    let mut run = match Run::new(rt.alloc(), limits) {
+        Ok(run) => run,
+        Err(_) => Run::new(rt.alloc(), limits)?,
+    };
+    for (version, (step, key, now, shares)) in steps().iter().enumerate() {
+        let mut refused = 0;
+        // The first share is refused, then the second, until the step goes well.
+        for share in 1..8 {
+            left.set(0);
+            run.forget_notices();
+            let before = match run.seen(rt.alloc()) {
+                Ok(seen) => seen,
+                Err(_) => run.seen(rt.alloc())?,
+            };
+            left.set(share);
+            let value = Fussy {
+                version: version as u64,
+                left: left.clone()?,
+            };
+            let Err(fault) = run.run_step(*step, *key, value, *now) else {
+                break;
+            };
+            assert_eq!(rt; fault, Fault::NoMemory);
+            refused = share;
+            let after = match run.seen(rt.alloc()) {
+                Ok(seen) => seen,
+                Err(_) => run.seen(rt.alloc())?,
+            };
+            assert_eq!(rt; before, after, "{version}: share {share}");
+        }
+        left.set(0);
+        assert!(rt; refused >= *shares, "{version}: {refused} of {shares}");
+    }
+    Ok(())
+}

@@ -1,0 +1,22 @@
+// What a value weighs.
+ghost use Rattle.std.specs.Prelude.{◌≡◌, ℕ};
+
+use wt_keys::Shared;
+
+/// A value that knows what it weighs, in the caller's own unit.
+pub trait Weighs {
+    ghost weight: { Self → ℕ };
+
+    /// Returns the value's weight, a function of the value. O(1), and takes no memory.
+    fn weight(&self) -> u32
+        ensures { result ≡ weight self.now };
+}
+
+/// A shared value weighs what the value weighs that it points to.
+impl<T: Weighs> Weighs for Shared<T> {
+    ghost weight = { T.weight };
+
+    fn weight(&self) -> u32 {
+        self.get().weight()
+    }
+}
