@@ -1,6 +1,8 @@
-pub mod Entries
-pub mod Notices
 pub mod State
+pub mod Seek
 pub mod Step
 pub mod Run
 pub mod Lawful
+pub mod Landings
+pub mod Meets
+pub mod Laws

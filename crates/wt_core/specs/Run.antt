@@ -1,10 +1,10 @@
 -- Whole runs.
-use Rattle.std.specs.Prelude.{ℕ, Bool, List, [], ◌∷◌, Option, Some, None}
+use Rattle.std.specs.Prelude.{◌≡◌, ℕ, Bool, List, [], ◌∷◌, Option, Some, None}
 use Rattle.wt_keys.specs.declared.fault.Fault.{Fault}
 use Rattle.wt_core.specs.declared.kinds.Call.{Call}
 use Rattle.wt_core.specs.declared.kinds.Reply.{Reply}
 use Rattle.wt_core.specs.declared.kinds.Reply.TheVariants.{Refused}
-use Rattle.wt_core.specs.Notices.{NoticeList, appended, emptied}
+use Rattle.wt_regions.specs.Notices.{NoticeList, appended, emptied}
 use Rattle.wt_core.specs.State.{State, Made}
 use Rattle.wt_core.specs.Step.{step, refusal_of}
 
@@ -26,7 +26,7 @@ module _ {K V : Type 0} (eq : K → K → Bool) (word : K → ℕ) (weight : V �
   -- the replies to the calls
   abbrev pub replies : State K V → List (Call K V) → List (Reply V)
   replies s [] = []
-  replies s (c ∷ cs) = (taken s c).reply ∷ replies (taken s c).state cs
+  replies s (c ∷ cs) = let one = taken s c in one.reply ∷ replies one.state cs
 
   -- the notices of the last call, in a list that is emptied before each
   abbrev pub last_notices : State K V → List (Call K V) → NoticeList K V → NoticeList K V

@@ -1,137 +1,104 @@
-// The cache: one list of entries, the most recent first.
-ghost use Rattle.std.specs.Prelude.{◌≡◌, ◌+◌, ◌<◌, ◌≤◌, ◌^◌, IfOk, OnOk, OnErr, MatchOption, IsOkUnless, IsOk, Ok, Err, Some, None, length, [], ◌==◌};
-ghost use Rattle.std.specs.Map.{keys_of, lookup};
-ghost use Rattle.std.specs.Option.{option_to_list};
+// The cache, and what it shows.
+//
+//     key ──► regions    what is held: window, probation, protected
+//         ──► sketch     how often each key was counted, for the duel
+//         ──► flights    the loads that are open
+//
+// Each of the eight steps is a function of the whole state. What can be refused comes first, and the
+// count of the key last, so that a refused step leaves all as it was.
+ghost use Rattle.std.specs.Prelude.{◌≡◌, ◌≤◌, ◌==◌, IfOk, MatchOption, IsOkUnless, Err, length};
+ghost use Rattle.std.specs.Map.{keys_of};
+ghost use Rattle.std.specs.Option.{option_map};
 ghost use Rattle.wt_keys.specs.declared.fault.Fault.TheVariants as fault;
-ghost use Rattle.lru.specs.LruCache.{lru_cache};
-ghost use Rattle.wt_core.specs.Entries.{weights, touched, used, notice, stored, region_of};
-ghost use Rattle.wt_core.specs.Notices.{appended};
-ghost use Rattle.wt_core.specs.State.{evictions};
-ghost use Rattle.wt_core.specs.declared.kinds.Call.TheVariants as call;
+ghost use Rattle.wt_regions.specs.Lists.{all_entries, region_of, weight_of};
+ghost use Rattle.wt_flights.specs.Rows.{row, first_of};
 
-use crate::kinds::{Call, Caps, Cause, Config, Counts, Held, Notice, Region, Reply, Stats};
-use crate::notices::Notices;
-use crate::weight::Weighs;
-use lru::LruCache;
+use crate::kinds::{Config, Counts, Stats};
 use std::alloc::Global;
 use std::marker::Model;
-use std::num::NonZeroUsize;
-use wt_keys::{CacheKey, Fault, Field, NoMemory, Share};
+use wt_flights::{FlightTable, Row};
+use wt_keys::{CacheKey, Fault, NoMemory, Share};
+use wt_regions::{Region, Regions, Weighs};
+use wt_sketch::Sketch;
 
-// From this number on no step is made, so that no count can wrap.
-const MOST_STEPS: u64 = 1 << 60;
+// From this number on no step is made, but the landing of an open flight, so that no count can wrap.
+pub(crate) const MOST_STEPS: u64 = 1 << 60;
 
-// How much all entries may weigh together: 65,536 entries of less than 2^32 each.
-const MOST_WEIGHT: u64 = 1 << 48;
-
-impl Config {
-    ghost use Rattle.wt_core.specs.State.{config_fault};
-
-    fn fault(&self) -> Option<Field>
-        ensures { result ≡ config_fault self.now }
-    {
-        if self.entries < 1 || 65536 < self.entries {
-            return Some(Field::Entries);
-        }
-        if self.window != self.entries {
-            return Some(Field::Window);
-        }
-        if self.bound != MOST_WEIGHT {
-            return Some(Field::Bound);
-        }
-        if self.after_write.is_some() {
-            return Some(Field::AfterWrite);
-        }
-        if self.after_access.is_some() {
-            return Some(Field::AfterAccess);
-        }
-        if self.refresh.is_some() {
-            return Some(Field::Refresh);
-        }
-        if self.flights < 1 || 4096 < self.flights {
-            return Some(Field::Flights);
-        }
-        if self.ring <= self.flights || 65536 < self.ring {
-            return Some(Field::Ring);
-        }
-        None
-    }
-
-    /// Checks each field against its range, and answers `BadConfig` of the first that is out of it, in the
-    /// order of the fields. Takes no memory.
-    pub fn check(&self) -> Result<(), Fault>
-        ensures { MatchOption (config_fault self.now) (result ≡ Ok tt) (λ field. result ≡ Err (fault.BadConfig field)) }
-    {
-        match self.fault() {
-            Some(field) => Err(Fault::BadConfig { field }),
-            None => Ok(()),
-        }
-    }
-
-    fn caps(&self) -> Caps
-        ensures { result ≡ caps_of self.now }
-    {
-        Caps {
-            entries: self.entries,
-            window: self.window,
-            bound: self.bound,
-            after_write: self.after_write,
-            after_access: self.after_access,
-            refresh: self.refresh,
-        }
-    }
-
-    ghost use Rattle.wt_core.specs.State.{caps_of};
-}
-
-/// The sequential cache: keys with their values, in one list, the most recent first.
+/// The sequential cache: keys with their values in three regions, and the loads that are open.
 ///
-/// Each call is one step, or is refused and changes nothing, the moment included. Moments are milliseconds
-/// that the caller hands in; one before the latest counts as the latest.
+/// Each call that changes it is one step, or is refused and changes nothing, the moment included. Moments
+/// are milliseconds that the caller hands in; one before the latest counts as the latest.
 #[derive(Drop)]
 pub struct Core<K: CacheKey, V: Share + Weighs> {
-    caps: Caps,
-    entries: LruCache<K, Held<V>>,
-    counts: Counts,
-    latest: u64,
-    step: u64,
+    pub(crate) regions: Regions<K, V>,
+    pub(crate) sketch: Sketch,
+    pub(crate) flights: FlightTable<K>,
+    pub(crate) counts: Counts,
+    pub(crate) latest: u64,
+    pub(crate) step: u64,
+    // How much the entries may weigh together, as the regions have it; never changes.
+    pub(crate) bound: u64,
+    // How many loads may be open, as the flights have it; never changes.
+    pub(crate) limit: u32,
 }
 
 impl<K: CacheKey, V: Share + Weighs> Model for Core<K, V> {
     ghost use Rattle.std.specs.Prelude.{◌≡◌};
     ghost use Rattle.wt_core.specs.State.{State};
-    ghost use Rattle.wt_core.specs.Lawful.{IsLawful};
+    ghost use Rattle.wt_core.specs.Lawful.{IsCounted};
 
     ghost Value = { State K V };
 
-    ghost view = { λ c. record { caps = c.caps; entries = c.entries.entries; counts = c.counts; latest = c.latest; step = c.step } };
+    ghost view = { λ c. record {
+      regions = c.regions;
+      sketch = c.sketch;
+      flights = c.flights;
+      counts = c.counts;
+      latest = c.latest;
+      step = c.step;
+    } };
 
-    ghost invariant = { λ c. IsLawful (record { caps = c.caps; entries = c.entries.entries; counts = c.counts; latest = c.latest; step = c.step })
-        × (c.entries.cap ≡ c.caps.window) };
+    ghost invariant = { λ c. IsCounted (record {
+      regions = c.regions;
+      sketch = c.sketch;
+      flights = c.flights;
+      counts = c.counts;
+      latest = c.latest;
+      step = c.step;
+    }) × (c.bound ≡ c.regions.caps.bound) × (c.limit ≡ c.flights.limit) };
 }
 
 impl<K: CacheKey, V: Share + Weighs> Core<K, V> {
     ghost use Rattle.wt_core.specs.State.{opening, stats_of, config_fault};
-    ghost use Rattle.wt_core.specs.Step.{step, refusal_of};
     ghost use Rattle.wt_core.specs.Lawful.{IsLawful, AreSmall};
-    ghost use Rattle.wt_core.specs.Run.{taken};
 
-    /// Makes an empty cache. `BadConfig` as [`Config::check`] answers it, before memory is asked for.
+    /// Makes an empty cache.
+    ///
+    /// `BadConfig` as [`Config::check`] answers it, before memory is asked for. Takes memory for the tables
+    /// of the three regions and the sketch. O(entries).
     pub fn new(alloc: Global, config: &Config) -> Result<Core<K, V>, Fault>
         ensures ok { IfOk result (λ core. core ≡ opening config.now) }
-        ensures refusal { MatchOption (config_fault config.now) (IsOkUnless result fault.NoMemory) (λ field. result ≡ Err (fault.BadConfig field)) }
+        // What the configuration refuses is refused whatever the memory does.
+        ensures refusal { MatchOption (config_fault config.now)
+            (IsOkUnless result fault.NoMemory) (λ field. result ≡ Err (fault.BadConfig field)) }
     {
         if let Some(field) = config.fault() {
             return Err(Fault::BadConfig { field });
         }
-        let Some(places) = NonZeroUsize::new(config.entries as usize) else {
-            return Err(Fault::BadConfig {
-                field: Field::Entries,
-            });
+        // The fields are within their ranges, so that the parts can refuse for memory alone.
+        let Ok(regions) = Regions::new(alloc, &config.caps()) else {
+            return Err(Fault::NoMemory);
+        };
+        let Ok(sketch) = Sketch::new(alloc, config.entries) else {
+            return Err(Fault::NoMemory);
+        };
+        let Ok(flights) = FlightTable::new(alloc, config.flights) else {
+            return Err(Fault::NoMemory);
         };
         Ok(Core {
-            caps: config.caps(),
-            entries: LruCache::new(alloc, places)?,
+            regions,
+            sketch,
+            flights,
             counts: Counts {
                 lookups: 0,
                 hits: 0,
@@ -142,135 +109,21 @@ impl<K: CacheKey, V: Share + Weighs> Core<K, V> {
             },
             latest: 0,
             step: 0,
+            bound: config.bound,
+            limit: config.flights,
         })
     }
 
-    /// Looks the key up at the moment `now`, in milliseconds, and answers `Hit` with a share of its value, or
-    /// `Absent`. A hit becomes the most recent entry.
-    ///
-    /// `StepsSpent` comes before memory is asked for. Only a hit takes memory, for the share. Expected O(1).
-    pub fn look(&mut self, key: K, now: u64, notices: &mut Notices<K, V>) -> Result<Reply<V>, Fault>
-        requires room { self.old.caps.entries ≤ notices.old.room }
-
-        ensures state { OnOk result (self.new ≡ (step K.eq K.word V.weight self.old (call.Look key now)).state) }
-        ensures answer { IfOk result (λ reply. reply ≡ (step K.eq K.word V.weight self.old (call.Look key now)).reply) }
-        ensures notices { notices.new ≡ notices.old }
-
-        ensures refusal { MatchOption (refusal_of K.eq K.word V.weight self.old (call.Look key now)) (IsOkUnless result fault.NoMemory) (λ f. result ≡ Err f) }
-        ensures same { self.new.caps ≡ self.old.caps }
-        ensures miss_succeeds { lookup (K.eq key) self.old.entries ≡ None → self.old.step < 2 ^ 60 → IsOk result }
-        ensures err { OnErr result (self.new ≡ self.old) }
-    {
-        if self.step >= MOST_STEPS {
-            return Err(Fault::StepsSpent);
-        }
-        let now = self.latest.max(now);
-        let Some(held) = self.entries.peek(&key) else {
-            self.counts.lookups += 1;
-            self.counts.misses += 1;
-            self.latest = now;
-            self.step += 1;
-            return Ok(Reply::Absent);
-        };
-        let value = held.value.share()?;
-        freshen(&mut self.entries, key, now);
-        self.counts.lookups += 1;
-        self.counts.hits += 1;
-        self.latest = now;
-        self.step += 1;
-        Ok(Reply::Hit(value))
-    }
-
-    /// Stores the value under the key, in place of one that is there, as the most recent entry.
-    ///
-    /// `now` is in milliseconds. The old value leaves as Replaced. Where the entries are then more than
-    /// they may be, the last leaves as Size. `TooHeavy` comes before `StepsSpent`, and both before memory is
-    /// asked for; the refused value is dropped. Expected O(1).
-    pub fn put(
-        &mut self,
-        key: K,
-        value: V,
-        now: u64,
-        notices: &mut Notices<K, V>,
-    ) -> Result<(), Fault>
-        requires room { self.old.caps.entries ≤ notices.old.room }
-
-        ensures state { OnOk result (self.new ≡ (step K.eq K.word V.weight self.old (call.Put key value now)).state) }
-        ensures notices { OnOk result (notices.new ≡ appended (step K.eq K.word V.weight self.old (call.Put key value now)).notices notices.old) }
-
-        ensures same { self.new.caps ≡ self.old.caps }
-        ensures whole { notices.new.room + length notices.new.list ≡ notices.old.room + length notices.old.list }
-        ensures refusal { MatchOption (refusal_of K.eq K.word V.weight self.old (call.Put key value now)) (IsOkUnless result fault.NoMemory) (λ f. result ≡ Err f) }
-        ensures err { OnErr result ((self.new ≡ self.old) × (notices.new ≡ notices.old)) }
-    {
-        let weight = value.weight();
-        let bound = self.caps.bound;
-        if u64::from(weight) > bound {
-            return Err(Fault::TooHeavy { weight, bound });
-        }
-        if self.step >= MOST_STEPS {
-            return Err(Fault::StepsSpent);
-        }
-        let now = self.latest.max(now);
-        let stamp = self.step + 1;
-        let held = Held {
-            value,
-            weight,
-            stamp,
-            written: now,
-            accessed: now,
-        };
-        let left = store(&mut self.entries, key, held)?;
-        self.latest = now;
-        self.step = stamp;
-        let Some(notice) = left else {
-            return Ok(());
-        };
-        if notice.cause.was_evicted() {
-            self.counts.evicted += 1;
-        }
-        notices.tell(notice);
-        Ok(())
-    }
-
-    /// Makes the call, whose refusal by the state is its answer `Refused` and no step.
-    ///
-    /// `NoMemory` alone is an error, and then nothing has changed. Takes what the call's own step takes.
-    pub fn take(
-        &mut self,
-        call: Call<K, V>,
-        notices: &mut Notices<K, V>,
-    ) -> Result<Reply<V>, NoMemory>
-        requires room { self.old.caps.entries ≤ notices.old.room }
-
-        ensures state { OnOk result (self.new ≡ (taken K.eq K.word V.weight self.old call).state) }
-        ensures answer { IfOk result (λ reply. reply ≡ (taken K.eq K.word V.weight self.old call).reply) }
-        ensures notices { OnOk result (notices.new ≡ appended (taken K.eq K.word V.weight self.old call).notices notices.old) }
-
-        ensures same { self.new.caps ≡ self.old.caps }
-        ensures whole { notices.new.room + length notices.new.list ≡ notices.old.room + length notices.old.list }
-        ensures err { OnErr result ((self.new ≡ self.old) × (notices.new ≡ notices.old)) }
-    {
-        match call {
-            Call::Look(key, now) => match self.look(key, now, notices) {
-                Ok(reply) => Ok(reply),
-                Err(Fault::NoMemory) => Err(NoMemory),
-                Err(fault) => Ok(Reply::Refused(fault)),
-            },
-            Call::Put(key, value, now) => match self.put(key, value, now, notices) {
-                Ok(()) => Ok(Reply::Stored),
-                Err(Fault::NoMemory) => Err(NoMemory),
-                Err(fault) => Ok(Reply::Refused(fault)),
-            },
-        }
-    }
-
-    /// Returns the numbers of the cache. O(entries).
+    /// Returns the numbers of the cache. Takes no memory. O(1).
     pub fn stats(&self) -> Stats
         ensures numbers { result ≡ stats_of self.now }
-        ensures lawful { IsLawful self.now }
+        // What holds of the cache at all times.
+        ensures lawful { IsLawful K.eq V.weight self.now }
         ensures small { AreSmall result }
     {
+        // These two show the laws of their parts.
+        let _additions = self.sketch.additions();
+        let _open = self.flights.len();
         Stats {
             lookups: self.counts.lookups,
             hits: self.counts.hits,
@@ -278,128 +131,75 @@ impl<K: CacheKey, V: Share + Weighs> Core<K, V> {
             loads: self.counts.loads,
             failed: self.counts.failed,
             evicted: self.counts.evicted,
-            entries: self.entries.len() as u64,
-            weight: weight_in(&self.entries),
+            entries: self.regions.len() as u64,
+            weight: self.regions.weight(),
         }
     }
 
-    /// Returns how many steps were made. O(1).
+    /// Returns how many steps were made. Takes no memory. O(1).
     pub fn step(&self) -> u64
         ensures { result ≡ self.now.step }
     {
         self.step
     }
 
-    /// Returns the latest moment, in milliseconds; 0 before the first step. O(1).
+    /// Returns the latest moment, in milliseconds; 0 before the first step. Takes no memory. O(1).
     pub fn latest(&self) -> u64
         ensures { result ≡ self.now.latest }
     {
         self.latest
     }
 
-    /// Returns how many entries are held. O(1).
+    /// Returns how many entries are held, the expired ones among them. Takes no memory. O(1).
     pub fn len(&self) -> usize
-        ensures { result ≡ length self.now.entries }
+        ensures { result ≡ length (all_entries self.now.regions) }
     {
-        self.entries.len()
+        self.regions.len()
     }
 
-    /// Returns whether no entry is held. O(1).
+    /// Returns whether no entry is held. Takes no memory. O(1).
     pub fn is_empty(&self) -> bool
-        ensures { result ≡ (length self.now.entries == 0) }
+        ensures { result ≡ (length (all_entries self.now.regions) == 0) }
     {
-        self.entries.is_empty()
+        self.regions.len() == 0
     }
 
-    /// Returns what the entries weigh together. O(entries).
+    /// Returns what the entries weigh together: at most the bound. Takes no memory. O(1).
     pub fn weight(&self) -> u64
-        ensures { result ≡ weights self.now.entries }
+        ensures { result ≡ weight_of self.now.regions }
     {
-        weight_in(&self.entries)
+        self.regions.weight()
     }
 
-    /// Returns the keys of a region, the most recent first. For now all entries are in window.
+    /// Returns how many loads are open. Takes no memory. O(1).
+    pub fn open_flights(&self) -> usize
+        ensures { result ≡ length self.now.flights.rows }
+    {
+        self.flights.len()
+    }
+
+    /// Returns the open load with an id, if there is one. Takes no memory. Expected O(1).
+    pub fn row(&self, id: u64) -> Option<Row<K>>
+        ensures { result ≡ row id self.now.flights }
+    {
+        self.flights.row(id)
+    }
+
+    /// Returns the id of the key's oldest open load, current or not, if it has one.
     ///
-    /// `NoMemory` where the list that is handed out finds no memory. O(entries).
-    pub fn order(&self, alloc: Global, region: Region) -> Result<Vec<K>, NoMemory>
-        ensures { IfOk result (λ keys. keys.items ≡ keys_of (region_of region self.now.entries)) }
+    /// Takes no memory. O(open loads).
+    pub fn first_of(&self, key: K) -> Option<u64>
+        ensures { result ≡ option_map (λ r. r.id) (first_of K.eq key self.now.flights) }
     {
-        match region {
-            Region::Window => keys_in(alloc, &self.entries),
-            Region::Probation | Region::Protected => Ok(Vec::new(alloc)),
-        }
+        self.flights.first_of(key)
     }
-}
 
-// Brings the entry of the key to the front, used at `now`.
-fn freshen<K: CacheKey, V>(entries: &mut LruCache<K, Held<V>>, key: K, now: u64)
-    ensures state { entries.new ≡ lru_cache (touched K.eq key (used now) entries.old.entries) entries.old.cap }
-    ensures len { length entries.new.entries ≡ length entries.old.entries }
-{
-    if let Some(held) = entries.get_mut(&key) {
-        held.accessed = now;
+    /// Returns the keys of a region in a new list, the most recent first.
+    ///
+    /// Takes memory for that list alone. O(entries of the region).
+    pub fn order(&self, alloc: Global, region: Region) -> Result<Vec<K>, NoMemory>
+        ensures { IfOk result (λ keys. keys.items ≡ keys_of (region_of region self.now.regions)) }
+    {
+        self.regions.order(alloc, region)
     }
-}
-
-// Stores what is held under the key, and answers what left for it.
-fn store<K: CacheKey, V: Drop>(
-    entries: &mut LruCache<K, Held<V>>,
-    key: K,
-    held: Held<V>,
-) -> Result<Option<Notice<K, V>>, NoMemory>
-    ensures state { OnOk result (entries.new ≡ lru_cache (stored K.eq entries.old.cap (key, held) entries.old.entries).0 entries.old.cap) }
-    ensures notice { IfOk result (λ left. option_to_list left ≡ (stored K.eq entries.old.cap (key, held) entries.old.entries).1) }
-    ensures within { OnOk result (length entries.new.entries ≤ entries.old.cap) }
-    ensures grows { IfOk result (λ left. length entries.new.entries + evictions (option_to_list left) ≤ length entries.old.entries + 1) }
-    ensures err { OnErr result (entries.new ≡ entries.old) }
-{
-    // Its length tells that the list is within its cap.
-    let _len = entries.len();
-    let replaces = entries.contains(&key);
-    let Some(entry) = entries.push(key, held)? else {
-        return Ok(None);
-    };
-    if replaces {
-        return Ok(Some(told(Cause::Replaced, entry)));
-    }
-    Ok(Some(told(Cause::Size, entry)))
-}
-
-// The notice of an entry that leaves.
-fn told<K, V: Drop>(cause: Cause, entry: (K, Held<V>)) -> Notice<K, V>
-    ensures { result ≡ notice cause entry }
-{
-    let (key, held) = entry;
-    Notice {
-        key,
-        value: held.value,
-        cause,
-    }
-}
-
-// The keys of the entries, in order.
-fn keys_in<K: CacheKey, V>(
-    alloc: Global,
-    entries: &LruCache<K, Held<V>>,
-) -> Result<Vec<K>, NoMemory>
-    ensures { IfOk result (λ keys. keys.items ≡ keys_of entries.now.entries) }
-{
-    let mut keys = Vec::new(alloc);
-    for (key, _) in entries.iter() {
-        keys.push(*key)?;
-    }
-    Ok(keys)
-}
-
-// What the entries weigh together.
-fn weight_in<K: CacheKey, V>(entries: &LruCache<K, Held<V>>) -> u64
-    requires { length entries.now.entries ≤ 65536 }
-    ensures weight { result ≡ weights entries.now.entries }
-    ensures small { result ≤ 2 ^ 48 }
-{
-    let mut weight = 0;
-    for (_, held) in entries.iter() {
-        weight += u64::from(held.weight);
-    }
-    weight
 }

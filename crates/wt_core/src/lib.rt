@@ -2,15 +2,23 @@
 #![tactic(auto)]
 
 mod cache;
+mod config;
+mod counting;
+mod expired;
 mod kinds;
-mod notices;
+mod laws;
+mod looks;
+mod opening;
+mod removals;
 mod runs;
+mod stores;
 #[cfg(test)]
 mod tests;
-mod weight;
 
 pub use cache::Core;
-pub use kinds::{Call, Caps, Cause, Config, Counts, Held, Notice, Region, Reply, Stats};
-pub use notices::Notices;
+pub use kinds::{Call, Config, Counts, Foreseen, Land, Reply, Stats};
+pub use laws::{
+    failed_load_keeps_entries, landed_once, one_current_load, sharers_are_the_lead_and_joins,
+};
 pub use runs::run_calls;
-pub use weight::Weighs;
+pub use wt_regions::{Caps, Cause, Held, Notice, Notices, Region, Weighs};

@@ -1,14 +1,76 @@
-// Whole runs of a cache.
+// Calls as data, and whole runs of them.
 ghost use Rattle.std.specs.Prelude.{◌≡◌, ℕ, ◌+◌, ◌≤◌, IfOk, IfErr, OnOk, OnErr, length, take};
 ghost use Rattle.wt_keys.specs.declared.fault.Fault.TheVariants as fault;
-ghost use Rattle.wt_core.specs.Run.{run, replies, last_notices};
+ghost use Rattle.wt_regions.specs.Notices.{appended};
+ghost use Rattle.wt_core.specs.Run.{taken, run, replies, last_notices};
 
 use crate::cache::Core;
 use crate::kinds::{Call, Reply};
-use crate::notices::Notices;
-use crate::weight::Weighs;
 use std::alloc::Global;
-use wt_keys::{CacheKey, Fault, Share};
+use wt_keys::{CacheKey, Fault, NoMemory, Share};
+use wt_regions::{Notices, Weighs};
+
+impl<K: CacheKey, V: Share + Weighs> Core<K, V> {
+    /// Makes the call, whose refusal by the state is its answer `Refused` and no step.
+    ///
+    /// `NoMemory` alone is an error, and then nothing has changed. Takes what the call's own step takes.
+    pub fn take(
+        &mut self,
+        call: Call<K, V>,
+        notices: &mut Notices<K, V>,
+    ) -> Result<Reply<V>, NoMemory>
+        requires room { self.old.regions.caps.entries ≤ notices.old.room }
+
+        ensures state { OnOk result (self.new ≡ (taken K.eq K.word V.weight self.old call).state) }
+        ensures answer { IfOk result (λ reply. reply ≡ (taken K.eq K.word V.weight self.old call).reply) }
+        ensures notices { OnOk result (notices.new
+            ≡ appended (taken K.eq K.word V.weight self.old call).notices notices.old) }
+
+        ensures same { self.new.regions.caps ≡ self.old.regions.caps }
+        ensures whole { notices.new.room + length notices.new.list
+            ≡ notices.old.room + length notices.old.list }
+        ensures err { OnErr result ((self.new ≡ self.old) × (notices.new ≡ notices.old)) }
+    {
+        match call {
+            Call::Look(key, now) => match self.look(key, now, notices) {
+                Ok(reply) => Ok(reply),
+                Err(Fault::NoMemory) => Err(NoMemory),
+                Err(fault) => Ok(Reply::Refused(fault)),
+            },
+            Call::Seek(key, now) => match self.seek(key, now, notices) {
+                Ok(reply) => Ok(reply),
+                Err(Fault::NoMemory) => Err(NoMemory),
+                Err(fault) => Ok(Reply::Refused(fault)),
+            },
+            Call::Land(id, key, what, now) => match self.land(id, key, what, now, notices) {
+                Ok(reply) => Ok(reply),
+                Err(Fault::NoMemory) => Err(NoMemory),
+                Err(fault) => Ok(Reply::Refused(fault)),
+            },
+            Call::Put(key, value, now) => match self.put(key, value, now, notices) {
+                Ok(()) => Ok(Reply::Stored),
+                Err(Fault::NoMemory) => Err(NoMemory),
+                Err(fault) => Ok(Reply::Refused(fault)),
+            },
+            Call::DropKey(key, now) => match self.drop_key(key, now, notices) {
+                Ok(left) => Ok(Reply::Dropped(left)),
+                Err(fault) => Ok(Reply::Refused(fault)),
+            },
+            Call::Clear(now) => match self.clear(now, notices) {
+                Ok(()) => Ok(Reply::Cleared),
+                Err(fault) => Ok(Reply::Refused(fault)),
+            },
+            Call::Forget(key, now) => match self.forget(key, now, notices) {
+                Ok(was) => Ok(Reply::Forgot(was)),
+                Err(fault) => Ok(Reply::Refused(fault)),
+            },
+            Call::Clean(now) => match self.clean(now, notices) {
+                Ok(()) => Ok(Reply::Cleaned),
+                Err(fault) => Ok(Reply::Refused(fault)),
+            },
+        }
+    }
+}
 
 /// Makes the calls one after another, and answers their replies. A call that the state refuses replies
 /// `Refused` and is no step.
@@ -22,11 +84,12 @@ pub fn run_calls<K: CacheKey, V: Share + Weighs>(
     calls: Vec<Call<K, V>>,
     notices: &mut Notices<K, V>,
 ) -> Result<Vec<Reply<V>>, Fault>
-    requires room { core.old.caps.entries ≤ notices.old.room + length notices.old.list }
+    requires room { core.old.regions.caps.entries ≤ notices.old.room + length notices.old.list }
 
     ensures state { OnOk result (core.new ≡ run K.eq K.word V.weight core.old calls.items) }
     ensures answer { IfOk result (λ made. made.items ≡ replies K.eq K.word V.weight core.old calls.items) }
-    ensures notices { OnOk result (notices.new ≡ last_notices K.eq K.word V.weight core.old calls.items notices.old) }
+    ensures notices { OnOk result (notices.new
+        ≡ last_notices K.eq K.word V.weight core.old calls.items notices.old) }
 
     ensures memory { IfErr result (λ f. f ≡ fault.NoMemory) }
     ensures err { OnErr result ((n : ℕ) × (core.new ≡ run K.eq K.word V.weight core.old (take n calls.items))) }

@@ -1,30 +1,139 @@
-use crate::{Config, Core, Weighs};
-use std::test::Fail;
-use wt_keys::{Fault, Field, NoMemory, Share};
+// What the tests share: a value, a cache with its notices, and what is seen of a reply.
+mod beside_lists;
+mod examples;
+mod plain;
+mod refusals;
 
-// A value that tells its number, and weighs as it says.
+use crate::{Call, Cause, Config, Core, Notices, Reply, Weighs};
+use std::alloc::Global;
+use std::marker::Model;
+use std::process::Abort;
+use wt_keys::{Fault, NoMemory, Share};
+
+// A value that tells its versions apart, with a weight.
 #[derive(Clone, Copy, Debug, PartialEq, Eq)]
-struct Version(u64, u32);
+struct Loaded {
+    version: u64,
+    weight: u32,
+}
 
-impl Share for Version {
-    fn share(&self) -> Result<Version, NoMemory> {
+impl Share for Loaded {
+    fn share(&self) -> Result<Loaded, NoMemory> {
         Ok(*self)
     }
 }
 
-impl Weighs for Version {
-    ghost weight = { λ v. v.1 };
+impl Weighs for Loaded {
+    ghost weight = { λ v. v.weight };
 
     fn weight(&self) -> u32 {
-        self.1
+        self.weight
     }
 }
 
-fn of(entries: u32) -> Config {
+// A reply that can be compared.
+#[derive(Clone, Copy, Debug, PartialEq, Eq)]
+enum Said {
+    Hit(Loaded),
+    Absent,
+    HitLead(Loaded, u64),
+    Join(u64),
+    Lead(u64),
+    Kept(u64),
+    Loose(u64),
+    Failed(u64),
+    Gone,
+    Stored,
+    Dropped(bool),
+    Cleared,
+    Forgot(bool),
+    Cleaned,
+    Refused(Fault),
+}
+
+fn said(reply: Reply<Loaded>) -> Said {
+    match reply {
+        Reply::Hit(value) => Said::Hit(value),
+        Reply::Absent => Said::Absent,
+        Reply::HitLead(value, id) => Said::HitLead(value, id),
+        Reply::Join(id) => Said::Join(id),
+        Reply::Lead(id) => Said::Lead(id),
+        Reply::Kept(sharers) => Said::Kept(sharers),
+        Reply::Loose(sharers) => Said::Loose(sharers),
+        Reply::Failed(sharers) => Said::Failed(sharers),
+        Reply::Gone => Said::Gone,
+        Reply::Stored => Said::Stored,
+        Reply::Dropped(left) => Said::Dropped(left),
+        Reply::Cleared => Said::Cleared,
+        Reply::Forgot(was) => Said::Forgot(was),
+        Reply::Cleaned => Said::Cleaned,
+        Reply::Refused(fault) => Said::Refused(fault),
+    }
+}
+
+// A cache with the notices of its latest step alone.
+#[derive(Drop)]
+struct Run<V: Share + Weighs> {
+    core: Core<u64, V>,
+    notices: Notices<u64, V>,
+}
+
+impl<V: Share + Weighs> Model for Run<V> {
+    ghost use Rattle.std.specs.Prelude.{ℕ, ◌+◌, ◌≤◌, length};
+
+    ghost Value = { ℕ };
+
+    ghost view = { λ r. r.core.regions.caps.entries };
+
+    ghost invariant = { λ r. r.core.regions.caps.entries ≤ r.notices.room + length r.notices.list };
+}
+
+impl<V: Share + Weighs> Run<V> {
+    fn new(alloc: Global, config: &Config) -> Result<Run<V>, Fault> {
+        let core = Core::new(alloc, config)?;
+        let notices = Notices::new(alloc, config.entries as usize)?;
+        Ok(Run { core, notices })
+    }
+
+    // Makes the call, after the notices of the one before are dropped.
+    fn make(&mut self, call: Call<u64, V>) -> Result<Reply<V>, NoMemory> {
+        self.notices.empty();
+        self.core.take(call, &mut self.notices)
+    }
+}
+
+impl Run<Loaded> {
+    // Makes the call, and asserts what it answers and tells: key, version and cause.
+    fn expect(
+        &mut self,
+        rt: &impl Abort,
+        call: Call<u64, Loaded>,
+        answer: Said,
+        told: &[(u64, u64, Cause)],
+    ) -> Result<(), NoMemory> {
+        assert_eq!(rt; said(self.make(call)?), answer);
+        let list = self.notices.list();
+        assert_eq!(rt; list.len(), told.len());
+        for (notice, (key, version, cause)) in list.iter().zip(told) {
+            assert_eq!(rt; notice.key, *key);
+            assert_eq!(rt; notice.value.version, *version);
+            assert_eq!(rt; notice.cause, *cause);
+        }
+        Ok(())
+    }
+}
+
+// A value of weight 1.
+fn light(version: u64) -> Loaded {
+    Loaded { version, weight: 1 }
+}
+
+// Limits without expiry.
+fn config(entries: u32, window: u32, bound: u64) -> Config {
     Config {
         entries,
-        window: entries,
-        bound: 1 << 48,
+        window,
+        bound,
         after_write: None,
         after_access: None,
         refresh: None,
@@ -32,76 +141,3 @@ fn of(entries: u32) -> Config {
         ring: 64,
     }
 }
-
-#[test]
-fn a_configuration_out_of_its_range_is_named(rt: HostRuntime) -> Result<(), Fail> {
-    let rows = [
-        (of(1), None),
-        (of(65536), None),
-        (of(0), Some(Field::Entries)),
-        (of(65537), Some(Field::Entries)),
-        (Config { window: 3, ..of(4) }, Some(Field::Window)),
-        (
-            Config {
-                bound: 1000,
-                ..of(4)
-            },
-            Some(Field::Bound),
-        ),
-        (
-            Config {
-                after_write: Some(1),
-                ..of(4)
-            },
-            Some(Field::AfterWrite),
-        ),
-        (
-            Config {
-                after_access: Some(1),
-                ..of(4)
-            },
-            Some(Field::AfterAccess),
-        ),
-        (
-            Config {
-                refresh: Some(1),
-                ..of(4)
-            },
-            Some(Field::Refresh),
-        ),
-        (
-            Config {
-                flights: 0,
-                ..of(4)
-            },
-            Some(Field::Flights),
-        ),
-        (
-            Config {
-                flights: 4097,
-                ..of(4)
-            },
-            Some(Field::Flights),
-        ),
-        (Config { ring: 32, ..of(4) }, Some(Field::Ring)),
-        (
-            Config {
-                ring: 65537,
-                ..of(4)
-            },
-            Some(Field::Ring),
-        ),
-    ];
-    for (config, wrong) in rows {
-        let said = match wrong {
-            Some(field) => Err(Fault::BadConfig { field }),
-            None => Ok(()),
-        };
-        assert_eq!(rt; config.check(), said);
-        let core: Result<Core<u64, Version>, Fault> = Core::new(rt.alloc(), &config);
-        assert_eq!(rt; core.err(), said.err());
-    }
-    Ok(())
-}
-
-// Where memory is refused, nothing has changed, and a second try succeeds.

@@ -1,17 +1,19 @@
 -- What is read is a line, and a line is read.
-use Rattle.std.proofs.Common.{◌≡◌, ℕ, ◌+◌, ◌<◌, ◌==◌, ◌++◌, List, [], ◌∷◌, length, take, drop, suc, Option, Some, None, Bool, true, false, cond, not, arith, rules, sym, refl, ap, ◌∙◌, ◌⊎◌, inl, inr, subst, append_assoc, length-append}
+use Rattle.std.proofs.Common.{◌≡◌, ℕ, ◌+◌, ◌<◌, ◌≤◌, ◌^◌, ◌==◌, ◌&&◌, ◌++◌, List, [], ◌∷◌, length, take, drop, suc, Option, Some, None, Bool, true, false, cond, not, nat_lt, nat_le, arith, rules, sym, refl, ap, ◌∙◌, ◌⊎◌, inl, inr, subst, append_assoc, length-append}
+use Rattle.std.specs.Prelude.{option_and_then}
 use Rattle.std.proofs.lemmas.Option.{cond_some, option_and_then_some}
 use Rattle.std.proofs.lemmas.List.{take_at, drop_at}
 use Rattle.std.proofs.lemmas.Bool.Decides.{nat_tests}
 use Rattle.std.proofs.lemmas.Str.Parse.{tells_all_ascii_digits}
 use Rattle.std.specs.Option.{option_map}
-use Rattle.std.specs.List.{before_first, after_first, position_or_len, AllByRecursion}
+use Rattle.std.specs.List.{before_first, after_first, position_or_len, find, AllByRecursion}
 use Rattle.std.specs.Str.{all_ascii_digits}
-use Rattle.wt_replay.specs.Keys.{IsNumber, number_of}
+use Rattle.std.specs.List.{list_all}
+use Rattle.wt_replay.specs.Keys.{IsNumber, number_of, IsName, name_of, is_name_byte}
 use Rattle.wt_replay.specs.Line.{IsAsked, IsLine, letter_of, key_of, lettered, keyed, act_of, line_of, ReadsKeys, ReadsLines}
 use Rattle.wt_replay.specs.declared.line.Line.{Line}
 use Rattle.wt_replay.specs.declared.line.Act.{Act}
-use Rattle.wt_replay.specs.declared.line.Act.TheVariants.{Look, Put}
+use Rattle.wt_replay.specs.declared.line.Act.TheVariants.{Look, Put, Seek, Get, Land, Drop, Forget, Clean, Clear}
 
 abbrev is_space : ℕ → Bool
 is_space b = b == 32
@@ -43,6 +45,17 @@ read_number ds n e = let c = cond_some _ _ _ e in record {
   few = grind (arith, nat_tests, c.0);
   value = c.1;
   fits = grind (arith, nat_tests, c.0, c.1);
+}
+
+pub name_read : (bytes name : List ℕ) → IsName bytes name → name_of bytes ≡ Some name
+name_read bytes name is = grind (arith, nat_tests, is.some, is.few, is.printed, is.same)
+
+pub read_name : (bytes name : List ℕ) → name_of bytes ≡ Some name → IsName bytes name
+read_name bytes name e = let c = cond_some _ _ _ e in record {
+  some = grind (arith, nat_tests, c.0);
+  few = grind (arith, nat_tests, c.0);
+  printed = grind (arith, nat_tests, c.0);
+  same = c.1;
 }
 
 -- a space stands where something is behind it
@@ -78,6 +91,13 @@ module _ {K : Type 0} (IsKey : List ℕ → K → Type 0) (read : List ℕ → O
   act_read : (bytes : List ℕ) (a : Act K) → IsAsked IsKey (letter_of a) (key_of a) bytes → act_of read bytes ≡ Some a
   act_read bytes (Look k) (key, is, e) = rw (e, (reads key k).1 is) refl
   act_read bytes (Put k) (key, is, e) = rw (e, (reads key k).1 is) refl
+  act_read bytes (Seek k) (key, is, e) = rw (e, (reads key k).1 is) refl
+  act_read bytes (Get k) (key, is, e) = rw (e, (reads key k).1 is) refl
+  act_read bytes (Land k) (key, is, e) = rw (e, (reads key k).1 is) refl
+  act_read bytes (Drop k) (key, is, e) = rw (e, (reads key k).1 is) refl
+  act_read bytes (Forget k) (key, is, e) = rw (e, (reads key k).1 is) refl
+  act_read bytes Clean e = rw e refl
+  act_read bytes Clear e = rw e refl
 
   -- a line is read
   line_read : (bytes : List ℕ) (l : Line K) → IsLine IsKey bytes l → line_of read bytes ≡ Some l
@@ -87,12 +107,14 @@ module _ {K : Type 0} (IsKey : List ℕ → K → Type 0) (read : List ℕ → O
   -- what is read is asked for
   read_act : (bytes : List ℕ) (a : Act K) → act_of read bytes ≡ Some a → (0 < length bytes) × IsAsked IsKey (letter_of a) (key_of a) bytes
   read_act [] a e = absurd (cc)
-  read_act (letter ∷ []) a e = absurd (cc)
+  read_act (letter ∷ []) a e =
+      let it = found (λ b. key_of b ≡ None) letter (Clean ∷ Clear ∷ []) a (refl, (refl, tt)) e in
+      (omega arith, rw it.0 (ap (λ x. x ∷ []) it.1))
   read_act (letter ∷ space ∷ key) a e = elim (chosen (is_space space) _ None (Some a) e) [
     | inr no_space ↦ let bad = no_space.1 in absurd (cc)
     | inl spaced ↦ let s : space ≡ 32 = grind (arith, nat_tests, spaced.0) in
         option_and_then_some (λ k. lettered letter (keyed k)) (read key) a spaced.1 (λ k got more.
-        let it = found (λ b. key_of b ≡ Some k) letter (keyed k) a (refl, (refl, tt)) more in
+        let it = found (λ b. key_of b ≡ Some k) letter (keyed k) a (refl, (refl, (refl, (refl, (refl, (refl, (refl, tt))))))) more in
         (omega arith, rw it.0 (key, (reads key k).0 got, rw (it.1, s) refl)))
   ]
 

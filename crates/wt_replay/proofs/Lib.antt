@@ -5,5 +5,7 @@ pub mod Grammar
 pub mod Traces
 pub mod Ends
 pub mod Lines
+pub mod Gets
 pub mod Sums
 pub mod Examples
+pub mod Reports

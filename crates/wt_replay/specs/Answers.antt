@@ -1,14 +1,17 @@
 -- What one shard answers to the lines of a trace.
-use Rattle.std.specs.Prelude.{ℕ, ◌+◌, ◌%◌, ◌==◌, Bool, true, false, List, [], ◌∷◌, ◌++◌, codes, decimal}
+use Rattle.std.specs.Prelude.{◌≡◌, ℕ, zero, suc, ◌+◌, ◌%◌, ◌==◌, Bool, true, false, if◌then◌else◌, List, [], ◌∷◌, ◌++◌, Option, codes, decimal}
 use Rattle.std.specs.List.{flat_map}
 use Rattle.std.specs.Option.{option_map_or}
 use Rattle.wt_keys.specs.Hash.{shard_of}
-use Rattle.wt_keys.specs.declared.fault.Fault.TheVariants.{TooHeavy}
-use Rattle.wt_core.specs.declared.kinds.Cause.{Cause}
-use Rattle.wt_core.specs.declared.kinds.Cause.TheVariants.{Explicit, Replaced, Expired, Size}
-use Rattle.wt_core.specs.declared.kinds.Notice.{Notice}
+use Rattle.wt_keys.specs.declared.fault.Fault.TheVariants.{TooHeavy, TooManyFlights}
+use Rattle.wt_regions.specs.declared.kinds.Cause.{Cause}
+use Rattle.wt_regions.specs.declared.kinds.Cause.TheVariants.{Explicit, Replaced, Expired, Size}
+use Rattle.wt_regions.specs.declared.kinds.Notice.{Notice}
+use Rattle.wt_flights.specs.Rows.{first_of}
 use Rattle.wt_core.specs.declared.kinds.Call.{Call}
 use Rattle.wt_core.specs.declared.kinds.Call.TheVariants as call
+use Rattle.wt_core.specs.declared.kinds.Land.{Land}
+use Rattle.wt_core.specs.declared.kinds.Land.TheVariants as land
 use Rattle.wt_core.specs.declared.kinds.Reply.{Reply}
 use Rattle.wt_core.specs.declared.kinds.Reply.TheVariants as reply
 use Rattle.wt_core.specs.declared.kinds.Stats.{Stats}
@@ -36,13 +39,30 @@ cause_name Expired = codes "expired"
 cause_name Size = codes "size"
 
 module _ {K : Type 0} where
-  -- the words of a reply
+  -- the words of a reply; for a step at every shard the first shard speaks
   abbrev pub words_of : ℕ → Reply (Version K) → List ℕ
   words_of shard (reply.Hit v) = codes " hit " ++ decimal v.line
   words_of shard reply.Absent = codes " absent"
+  words_of shard (reply.HitLead v id) = codes " hit " ++ (decimal v.line ++ (codes " lead " ++ decimal id))
+  words_of shard (reply.Join id) = codes " join " ++ decimal id
+  words_of shard (reply.Lead id) = codes " lead " ++ decimal id
+  words_of shard (reply.Kept sharers) = codes " land " ++ decimal sharers
+  words_of shard (reply.Loose sharers) = codes " loose " ++ decimal sharers
+  words_of shard (reply.Failed sharers) = codes " fail 7"
+  words_of shard reply.Gone = codes " none"
   words_of shard reply.Stored = codes " put"
+  words_of shard (reply.Dropped left) = if left then codes " drop" else codes " absent"
+  words_of shard reply.Cleared = if shard == 0 then codes " clear" else []
+  words_of shard (reply.Forgot was) = if was then codes " forget" else codes " none"
+  words_of shard reply.Cleaned = if shard == 0 then codes " clean" else []
   words_of shard (reply.Refused (TooHeavy weight bound)) = codes " heavy"
+  words_of shard (reply.Refused (TooManyFlights limit)) = codes " full"
   words_of shard (reply.Refused fault) = []
+
+  -- a load that was landed at once
+  abbrev pub loaded_words : Reply (Version K) → List ℕ
+  loaded_words (reply.Kept sharers) = codes " load"
+  loaded_words r = words_of 0 r
 
 -- a state, and the text added to a line on the way there
 pub record Shown (K : Type 0) : Type 0 where
@@ -66,15 +86,40 @@ module _ {K : Type 0} (keys : Keys K) where
   abbrev pub one_call : ℕ → State K (Version K) → Call K (Version K) → Shown K
   one_call shard s c = let m = take s c in shown (words_of shard m.reply) m.notices m.state
 
+  -- a lead is landed at once: the words, then the seek's notices and the landing's
+  abbrev pub landed_at_once : List ℕ → List (Notice K (Version K)) → Made K (Version K) → Shown K
+  landed_at_once words before m = shown (words ++ loaded_words m.reply) (before ++ m.notices) m.state
+
 module _ {K : Type 0} (keys : Keys K) (o : Options) where
   -- the value that line n makes
   abbrev pub version : ℕ → K → Version K
   version n k = record { key = k; line = n; weight = 1 + keys.word k % o.modulus }
 
+  -- the load of line n, which fails by rule
+  abbrev pub load : ℕ → K → Land (Version K)
+  load n k = if option_map_or (λ f. keys.word k % f == 0) o.fail_mod false then land.Failed else land.Keep (version n k)
+
+  -- the landing of the flight with an id by line n
+  abbrev pub landing_of : ℕ → ℕ → K → ℕ → Call K (Version K)
+  landing_of id n k moment = call.Land id k (load n k) moment
+
+  -- after the seek of a G line
+  abbrev pub fetched : ℕ → ℕ → K → Reply (Version K) → Made K (Version K) → Shown K
+  fetched n moment k (reply.Lead id) m = landed_at_once keys [] m.notices (take keys m.state (landing_of id n k moment))
+  fetched n moment k (reply.HitLead v id) m = landed_at_once keys (words_of 0 (reply.Hit v)) m.notices (take keys m.state (landing_of id n k moment))
+  fetched n moment k r m = shown keys (words_of 0 r) m.notices m.state
+
   -- line n at the shards that it belongs to
   abbrev pub act_step : ℕ → ℕ → ℕ → Act K → State K (Version K) → Shown K
   act_step shard n moment (act.Look k) s = one_call keys shard s (call.Look k moment)
   act_step shard n moment (act.Put k) s = one_call keys shard s (call.Put k (version n k) moment)
+  act_step shard n moment (act.Seek k) s = one_call keys shard s (call.Seek k moment)
+  act_step shard n moment (act.Get k) s = let m = take keys s (call.Seek k moment) in fetched n moment k m.reply m
+  act_step shard n moment (act.Land k) s = option_map_or (λ row. one_call keys shard s (landing_of row.id n k moment)) (first_of keys.eq k s.flights) (shown keys (codes " none") [] s)
+  act_step shard n moment (act.Drop k) s = one_call keys shard s (call.DropKey k moment)
+  act_step shard n moment (act.Forget k) s = one_call keys shard s (call.Forget k moment)
+  act_step shard n moment act.Clean s = one_call keys shard s (call.Clean moment)
+  act_step shard n moment act.Clear s = one_call keys shard s (call.Clear moment)
 
   -- whether a line belongs to the shard: one without a key belongs to each
   abbrev pub belongs : ℕ → Act K → Bool

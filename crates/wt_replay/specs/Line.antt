@@ -4,19 +4,33 @@ use Rattle.std.specs.Option.{option_map}
 use Rattle.std.specs.List.{before_first, after_first, find}
 use Rattle.wt_replay.specs.declared.line.Line.{Line}
 use Rattle.wt_replay.specs.declared.line.Act.{Act}
-use Rattle.wt_replay.specs.declared.line.Act.TheVariants.{Look, Put}
+use Rattle.wt_replay.specs.declared.line.Act.TheVariants.{Look, Put, Seek, Get, Land, Drop, Forget, Clean, Clear}
 use Rattle.wt_replay.specs.Keys.{IsNumber, number_of}
 
 module _ {K : Type 0} where
-  -- the letters L and P
+  -- the letters L, P, S, G, E, D, F, C, X
   abbrev pub letter_of : Act K → ℕ
   letter_of (Look k) = 76
   letter_of (Put k) = 80
+  letter_of (Seek k) = 83
+  letter_of (Get k) = 71
+  letter_of (Land k) = 69
+  letter_of (Drop k) = 68
+  letter_of (Forget k) = 70
+  letter_of Clean = 67
+  letter_of Clear = 88
 
   -- the key that a line names, if it names one
   abbrev pub key_of : Act K → Option K
   key_of (Look k) = Some k
   key_of (Put k) = Some k
+  key_of (Seek k) = Some k
+  key_of (Get k) = Some k
+  key_of (Land k) = Some k
+  key_of (Drop k) = Some k
+  key_of (Forget k) = Some k
+  key_of Clean = None
+  key_of Clear = None
 
 -- ---- the relation
 
@@ -39,13 +53,13 @@ module _ {K : Type 0} where
 
   -- what can be asked of a key
   abbrev pub keyed : K → List (Act K)
-  keyed k = Look k ∷ Put k ∷ []
+  keyed k = Look k ∷ Put k ∷ Seek k ∷ Get k ∷ Land k ∷ Drop k ∷ Forget k ∷ []
 
   module _ (read : List ℕ → Option K) where
     -- what the bytes ask for, if they ask for something
     abbrev pub act_of : List ℕ → Option (Act K)
     act_of [] = None
-    act_of (letter ∷ []) = None
+    act_of (letter ∷ []) = lettered letter (Clean ∷ Clear ∷ [])
     act_of (letter ∷ space ∷ key) = if space == 32 then option_and_then (λ k. lettered letter (keyed k)) (read key) else None
 
     -- the line that the bytes spell, if they spell one

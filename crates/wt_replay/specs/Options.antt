@@ -1,8 +1,9 @@
 -- The options: their defaults and their ranges.
-use Rattle.std.specs.Prelude.{ℕ, ◌+◌, ◌/◌, nat_lt, max, Bool, ◌||◌, if◌then◌else◌, Option, None, Some, unwrap_or, is_some}
+use Rattle.std.specs.Prelude.{ℕ, ◌+◌, ◌/◌, nat_lt, max, Bool, ◌||◌, if◌then◌else◌, Option, None, Some, unwrap_or}
 use Rattle.wt_keys.specs.declared.fault.Field.{Field}
 use Rattle.wt_keys.specs.declared.fault.Field.TheVariants.{Shards, Entries, Window, Bound, Modulus, AfterWrite, AfterAccess, Refresh, FailMod, Flights, Ring, Threads, Turn, Workers}
 use Rattle.wt_core.specs.declared.kinds.Config.{Config}
+use Rattle.wt_core.specs.State.{is_zero}
 use Rattle.wt_replay.specs.declared.options.Options.{Options}
 
 -- the window, by default a hundredth of the entries and at least 1
@@ -17,7 +18,7 @@ ring_of o = unwrap_or o.ring (max (o.flights + 1) 64)
 abbrev pub is_outside : ℕ → ℕ → ℕ → Bool
 is_outside low high n = nat_lt n low || nat_lt high n
 
--- the first of the options from flights on that is out of its range
+-- the first of the options from flights on that is out of its range; for now there are no threads
 abbrev pub later_fault : Options → Option Field
 later_fault o =
     if is_outside 1 4096 o.flights then Some Flights else
@@ -27,18 +28,18 @@ later_fault o =
     if nat_lt 0 o.workers then Some Workers else
     None
 
--- the first option that is out of its range; for now there is one shard of one region, with no durations, on one thread
+-- the first option that is out of its range; for now there is one shard
 abbrev pub option_fault : Options → Option Field
 option_fault o =
     if is_outside 1 1 o.shards then Some Shards else
     if is_outside 1 65536 o.entries then Some Entries else
-    if is_outside o.entries o.entries (window_of o) then Some Window else
-    if is_outside 281474976710656 281474976710656 o.weight then Some Bound else
+    if is_outside 1 o.entries (window_of o) then Some Window else
+    if is_outside 1 281474976710656 o.weight then Some Bound else
     if is_outside 1 1000000 o.modulus then Some Modulus else
-    if is_some o.write then Some AfterWrite else
-    if is_some o.access then Some AfterAccess else
-    if is_some o.refresh then Some Refresh else
-    if is_some o.fail_mod then Some FailMod else
+    if is_zero o.write then Some AfterWrite else
+    if is_zero o.access then Some AfterAccess else
+    if is_zero o.refresh then Some Refresh else
+    if is_zero o.fail_mod then Some FailMod else
     later_fault o
 
 -- what each shard is made for

@@ -1,11 +1,11 @@
 -- The report of a trace.
-use Rattle.std.specs.Prelude.{◌≡◌, ℕ, ◌+◌, Bool, if◌then◌else◌, List, [], ◌++◌, map, length, get_or, sum_by, is_ok, Ok, Err, codes, decimal}
+use Rattle.std.specs.Prelude.{◌≡◌, ℕ, ◌+◌, Bool, true, false, if◌then◌else◌, List, [], ◌++◌, map, length, get_or, drop, sum_by, is_ok, Ok, Err, codes, decimal}
 use Rattle.std.specs.List.{flat_map, range_with_len}
 use Rattle.wt_core.specs.declared.kinds.Stats.{Stats}
 use Rattle.wt_replay.specs.declared.fault.ReplayFault.TheVariants.{BadLine, LineTooLong, TooManyLines}
 use Rattle.wt_replay.specs.declared.options.Options.{Options}
-use Rattle.wt_replay.specs.Keys.{Keys, numbers}
-use Rattle.wt_replay.specs.Trace.{Verdict, Trace, lines_of, trace_from}
+use Rattle.wt_replay.specs.Keys.{Keys, numbers, names}
+use Rattle.wt_replay.specs.Trace.{Verdict, Trace, lines_of, is_header, trace_from}
 use Rattle.wt_replay.specs.Answers.{Answers, answers}
 
 -- what is printed, and how the run ends
@@ -56,9 +56,14 @@ module _ {K : Type 0} (keys : Keys K) (o : Options) where
     verdict = t.verdict;
   }
 
+-- by whether the first line is a header, which stands for line 1 and prints nothing
+abbrev pub report_by : Bool → Options → List (List ℕ) → Report
+report_by true o lines = report_of names o 2 (trace_from names.read 2 (drop 1 lines))
+report_by false o lines = report_of numbers o 1 (trace_from numbers.read 1 lines)
+
 -- the report of the bytes of a trace
 abbrev pub report : Options → List ℕ → Report
-report o bytes = report_of numbers o 1 (trace_from numbers.read 1 (lines_of bytes))
+report o bytes = report_by (is_header (lines_of bytes)) o (lines_of bytes)
 
 -- the verdicts of a report
 abbrev pub IsVerdict : Verdict → Type 0

@@ -1,6 +1,7 @@
 -- A trace: the lines up to the first fault.
-use Rattle.std.specs.Prelude.{ℕ, ◌+◌, ◌==◌, nat_lt, if◌then◌else◌, List, [], ◌∷◌, length, Option, None, Some, Result, Ok, Err}
+use Rattle.std.specs.Prelude.{◌≡◌, ℕ, ◌+◌, ◌==◌, nat_eq, nat_lt, Bool, false, if◌then◌else◌, List, [], ◌∷◌, length, Option, None, Some, Result, Ok, Err, codes}
 use Rattle.std.specs.List.{onto_first}
+use Rattle.std.specs.Cmp.Lexicographic.{pointwise}
 use Rattle.wt_replay.specs.declared.line.Line.{Line}
 use Rattle.wt_replay.specs.declared.fault.ReplayFault.{ReplayFault}
 use Rattle.wt_replay.specs.declared.fault.ReplayFault.TheVariants.{BadLine, LineTooLong, TooManyLines}
@@ -18,6 +19,11 @@ onto_lines b ls = if b == 10 then [] ∷ ls else onto_first b ls
 abbrev pub lines_of : List ℕ → List (List ℕ)
 lines_of [] = []
 lines_of (b ∷ bs) = onto_lines b (lines_of bs)
+
+-- the first line of a trace of names
+abbrev pub is_header : List (List ℕ) → Bool
+is_header [] = false
+is_header (l ∷ ls) = pointwise nat_eq l (codes "wt 2")
 
 -- the lines up to the first fault, and that fault
 pub record Trace (K : Type 0) : Type 0 where

@@ -2,7 +2,7 @@
 ghost use Rattle.std.specs.Prelude.{◌≡◌, ◌==◌, ◌^◌, ◌<◌, ◌≤◌, ◌↔◌, ℕ, List, Some, position, IfSome, IsNone};
 ghost use Rattle.std.specs.List.{before_first, after_first};
 ghost use Rattle.std.specs.Str.Parse.{AllDigits, digits_value};
-ghost use Rattle.wt_replay.specs.Keys.{IsNumber, number_of, numbers};
+ghost use Rattle.wt_replay.specs.Keys.{IsNumber, IsName, number_of, numbers, names};
 ghost use Rattle.wt_replay.specs.Line as spec;
 
 use crate::key::TraceKey;
@@ -16,6 +16,33 @@ pub enum Act<K> {
     Look(K),
     /// A store of a new value under the key, letter P.
     Put(K),
+    /// A seek of the key, whose flight stays open, letter S.
+    Seek(K),
+    /// A seek of the key, whose flight is landed at once, letter G.
+    Get(K),
+    /// A landing of the key's oldest open flight, letter E.
+    Land(K),
+    /// A removal of the key, letter D.
+    Drop(K),
+    /// The key's current flight is forgotten, letter F.
+    Forget(K),
+    /// A removal of all expired entries, letter C.
+    Clean,
+    /// A removal of all entries, letter X.
+    Clear,
+}
+
+impl<K: Copy> Act<K> {
+    /// Returns the key that is named, if one is.
+    pub fn key(&self) -> Option<K>
+        ensures { result ≡ spec.key_of self.now }
+    {
+        match *self {
+            Act::Look(key) | Act::Put(key) | Act::Seek(key) | Act::Get(key) => Some(key),
+            Act::Land(key) | Act::Drop(key) | Act::Forget(key) => Some(key),
+            Act::Clean | Act::Clear => None,
+        }
+    }
 }
 
 /// A line: its moment in milliseconds, and what it asks for.
@@ -95,7 +122,7 @@ pub fn cut(bytes: &[u8], stop: u8) -> (&[u8], &[u8])
     }
 }
 
-/// Returns the line that the bytes spell: a moment, one space, a letter, one space and a key.
+/// Returns the line that the bytes spell: a moment, one space, a letter, and for most letters one space and a key.
 pub fn line_of<K: TraceKey>(bytes: &[u8]) -> Option<Line<K>>
     ensures { result ≡ spec.line_of K.read bytes.now }
 {
@@ -110,13 +137,31 @@ fn act_of<K: TraceKey>(bytes: &[u8]) -> Option<Act<K>>
     ensures { result ≡ spec.act_of K.read bytes.now }
 {
     match bytes {
-        [b'L', b' ', key @ ..] => Some(Act::Look(K::read(key)?)),
-        [b'P', b' ', key @ ..] => Some(Act::Put(K::read(key)?)),
+        [b'C'] => Some(Act::Clean),
+        [b'X'] => Some(Act::Clear),
+        [letter, b' ', key @ ..] => act_on(*letter, K::read(key)?),
         _ => None,
     }
 }
 
-/// What is read is a line by the grammar, and each line by the grammar is read.
+// What a letter asks of a key.
+fn act_on<K: Copy>(letter: u8, key: K) -> Option<Act<K>>
+    ensures { result ≡ spec.lettered letter (spec.keyed key) }
+{
+    match letter {
+        b'L' => Some(Act::Look(key)),
+        b'P' => Some(Act::Put(key)),
+        b'S' => Some(Act::Seek(key)),
+        b'G' => Some(Act::Get(key)),
+        b'E' => Some(Act::Land(key)),
+        b'D' => Some(Act::Drop(key)),
+        b'F' => Some(Act::Forget(key)),
+        _ => None,
+    }
+}
+
+/// What is read is a line by the grammar, and each line by the grammar is read: of numbers and of names.
 pub fn reads_every_line()
-    ensures { spec.ReadsLines IsNumber numbers.read }
+    ensures numbers { spec.ReadsLines IsNumber numbers.read }
+    ensures names { spec.ReadsLines IsName names.read }
 {}

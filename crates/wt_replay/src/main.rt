@@ -1,4 +1,4 @@
-//! Replays a trace of look-ups and stores on a cache, and reports what came of each line.
+//! Replays a trace on a cache, and reports what came of each line.
 #![tactic(auto)]
 
 mod answers;
@@ -21,7 +21,61 @@ use std::io;
 use std::process::ExitCode;
 use tallied::Tallied;
 
-// An option that takes a whole number, with what it does, its range and its default.
+// Each option with what it does, its range and its default, in the order in which the ranges are checked.
+const OPTIONS: [(&str, &str); 14] = [
+    ("shards", "Number of shards: for now 1 [default: 1]"),
+    (
+        "entries",
+        "Entries that a shard may hold: 1 to 65536 [default: 1024]",
+    ),
+    (
+        "window",
+        "Entries that its window may hold: 1 to --entries [default: entries / 100, at least 1]",
+    ),
+    (
+        "weight",
+        "Weight that its entries may have together: 1 to 281474976710656 [default: 281474976710656]",
+    ),
+    (
+        "mod",
+        "A value of key k weighs 1 + k mod this, of a name 1 + its word mod this: 1 to 1000000 [default: 1]",
+    ),
+    (
+        "write",
+        "Milliseconds after which an entry expires that isn't written: 1 up [default: never]",
+    ),
+    (
+        "access",
+        "Milliseconds after which an entry expires that isn't used: 1 up [default: never]",
+    ),
+    (
+        "refresh",
+        "Milliseconds after which a written entry is loaded again: 1 up [default: never]",
+    ),
+    (
+        "fail-mod",
+        "Loads of keys whose word this divides fail: 1 up [default: none fails]",
+    ),
+    (
+        "flights",
+        "Loads that a shard may have open: 1 to 4096 [default: 32]",
+    ),
+    (
+        "ring",
+        "Steps that a shard may record: flights + 1 to 65536 [default: 64, or flights + 1]",
+    ),
+    (
+        "threads",
+        "Threads that replay shard by shard: for now 0 [default: 0]",
+    ),
+    (
+        "turn",
+        "Threads that replay turn by turn: for now 0 [default: 0]",
+    ),
+    ("workers", "Threads that run loads: for now 0 [default: 0]"),
+];
+
+// An option that takes a whole number.
 fn option<'a>(alloc: Global, name: &'a str, help: &'a str) -> Arg<'a> {
     Arg::new(alloc, name)
         .long(name)
@@ -31,69 +85,12 @@ fn option<'a>(alloc: Global, name: &'a str, help: &'a str) -> Arg<'a> {
 }
 
 fn command<'a>(alloc: Global) -> Result<Command<'a>, clap::Error> {
-    let command = Command::new(alloc, "wt_replay")
-        .about("Replays the trace on standard input on a cache, and writes what came of each line")
-        .arg(option(alloc, "shards", "Number of shards: for now 1 [default: 1]"))?
-        .arg(option(
-            alloc,
-            "entries",
-            "Entries that a shard may hold: 1 to 65536 [default: 1024]",
-        ))?
-        .arg(option(
-            alloc,
-            "window",
-            "Entries that its window may hold: for now as many as --entries [default: entries / 100, at least 1]",
-        ))?
-        .arg(option(
-            alloc,
-            "weight",
-            "Weight that its entries may have together: for now 281474976710656 [default: 281474976710656]",
-        ))?
-        .arg(option(
-            alloc,
-            "mod",
-            "A value of key k weighs 1 + k mod this: 1 to 1000000 [default: 1]",
-        ))?
-        .arg(option(
-            alloc,
-            "write",
-            "Milliseconds after which an entry expires that isn't written: 1 up, not yet allowed [default: never]",
-        ))?
-        .arg(option(
-            alloc,
-            "access",
-            "Milliseconds after which an entry expires that isn't used: 1 up, not yet allowed [default: never]",
-        ))?
-        .arg(option(
-            alloc,
-            "fail-mod",
-            "Loads of keys that this divides fail: 1 up, not yet allowed [default: none fails]",
-        ))?
-        .arg(option(
-            alloc,
-            "flights",
-            "Loads that a shard may have open: 1 to 4096 [default: 32]",
-        ))?
-        .arg(option(
-            alloc,
-            "ring",
-            "Steps that a shard may record: flights + 1 to 65536 [default: 64, or flights + 1]",
-        ))?
-        .arg(option(
-            alloc,
-            "threads",
-            "Threads that replay shard by shard: for now 0 [default: 0]",
-        ))?
-        .arg(option(
-            alloc,
-            "turn",
-            "Threads that replay turn by turn: for now 0 [default: 0]",
-        ))?
-        .arg(option(
-            alloc,
-            "workers",
-            "Threads that run loads: for now 0 [default: 0]",
-        ))?;
+    let mut command = Command::new(alloc, "wt_replay").about(
+        "Replays the trace on standard input on a cache, and writes what came of each line",
+    );
+    for (name, help) in OPTIONS {
+        command = command.arg(option(alloc, name, help))?;
+    }
     Ok(command)
 }
 
@@ -107,7 +104,7 @@ fn options_of(matches: &ArgMatches) -> Options {
         modulus: matches.get_one("mod").unwrap_or(default.modulus),
         write: matches.get_one("write"),
         access: matches.get_one("access"),
-        refresh: None,
+        refresh: matches.get_one("refresh"),
         fail_mod: matches.get_one("fail-mod"),
         flights: matches.get_one("flights").unwrap_or(default.flights),
         ring: matches.get_one("ring"),

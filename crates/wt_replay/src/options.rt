@@ -18,19 +18,19 @@ pub struct Options {
     pub shards: u64,
     /// How many entries a shard may hold: 1 to 65,536.
     pub entries: u64,
-    /// How many of them its window may hold: for now as many as `entries`. By default a hundredth of them.
+    /// How many of them its window may hold: 1 to `entries`. By default a hundredth of them.
     pub window: Option<u64>,
-    /// How much the entries of a shard may weigh together: for now 2^48.
+    /// How much the entries of a shard may weigh together: 1 to 2^48.
     pub weight: u64,
     /// The modulus m of weights, 1 to 1,000,000: a value of key k weighs 1 + k mod m.
     pub modulus: u64,
-    /// An entry expires so long after it was written: for now `None`.
+    /// An entry expires so long after it was written: 1 up.
     pub write: Option<u64>,
-    /// An entry expires so long after it was used: for now `None`.
+    /// An entry expires so long after it was used: 1 up.
     pub access: Option<u64>,
-    /// An entry is loaded again so long after it was written: for now `None`.
+    /// An entry is loaded again so long after it was written: 1 up.
     pub refresh: Option<u64>,
-    /// The load of a key that this divides fails: for now `None`.
+    /// The load of a key whose word this divides fails: 1 up.
     pub fail_mod: Option<u64>,
     /// How many loads a shard may have open: 1 to 4,096.
     pub flights: u64,
@@ -104,25 +104,25 @@ impl Options {
         if is_outside(1, 65536, self.entries) {
             return Some(Field::Entries);
         }
-        if is_outside(self.entries, self.entries, self.window()) {
+        if is_outside(1, self.entries, self.window()) {
             return Some(Field::Window);
         }
-        if is_outside(MOST_WEIGHT, MOST_WEIGHT, self.weight) {
+        if is_outside(1, MOST_WEIGHT, self.weight) {
             return Some(Field::Bound);
         }
         if is_outside(1, 1000000, self.modulus) {
             return Some(Field::Modulus);
         }
-        if self.write.is_some() {
+        if self.write == Some(0) {
             return Some(Field::AfterWrite);
         }
-        if self.access.is_some() {
+        if self.access == Some(0) {
             return Some(Field::AfterAccess);
         }
-        if self.refresh.is_some() {
+        if self.refresh == Some(0) {
             return Some(Field::Refresh);
         }
-        if self.fail_mod.is_some() {
+        if self.fail_mod == Some(0) {
             return Some(Field::FailMod);
         }
         self.later_fault()

@@ -1,45 +1,33 @@
 // The report of a trace, printed from what each shard answers.
-ghost use Rattle.std.specs.Prelude.{◌≡◌, ◌++◌, ◌+◌, ◌<◌, ◌≤◌, ◌^◌, All, IfOk, OnOk, string_bytes, length, None, map};
+ghost use Rattle.std.specs.Prelude.{◌≡◌, ◌++◌, ◌+◌, ◌<◌, ◌≤◌, ◌^◌, All, IfOk, IfSome, IsNone, OnOk, length, None, map, drop, true, false};
 ghost use Rattle.std.specs.List.{range_with_len};
 ghost use Rattle.wt_replay.specs.Keys.{keys_by};
 ghost use Rattle.wt_replay.specs.Options.{option_fault};
 ghost use Rattle.wt_replay.specs.Report as spec;
+ghost use Rattle.wt_replay.specs.Trace.{lines_of, is_header, trace_from};
 ghost use Rattle.wt_replay.specs.declared.fault.ReplayFault.{ReplayFault};
 
 use crate::answers::{Answers, shard_answers};
 use crate::fault::ReplayFault;
-use crate::key::TraceKey;
+use crate::key::{TraceKey, show_number};
+use crate::line::cut;
 use crate::options::Options;
 use crate::trace::{Lines, read_lines};
 use std::alloc::{AllocError, Global};
 use wt_core::Stats;
-use wt_keys::NoMemory;
+use wt_keys::{Name, NoMemory};
 
-// Appends the digits of a number.
-fn show_number(out: &mut Vec<u8>, digits: &mut String, n: u64) -> Result<(), AllocError>
-    ensures { OnOk result (out.new.items ≡ out.old.items ++ decimal n) }
-{
-    digits.clear();
-    write!(digits, "{n}")?;
-    out.extend_from_slice(digits.as_bytes())
-}
-
-ghost use Rattle.std.specs.Prelude.{decimal};
+// The first line of a trace whose keys are names. It counts as line 1.
+const HEADER: &[u8] = b"wt 2";
 
 // Appends line i of the report: its number, and what each shard adds to it.
 #[tactic(auto, unfolding(crate::specs::Report::line_text))]
-fn show_line(
-    out: &mut Vec<u8>,
-    digits: &mut String,
-    first: u64,
-    all: &[Answers],
-    i: usize,
-) -> Result<(), AllocError>
+fn show_line(out: &mut Vec<u8>, first: u64, all: &[Answers], i: usize) -> Result<(), AllocError>
     requires whole { All (λ a. i < length a.texts) all.now }
     requires fits { first + i < 2 ^ 64 }
     ensures { OnOk result (out.new.items ≡ out.old.items ++ spec.line_text first all.now i) }
 {
-    show_number(out, digits, first + i as u64)?;
+    show_number(out, first + i as u64)?;
     for answers in all {
         out.extend_from_slice(answers.text(i))?;
     }
@@ -78,27 +66,27 @@ fn totals(all: &[Answers]) -> Stats
 
 // Appends a label and a number.
 #[tactic(auto, unfolding(crate::specs::Report::count_text))]
-fn show_count(out: &mut Vec<u8>, digits: &mut String, label: &str, n: u64) -> Result<(), AllocError>
+fn show_count(out: &mut Vec<u8>, label: &str, n: u64) -> Result<(), AllocError>
     ensures { OnOk result (out.new.items ≡ out.old.items ++ spec.count_text label.now n) }
 {
     out.extend_from_slice(label.as_bytes())?;
-    show_number(out, digits, n)
+    show_number(out, n)
 }
 
 // Appends the summary.
-fn show_summary(out: &mut Vec<u8>, digits: &mut String, all: &[Answers]) -> Result<(), AllocError>
+fn show_summary(out: &mut Vec<u8>, all: &[Answers]) -> Result<(), AllocError>
     requires { length all.now ≤ 4 }
     ensures { OnOk result (out.new.items ≡ out.old.items ++ spec.summary all.now) }
 {
     let sum = totals(all);
-    show_count(out, digits, "lookups ", sum.lookups)?;
-    show_count(out, digits, " hits ", sum.hits)?;
-    show_count(out, digits, " misses ", sum.misses)?;
-    show_count(out, digits, " loads ", sum.loads)?;
-    show_count(out, digits, " failed ", sum.failed)?;
-    show_count(out, digits, " evicted ", sum.evicted)?;
-    show_count(out, digits, " entries ", sum.entries)?;
-    show_count(out, digits, " weight ", sum.weight)?;
+    show_count(out, "lookups ", sum.lookups)?;
+    show_count(out, " hits ", sum.hits)?;
+    show_count(out, " misses ", sum.misses)?;
+    show_count(out, " loads ", sum.loads)?;
+    show_count(out, " failed ", sum.failed)?;
+    show_count(out, " evicted ", sum.evicted)?;
+    show_count(out, " entries ", sum.entries)?;
+    show_count(out, " weight ", sum.weight)?;
     out.push(b'\n')?;
     Ok(())
 }
@@ -118,12 +106,11 @@ pub fn print(
     ensures { IfOk result (λ out. out.items ≡ spec.printed first count complete all.now) }
 {
     let mut out = Vec::new(alloc);
-    let mut digits = String::new(alloc);
     for i in 0..count {
-        show_line(&mut out, &mut digits, first, all, i)?;
+        show_line(&mut out, first, all, i)?;
     }
     if complete {
-        show_summary(&mut out, &mut digits, all)?;
+        show_summary(&mut out, all)?;
     }
     Ok(out)
 }
@@ -150,8 +137,36 @@ fn report_of<K: TraceKey>(
     Ok((text, verdict))
 }
 
+// The report of a trace whose first line is line `first`, whatever its keys are.
+fn report_by<K: TraceKey>(
+    alloc: Global,
+    options: &Options,
+    first: u64,
+    bytes: &[u8],
+) -> Result<(Vec<u8>, Result<(), ReplayFault>), NoMemory>
+    requires options { option_fault options.now ≡ None }
+    requires first { first ≤ 1000001 }
+    ensures text { IfOk result (λ r. r.0.items ≡ (spec.report_of (keys_by K.eq K.word K.read K.shown) options.now first (trace_from K.read first (lines_of bytes.now))).text) }
+    ensures verdict { IfOk result (λ r. r.1 ≡ (trace_from K.read first (lines_of bytes.now)).verdict) }
+    ensures kind { IfOk result (λ r. spec.IsVerdict r.1) }
+{
+    let read = read_lines::<K>(alloc, first, bytes)?;
+    let report = report_of(alloc, options, first, read)?;
+    Ok(report)
+}
+
+// What stands behind a header, where the first line is one.
+#[tactic(auto, using(crate::proofs::Reports::header_first, crate::proofs::Reports::behind_first))]
+fn behind_header(bytes: &[u8]) -> Option<&[u8]>
+    ensures some { IfSome result (λ rest. (is_header (lines_of bytes.now) ≡ true) × (drop 1 (lines_of bytes.now) ≡ lines_of rest.now)) }
+    ensures none { IsNone result → is_header (lines_of bytes.now) ≡ false }
+{
+    let (first, rest) = cut(bytes, b'\n');
+    if first == HEADER { Some(rest) } else { None }
+}
+
 /// Returns the report of the bytes of a trace, and the verdict: what is wrong with the first faulty line, if
-/// there is one.
+/// there is one. Where the first line is `wt 2` the keys are names, else numbers.
 pub fn report(
     alloc: Global,
     bytes: &[u8],
@@ -162,7 +177,10 @@ pub fn report(
     ensures verdict { IfOk result (λ r. r.1 ≡ (spec.report options.now bytes.now).verdict) }
     ensures kind { IfOk result (λ r. spec.IsVerdict r.1) }
 {
-    let read = read_lines::<u64>(alloc, 1, bytes)?;
-    let report = report_of(alloc, options, 1, read)?;
-    Ok(report)
+    let Some(rest) = behind_header(bytes) else {
+        let numbered = report_by::<u64>(alloc, options, 1, bytes)?;
+        return Ok(numbered);
+    };
+    let named = report_by::<Name>(alloc, options, 2, rest)?;
+    Ok(named)
 }

@@ -122,133 +122,285 @@ fn a_report_is_written_for_each_trace(rt: HostRuntime) {
     }
 }
 
+// Four entries, one of them in window.
+fn four() -> Options {
+    Options {
+        entries: 4,
+        window: Some(1),
+        weight: 1000,
+        ..Options::default()
+    }
+}
+
+#[test]
+fn each_letter_prints_what_it_met(rt: HostRuntime) {
+    let rows: [(Options, &[u8], &[u8]); 8] = [
+        (
+            four(),
+            b"0 G 1\n0 G 2\n0 G 3\n0 G 4\n0 G 1\n0 G 5\n0 G 4\n0 G 6\n",
+            b"1 load\n2 load\n3 load\n4 load\n5 hit 1\n6 load 4:4:size\n7 load 5:6:size\n8 load 2:2:size\nlookups 8 hits 1 misses 7 loads 7 failed 0 evicted 3 entries 4 weight 4\n",
+        ),
+        (
+            four(),
+            b"0 S 1\n0 S 1\n0 F 1\n0 S 1\n0 E 1\n0 L 1\n0 E 1\n0 L 1\n",
+            b"1 lead 1\n2 join 1\n3 forget\n4 lead 2\n5 loose 2\n6 absent\n7 land 1\n8 hit 7\nlookups 5 hits 1 misses 4 loads 2 failed 0 evicted 0 entries 1 weight 1\n",
+        ),
+        (
+            Options {
+                flights: 1,
+                ..four()
+            },
+            b"0 S 1\n0 S 2\n0 G 1\n0 E 1\n0 E 1\n",
+            b"1 lead 1\n2 full\n3 join 1\n4 land 2\n5 none\nlookups 2 hits 0 misses 2 loads 1 failed 0 evicted 0 entries 1 weight 1\n",
+        ),
+        (
+            Options {
+                write: Some(100),
+                ..four()
+            },
+            b"0 P 1\n0 P 2\n0 P 3\n0 P 4\n100 P 5\n150 P 6\n150 C\n",
+            b"1 put\n2 put\n3 put\n4 put\n5 put 4:4:expired\n6 put 1:1:expired\n7 clean 2:2:expired 3:3:expired\nlookups 0 hits 0 misses 0 loads 0 failed 0 evicted 4 entries 2 weight 2\n",
+        ),
+        (
+            Options {
+                fail_mod: Some(3),
+                ..four()
+            },
+            b"0 S 3\n0 S 3\n0 E 3\n0 E 3\n",
+            b"1 lead 1\n2 join 1\n3 fail 7\n4 none\nlookups 2 hits 0 misses 2 loads 0 failed 1 evicted 0 entries 0 weight 0\n",
+        ),
+        (
+            Options {
+                refresh: Some(50),
+                ..four()
+            },
+            b"0 P 1\n49 G 1\n50 G 1\n51 G 1\n",
+            b"1 put\n2 hit 1\n3 hit 1 load 1:1:replaced\n4 hit 3\nlookups 3 hits 3 misses 0 loads 1 failed 0 evicted 0 entries 1 weight 1\n",
+        ),
+        (
+            Options {
+                weight: 5,
+                modulus: 10,
+                ..four()
+            },
+            b"0 P 9\n0 P 3\n0 P 2\n0 G 9\n",
+            b"1 heavy\n2 put\n3 put 3:2:size\n4 loose 1\nlookups 1 hits 0 misses 1 loads 1 failed 0 evicted 1 entries 1 weight 3\n",
+        ),
+        (
+            four(),
+            b"wt 2\n0 P foobar\n0 L foobar\n0 D foobar\n0 X\n",
+            b"2 put\n3 hit 2\n4 drop foobar:2:explicit\n5 clear\nlookups 1 hits 1 misses 0 loads 0 failed 0 evicted 0 entries 0 weight 0\n",
+        ),
+    ];
+    for (options, input, report) in rows {
+        let (text, ended) = replayed(rt.alloc(), input, &options);
+        assert_eq!(rt; text.as_slice(), report);
+        assert_eq!(rt; ended, Ok(()));
+    }
+}
+
 #[test]
 fn an_option_out_of_its_range_is_named_and_nothing_is_read(rt: HostRuntime) {
     let rows = [
-        (Options::default(), Some(Field::Window)),
+        (Options::default(), None),
         (of(0), Some(Field::Entries)),
         (of(1), None),
         (of(65536), None),
         (of(65537), Some(Field::Entries)),
-        (Options { shards: 0, ..of(4) }, Some(Field::Shards)),
         (
             Options {
-                window: Some(5),
-                ..of(4)
+                shards: 0,
+                ..four()
+            },
+            Some(Field::Shards),
+        ),
+        (
+            Options {
+                shards: 2,
+                ..four()
+            },
+            Some(Field::Shards),
+        ),
+        (
+            Options {
+                window: Some(0),
+                ..four()
             },
             Some(Field::Window),
         ),
-        (Options { weight: 1, ..of(4) }, Some(Field::Bound)),
+        (
+            Options {
+                window: Some(4),
+                ..four()
+            },
+            None,
+        ),
+        (
+            Options {
+                window: Some(5),
+                ..four()
+            },
+            Some(Field::Window),
+        ),
+        (
+            Options {
+                weight: 0,
+                ..four()
+            },
+            Some(Field::Bound),
+        ),
+        (
+            Options {
+                weight: 1 << 48,
+                ..four()
+            },
+            None,
+        ),
+        (
+            Options {
+                weight: (1 << 48) + 1,
+                ..four()
+            },
+            Some(Field::Bound),
+        ),
         (
             Options {
                 modulus: 0,
-                ..of(4)
+                ..four()
             },
             Some(Field::Modulus),
         ),
         (
             Options {
                 modulus: 1000000,
-                ..of(4)
+                ..four()
             },
             None,
         ),
         (
             Options {
                 modulus: 1000001,
-                ..of(4)
+                ..four()
             },
             Some(Field::Modulus),
         ),
         (
             Options {
-                write: Some(1),
-                ..of(4)
+                write: Some(0),
+                ..four()
             },
             Some(Field::AfterWrite),
         ),
         (
             Options {
-                access: Some(1),
-                ..of(4)
+                write: Some(1),
+                ..four()
+            },
+            None,
+        ),
+        (
+            Options {
+                access: Some(0),
+                ..four()
             },
             Some(Field::AfterAccess),
         ),
         (
             Options {
-                refresh: Some(1),
-                ..of(4)
+                access: Some(u64::MAX),
+                ..four()
+            },
+            None,
+        ),
+        (
+            Options {
+                refresh: Some(0),
+                ..four()
             },
             Some(Field::Refresh),
         ),
         (
             Options {
-                fail_mod: Some(1),
-                ..of(4)
+                refresh: Some(1),
+                ..four()
+            },
+            None,
+        ),
+        (
+            Options {
+                fail_mod: Some(0),
+                ..four()
             },
             Some(Field::FailMod),
         ),
         (
             Options {
+                fail_mod: Some(1),
+                ..four()
+            },
+            None,
+        ),
+        (
+            Options {
                 flights: 0,
-                ..of(4)
+                ..four()
             },
             Some(Field::Flights),
         ),
         (
             Options {
                 flights: 4096,
-                ..of(4)
+                ..four()
             },
             None,
         ),
         (
             Options {
                 flights: 4097,
-                ..of(4)
+                ..four()
             },
             Some(Field::Flights),
         ),
         (
             Options {
                 ring: Some(32),
-                ..of(4)
+                ..four()
             },
             Some(Field::Ring),
         ),
         (
             Options {
                 ring: Some(33),
-                ..of(4)
+                ..four()
             },
             None,
         ),
         (
             Options {
                 ring: Some(65536),
-                ..of(4)
+                ..four()
             },
             None,
         ),
         (
             Options {
                 ring: Some(65537),
-                ..of(4)
+                ..four()
             },
             Some(Field::Ring),
         ),
         (
             Options {
                 threads: 1,
-                ..of(4)
+                ..four()
             },
             Some(Field::Threads),
         ),
-        (Options { turn: 1, ..of(4) }, Some(Field::Turn)),
+        (Options { turn: 1, ..four() }, Some(Field::Turn)),
         (
             Options {
                 workers: 1,
-                ..of(4)
+                ..four()
             },
             Some(Field::Workers),
         ),

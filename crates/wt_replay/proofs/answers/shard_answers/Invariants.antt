@@ -1,4 +1,4 @@
-use Rattle.std.proofs.Common.{◌≡◌, ◌+◌, ◌≤◌, length, string_bytes}
+use Rattle.std.proofs.Common.{◌≡◌, ◌+◌, ◌≤◌, length}
 use Rattle.wt_core.specs.State.{opening}
 use Rattle.wt_replay.specs.Answers.{answers_from}
 use Rattle.wt_replay.specs.Keys.{keys_by}
@@ -10,8 +10,9 @@ abbrev pub invariant-loop-line : goal.invariant-loop-line
 invariant-loop-line g l =
     let keys = keys_by g.K.PartialEq.eq g.K.CacheKey.word g.K.TraceKey.read g.K.TraceKey.shown in
     record {
-      far : IsSoFar keys l.options l.shard (answers_from keys l.options l.shard l.fn.first l.fn.lines (opening (config_of l.options))) (string_bytes l.text) l.ends.items l.n l.rest l.core;
-      room : l.core.caps.entries ≤ l.notices.room + length l.notices.list;
+      far : IsSoFar keys l.options l.shard (answers_from keys l.options l.shard l.fn.first l.fn.lines (opening (config_of l.options))) l.text.items l.ends.items l.n l.rest l.core;
+      room : l.core.regions.caps.entries ≤ l.notices.room + length l.notices.list;
+      later : l.core.regions.caps.entries ≤ l.later.room + length l.later.list;
       numbers : l.n + length l.rest ≡ l.fn.first + length l.fn.lines;
     }
 

@@ -1,4 +1,4 @@
-use Rattle.std.proofs.Common.{◌≡◌, ◌++◌, take, string_bytes}
+use Rattle.std.proofs.Common.{◌≡◌, ◌++◌, take}
 use Rattle.std.specs.List.{flat_map}
 use Rattle.wt_replay.specs.Answers.{notice_text}
 use Rattle.wt_replay.specs.Keys.{keys_by}
@@ -6,5 +6,5 @@ use Rattle.wt_replay.proofs.answers.show_notices.Given as goal
 
 abbrev pub invariant-loop-notice : goal.invariant-loop-notice
 invariant-loop-notice g l =
-    string_bytes l.out ≡ string_bytes l.initial.out
+    l.out.items ≡ l.initial.out.items
     ++ flat_map (notice_text (keys_by g.K.PartialEq.eq g.K.CacheKey.word g.K.TraceKey.read g.K.TraceKey.shown)) (take l.notice-index l.notices)

@@ -1,4 +1,4 @@
-use Rattle.std.proofs.Common.{ap, sym, arith, length, string_bytes}
+use Rattle.std.proofs.Common.{ap, sym, arith, length}
 use Rattle.wt_replay.specs.Answers.{Answers}
 use Rattle.wt_replay.proofs.Ends.{length-pieces}
 use Rattle.wt_replay.proofs.answers.Answers.text.Goals as goal
@@ -6,5 +6,5 @@ use Rattle.wt_replay.proofs.answers.Answers.text.Goals as goal
 pub piece-requires-clause-within : goal.piece-requires-clause-within
 piece-requires-clause-within c =
     let texts = ap (λ (a : Answers). length a.texts) (sym c.self.view_is) in
-    let ends = length-pieces (string_bytes c.self.inside.text) 0 c.self.inside.ends.items in
-    omega (arith, c.requires, texts, ends, c.deref.ensures.len, ap length c.deref.ensures.value)
+    let ends = length-pieces (c.self.inside.text.items) 0 c.self.inside.ends.items in
+    omega (arith, c.requires, texts, ends, c.deref-2.ensures.len, ap length c.deref-2.ensures.value)
