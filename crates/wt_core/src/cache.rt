@@ -161,7 +161,7 @@ impl<K: CacheKey, V: Share + Weighs> Core<K, V> {
     pub fn is_empty(&self) -> bool
         ensures { result ≡ (length (all_entries self.now.regions) == 0) }
     {
-        self.regions.len() == 0
+        self.len() == 0
     }
 
     /// Returns what the entries weigh together: at most the bound. Takes no memory. O(1).
