@@ -1,10 +1,11 @@
 // What the tests share: a value, a cache with its notices, and what is seen of a reply.
 mod beside_lists;
+mod configurations;
 mod examples;
 mod plain;
 mod refusals;
 
-use crate::{Call, Cause, Config, Core, Notices, Reply, Weighs};
+use crate::{Call, Cause, Config, Core, Land, Notices, Reply, Weighs};
 use std::alloc::Global;
 use std::marker::Model;
 use std::process::Abort;
@@ -51,7 +52,7 @@ enum Said {
     Refused(Fault),
 }
 
-fn said(reply: Reply<Loaded>) -> Said {
+fn comparable(reply: Reply<Loaded>) -> Said {
     match reply {
         Reply::Hit(value) => Said::Hit(value),
         Reply::Absent => Said::Absent,
@@ -102,24 +103,33 @@ impl<V: Share + Weighs> Run<V> {
     }
 }
 
-impl Run<Loaded> {
-    // Makes the call, and asserts what it answers and tells: key, version and cause.
-    fn expect(
-        &mut self,
-        rt: &impl Abort,
-        call: Call<u64, Loaded>,
-        answer: Said,
-        told: &[(u64, u64, Cause)],
-    ) -> Result<(), NoMemory> {
-        assert_eq!(rt; said(self.make(call)?), answer);
-        let list = self.notices.list();
-        assert_eq!(rt; list.len(), told.len());
-        for (notice, (key, version, cause)) in list.iter().zip(told) {
-            assert_eq!(rt; notice.key, *key);
-            assert_eq!(rt; notice.value.version, *version);
-            assert_eq!(rt; notice.cause, *cause);
-        }
-        Ok(())
+// What is done to a key, as a row of a table has it; a landing with its id.
+#[derive(Clone, Copy)]
+enum Do {
+    Look,
+    Seek,
+    Keep(u64, Loaded),
+    Loose(u64),
+    Fail(u64),
+    Put(Loaded),
+    DropKey,
+    Clear,
+    Forget,
+    Clean,
+}
+
+fn call_of(act: Do, key: u64, now: u64) -> Call<u64, Loaded> {
+    match act {
+        Do::Look => Call::Look(key, now),
+        Do::Seek => Call::Seek(key, now),
+        Do::Keep(id, value) => Call::Land(id, key, Land::Keep(value), now),
+        Do::Loose(id) => Call::Land(id, key, Land::Loose, now),
+        Do::Fail(id) => Call::Land(id, key, Land::Failed, now),
+        Do::Put(value) => Call::Put(key, value, now),
+        Do::DropKey => Call::DropKey(key, now),
+        Do::Clear => Call::Clear(now),
+        Do::Forget => Call::Forget(key, now),
+        Do::Clean => Call::Clean(now),
     }
 }
 
