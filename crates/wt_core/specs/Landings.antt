@@ -1,5 +1,4 @@
 -- Landings, by whether they bring a value.
-use Rattle.std.specs.Prelude.{ℕ}
 use Rattle.wt_core.specs.declared.kinds.Land.{Land}
 use Rattle.wt_core.specs.declared.kinds.Land.TheVariants.{Keep, Loose, Failed}
 

@@ -1,8 +1,8 @@
 -- Worked examples of the program, computed by the definitions alone.
 use Rattle.std.proofs.Common.{◌≡◌, ℕ, List, [], ◌∷◌, ◌++◌, Some, None, Ok, Err, codes, map, refl}
-use Rattle.std.specs.Prelude.{replicate, Option}
+use Rattle.std.specs.Prelude.{replicate}
 use Rattle.std.specs.Fmt.{digits}
-use Rattle.wt_keys.specs.declared.fault.Fault.TheVariants.{NoMemory, BadConfig, TooHeavy}
+use Rattle.wt_keys.specs.declared.fault.Fault.TheVariants.{NoMemory, BadConfig}
 use Rattle.wt_keys.specs.declared.fault.Field.TheVariants as field
 use Rattle.wt_keys.specs.Hash.{bits_for, bits_from}
 use Rattle.wt_sketch.specs.Sketch.{counted, counted_word, estimate_of}

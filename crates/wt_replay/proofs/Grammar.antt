@@ -1,15 +1,13 @@
 -- What is read is a line, and a line is read.
-use Rattle.std.proofs.Common.{◌≡◌, ℕ, ◌+◌, ◌<◌, ◌≤◌, ◌^◌, ◌==◌, ◌&&◌, ◌++◌, List, [], ◌∷◌, length, take, drop, suc, Option, Some, None, Bool, true, false, cond, not, nat_lt, nat_le, arith, rules, sym, refl, ap, ◌∙◌, ◌⊎◌, inl, inr, subst, append_assoc, length-append}
-use Rattle.std.specs.Prelude.{option_and_then}
+use Rattle.std.proofs.Common.{◌≡◌, ℕ, ◌+◌, ◌<◌, ◌==◌, ◌++◌, List, [], ◌∷◌, length, take, drop, suc, Option, Some, None, Bool, true, false, cond, not, arith, rules, sym, refl, ap, ◌∙◌, ◌⊎◌, inl, inr, subst, append_assoc, length-append}
 use Rattle.std.proofs.lemmas.Option.{cond_some, option_and_then_some}
 use Rattle.std.proofs.lemmas.List.{take_at, drop_at}
 use Rattle.std.proofs.lemmas.Bool.Decides.{nat_tests}
 use Rattle.std.proofs.lemmas.Str.Parse.{tells_all_ascii_digits}
 use Rattle.std.specs.Option.{option_map}
-use Rattle.std.specs.List.{before_first, after_first, position_or_len, find, AllByRecursion}
+use Rattle.std.specs.List.{before_first, after_first, position_or_len, AllByRecursion}
 use Rattle.std.specs.Str.{all_ascii_digits}
-use Rattle.std.specs.List.{list_all}
-use Rattle.wt_replay.specs.Keys.{IsNumber, number_of, IsName, name_of, is_name_byte}
+use Rattle.wt_replay.specs.Keys.{IsNumber, number_of, IsName, name_of}
 use Rattle.wt_replay.specs.Line.{IsAsked, IsLine, letter_of, key_of, lettered, keyed, act_of, line_of, ReadsKeys, ReadsLines}
 use Rattle.wt_replay.specs.declared.line.Line.{Line}
 use Rattle.wt_replay.specs.declared.line.Act.{Act}

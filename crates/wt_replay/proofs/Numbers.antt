@@ -23,12 +23,6 @@ one_more ds i n lt all is range =
 pub too_large : (ds : List ℕ) (i m : ℕ) → m ≤ digits_value 10 (take i ds) → m ≤ digits_value 10 ds
 too_large ds i m h = omega (arith, digits_value-take-le 10 ds i (omega arith))
 
-not_digits : (ds : List ℕ) → (AllDigits 10 ds → ⊥) → all_ascii_digits ds ≡ false
-not_digits ds h = elim (all_ascii_digits ds) as (λ b. all_ascii_digits ds ≡ b → b ≡ false) [
-  | true ↦ λ e. absurd (h (own.to ds e))
-  | false ↦ λ _. refl
-] refl
-
 -- the number from the value
 pub number_some : (ds : List ℕ) (n : ℕ) → 0 < length ds → length ds ≤ 20 → AllDigits 10 ds → n ≡ digits_value 10 ds → n < 2 ^ 64 → number_of ds ≡ Some n
 number_some ds n some few all is fits = let e = own.from ds all in grind (arith, nat_tests)

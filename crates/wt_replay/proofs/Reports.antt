@@ -1,10 +1,10 @@
 -- The report of a trace, by whether its first line is a header.
-use Rattle.std.proofs.Common.{◌≡◌, ℕ, ◌==◌, List, [], ◌∷◌, drop, Bool, true, false, codes, refl, ap, ◌∙◌, arith}
+use Rattle.std.proofs.Common.{◌≡◌, ℕ, ◌==◌, List, [], ◌∷◌, drop, true, false, codes, refl, ap, ◌∙◌, arith}
 use Rattle.std.specs.Prelude.{nat_eq}
 use Rattle.std.specs.List.{before_first, after_first}
 use Rattle.std.specs.Cmp.Lexicographic.{pointwise}
 use Rattle.wt_replay.specs.Keys.{names, numbers, name_of, number_of}
-use Rattle.wt_replay.specs.Report.{Report, report, report_by, report_of}
+use Rattle.wt_replay.specs.Report.{report, report_by, report_of}
 use Rattle.wt_replay.specs.Trace.{lines_of, is_header, trace_from}
 use Rattle.wt_replay.specs.declared.options.Options.{Options}
 use Rattle.wt_replay.proofs.Traces.{lines_of-first}
