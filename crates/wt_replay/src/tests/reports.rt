@@ -88,7 +88,18 @@ fn each_letter_prints_what_it_met(rt: HostRuntime) {
 
 #[test]
 fn durations_weights_and_failures_are_the_options(rt: HostRuntime) {
-    let rows: [(Options, &[u8], &[u8]); 4] = [
+    let rows: [(Options, &[u8], &[u8]); 5] = [
+        (
+            Options {
+                weight: 8,
+                modulus: 10,
+                write: Some(100),
+                refresh: Some(50),
+                ..four()
+            },
+            b"0 S 1\n1 S 1\n9 E 1\n10 L 1\n20 P 9\n60 S 1\n70 E 1\n170 G 1\n",
+            b"1 lead 1\n2 join 1\n3 land 2\n4 hit 3\n5 heavy\n6 hit 3 lead 2\n7 land 1 1:3:replaced\n8 load 1:7:expired\nlookups 5 hits 2 misses 3 loads 3 failed 0 evicted 1 entries 1 weight 2\n",
+        ),
         (
             four_but(Field::AfterWrite, 100),
             b"0 P 1\n0 P 2\n0 P 3\n0 P 4\n100 P 5\n150 P 6\n150 C\n",
