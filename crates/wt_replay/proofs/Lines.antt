@@ -48,6 +48,12 @@ module _ {K : Type 0} (keys : Keys K) (o : Options) (shard : ℕ) (all : Answers
   no_line [] s none far = λ i. record { texts = (sym (append-nil (pieces text 0 ends)) ∙ far.texts) i; stats = far.stats i }
   no_line (line ∷ after) s none far = absurd (omega arith)
 
+-- a new shard answers all of the lines
+module _ {K : Type 0} (keys : Keys K) (o : Options) where
+  pub answers-all : (n : ℕ) (ls : List (Line K)) (shard : ℕ) → answers_from keys o shard n ls (opening (config_of o)) ≡ answers keys o n ls shard
+  unfolding answers
+  answers-all n ls shard = refl
+
 -- a shard adds a text to each line, an empty one to that of another
 module _ {K : Type 0} (keys : Keys K) (o : Options) where
   length-answers_from : (shard n : ℕ) (ls : List (Line K)) (s : State K (Version K)) → length (answers_from keys o shard n ls s).texts ≡ length ls

@@ -8,10 +8,12 @@ mod line;
 mod options;
 mod replay;
 mod report;
+mod shard;
 mod tallied;
 #[cfg(test)]
 mod tests;
 mod trace;
+mod words;
 
 use clap::{Arg, ArgAction, ArgMatches, Command, value_parser};
 use fault::ReplayFault;

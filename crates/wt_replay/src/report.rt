@@ -7,11 +7,12 @@ ghost use Rattle.wt_replay.specs.Report as spec;
 ghost use Rattle.wt_replay.specs.Trace.{lines_of, is_header, trace_from};
 ghost use Rattle.wt_replay.specs.declared.fault.ReplayFault.{ReplayFault};
 
-use crate::answers::{Answers, shard_answers};
+use crate::answers::Answers;
 use crate::fault::ReplayFault;
 use crate::key::{TraceKey, show_number};
 use crate::line::cut;
 use crate::options::Options;
+use crate::shard::shard_answers;
 use crate::trace::{Lines, read_lines};
 use std::alloc::{AllocError, Global};
 use wt_core::Stats;

@@ -2,7 +2,7 @@ use Rattle.std.proofs.Common.{◌≡◌, ◌++◌, take}
 use Rattle.std.specs.List.{flat_map}
 use Rattle.wt_replay.specs.Answers.{notice_text}
 use Rattle.wt_replay.specs.Keys.{keys_by}
-use Rattle.wt_replay.proofs.answers.show_notices.Given as goal
+use Rattle.wt_replay.proofs.words.show_notices.Given as goal
 
 abbrev pub invariant-loop-notice : goal.invariant-loop-notice
 invariant-loop-notice g l =

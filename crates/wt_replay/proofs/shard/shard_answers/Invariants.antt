@@ -1,18 +1,18 @@
-use Rattle.std.proofs.Common.{◌≡◌, ◌+◌, ◌≤◌, length}
+use Rattle.std.proofs.Common.{◌≡◌, ◌+◌, length}
 use Rattle.wt_core.specs.State.{opening}
 use Rattle.wt_replay.specs.Answers.{answers_from}
 use Rattle.wt_replay.specs.Keys.{keys_by}
 use Rattle.wt_replay.specs.Options.{config_of}
 use Rattle.wt_replay.proofs.Lines.{IsSoFar}
-use Rattle.wt_replay.proofs.answers.shard_answers.Given as goal
+use Rattle.wt_replay.proofs.shard.shard_answers.Given as goal
 
 abbrev pub invariant-loop-line : goal.invariant-loop-line
 invariant-loop-line g l =
     let keys = keys_by g.K.PartialEq.eq g.K.CacheKey.word g.K.TraceKey.read g.K.TraceKey.shown in
     record {
-      far : IsSoFar keys l.options l.shard (answers_from keys l.options l.shard l.fn.first l.fn.lines (opening (config_of l.options))) l.text.items l.ends.items l.n l.rest l.core;
-      room : l.core.regions.caps.entries ≤ l.notices.room + length l.notices.list;
-      later : l.core.regions.caps.entries ≤ l.later.room + length l.later.list;
+      far : IsSoFar keys l.options l.number (answers_from keys l.options l.number l.fn.first l.fn.lines (opening (config_of l.options))) l.shard.text l.ends.items l.n l.rest l.shard.state;
+      options : l.shard.options ≡ l.options;
+      number : l.shard.shard ≡ l.number;
       numbers : l.n + length l.rest ≡ l.fn.first + length l.fn.lines;
     }
 
