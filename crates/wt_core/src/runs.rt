@@ -10,6 +10,17 @@ use std::alloc::Global;
 use wt_keys::{CacheKey, Fault, NoMemory, Share};
 use wt_regions::{Notices, Weighs};
 
+// A refusal by the state is an answer; only refused memory stays an error.
+macro_rules! answer_of {
+    ($outcome:expr, $made:pat => $reply:expr) => {
+        match $outcome {
+            Ok($made) => Ok($reply),
+            Err(Fault::NoMemory) => Err(NoMemory),
+            Err(fault) => Ok(Reply::Refused(fault)),
+        }
+    };
+}
+
 impl<K: CacheKey, V: Share + Weighs> Core<K, V> {
     /// Makes the call, whose refusal by the state is its answer `Refused` and no step.
     ///
@@ -32,42 +43,22 @@ impl<K: CacheKey, V: Share + Weighs> Core<K, V> {
         ensures err { OnErr result ((self.new ≡ self.old) × (notices.new ≡ notices.old)) }
     {
         match call {
-            Call::Look(key, now) => match self.look(key, now, notices) {
-                Ok(reply) => Ok(reply),
-                Err(Fault::NoMemory) => Err(NoMemory),
-                Err(fault) => Ok(Reply::Refused(fault)),
-            },
-            Call::Seek(key, now) => match self.seek(key, now, notices) {
-                Ok(reply) => Ok(reply),
-                Err(Fault::NoMemory) => Err(NoMemory),
-                Err(fault) => Ok(Reply::Refused(fault)),
-            },
-            Call::Land(id, key, what, now) => match self.land(id, key, what, now, notices) {
-                Ok(reply) => Ok(reply),
-                Err(Fault::NoMemory) => Err(NoMemory),
-                Err(fault) => Ok(Reply::Refused(fault)),
-            },
-            Call::Put(key, value, now) => match self.put(key, value, now, notices) {
-                Ok(()) => Ok(Reply::Stored),
-                Err(Fault::NoMemory) => Err(NoMemory),
-                Err(fault) => Ok(Reply::Refused(fault)),
-            },
-            Call::DropKey(key, now) => match self.drop_key(key, now, notices) {
-                Ok(left) => Ok(Reply::Dropped(left)),
-                Err(fault) => Ok(Reply::Refused(fault)),
-            },
-            Call::Clear(now) => match self.clear(now, notices) {
-                Ok(()) => Ok(Reply::Cleared),
-                Err(fault) => Ok(Reply::Refused(fault)),
-            },
-            Call::Forget(key, now) => match self.forget(key, now, notices) {
-                Ok(was) => Ok(Reply::Forgot(was)),
-                Err(fault) => Ok(Reply::Refused(fault)),
-            },
-            Call::Clean(now) => match self.clean(now, notices) {
-                Ok(()) => Ok(Reply::Cleaned),
-                Err(fault) => Ok(Reply::Refused(fault)),
-            },
+            Call::Look(key, now) => answer_of!(self.look(key, now, notices), reply => reply),
+            Call::Seek(key, now) => answer_of!(self.seek(key, now, notices), reply => reply),
+            Call::Land(id, key, what, now) => {
+                answer_of!(self.land(id, key, what, now, notices), reply => reply)
+            }
+            Call::Put(key, value, now) => {
+                answer_of!(self.put(key, value, now, notices), () => Reply::Stored)
+            }
+            Call::DropKey(key, now) => {
+                answer_of!(self.drop_key(key, now, notices), left => Reply::Dropped(left))
+            }
+            Call::Clear(now) => answer_of!(self.clear(now, notices), () => Reply::Cleared),
+            Call::Forget(key, now) => {
+                answer_of!(self.forget(key, now, notices), was => Reply::Forgot(was))
+            }
+            Call::Clean(now) => answer_of!(self.clean(now, notices), () => Reply::Cleaned),
         }
     }
 }

@@ -3,7 +3,8 @@ use Rattle.std.proofs.Common.{◌≡◌, ◌≢◌, ℕ, refl}
 use Rattle.wt_core.specs.declared.kinds.Reply.{Reply}
 use Rattle.wt_core.specs.declared.kinds.Reply.TheVariants as reply
 use Rattle.wt_core.specs.State.{Made}
-use Rattle.wt_replay.specs.Answers.{words_of, shown, fetched}
+use Rattle.wt_replay.specs.Answers.{shown, fetched}
+use Rattle.wt_replay.specs.Words.{words_of}
 use Rattle.wt_replay.specs.Keys.{Keys}
 use Rattle.wt_replay.specs.declared.line.Version.{Version}
 use Rattle.wt_replay.specs.declared.options.Options.{Options}

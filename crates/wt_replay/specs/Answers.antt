@@ -1,11 +1,8 @@
 -- What one shard answers to the lines of a trace.
-use Rattle.std.specs.Prelude.{ℕ, ◌+◌, ◌%◌, ◌==◌, Bool, true, false, if◌then◌else◌, List, [], ◌∷◌, ◌++◌, codes, decimal}
+use Rattle.std.specs.Prelude.{ℕ, ◌+◌, ◌%◌, ◌==◌, Bool, true, false, if◌then◌else◌, List, [], ◌∷◌, ◌++◌, codes}
 use Rattle.std.specs.List.{flat_map}
 use Rattle.std.specs.Option.{option_map_or}
 use Rattle.wt_keys.specs.Hash.{shard_of}
-use Rattle.wt_keys.specs.declared.fault.Fault.TheVariants.{TooHeavy, TooManyFlights}
-use Rattle.wt_regions.specs.declared.kinds.Cause.{Cause}
-use Rattle.wt_regions.specs.declared.kinds.Cause.TheVariants.{Explicit, Replaced, Expired, Size}
 use Rattle.wt_regions.specs.declared.kinds.Notice.{Notice}
 use Rattle.wt_flights.specs.Rows.{first_of}
 use Rattle.wt_core.specs.declared.kinds.Call.{Call}
@@ -24,45 +21,13 @@ use Rattle.wt_replay.specs.declared.options.Options.{Options}
 use Rattle.wt_replay.specs.declared.line.Version.{Version}
 use Rattle.wt_replay.specs.Keys.{Keys}
 use Rattle.wt_replay.specs.Line.{key_of}
+use Rattle.wt_replay.specs.Words.{words_of, loaded_words, notice_text}
 use Rattle.wt_replay.specs.Options.{config_of}
 
 -- what a shard answers: the text that it adds to each line, of another shard's line nothing, and its numbers at the end
 pub record Answers : Type 0 where
   pub texts : List (List ℕ)
   pub stats : Stats
-
--- the name of a cause
-abbrev pub cause_name : Cause → List ℕ
-cause_name Explicit = codes "explicit"
-cause_name Replaced = codes "replaced"
-cause_name Expired = codes "expired"
-cause_name Size = codes "size"
-
-module _ {K : Type 0} where
-  -- the words of a reply; for a step at every shard the first shard speaks
-  abbrev pub words_of : ℕ → Reply (Version K) → List ℕ
-  words_of shard (reply.Hit v) = codes " hit " ++ decimal v.line
-  words_of shard reply.Absent = codes " absent"
-  words_of shard (reply.HitLead v id) = codes " hit " ++ (decimal v.line ++ (codes " lead " ++ decimal id))
-  words_of shard (reply.Join id) = codes " join " ++ decimal id
-  words_of shard (reply.Lead id) = codes " lead " ++ decimal id
-  words_of shard (reply.Kept sharers) = codes " land " ++ decimal sharers
-  words_of shard (reply.Loose sharers) = codes " loose " ++ decimal sharers
-  words_of shard (reply.Failed sharers) = codes " fail 7"
-  words_of shard reply.Gone = codes " none"
-  words_of shard reply.Stored = codes " put"
-  words_of shard (reply.Dropped left) = if left then codes " drop" else codes " absent"
-  words_of shard reply.Cleared = if shard == 0 then codes " clear" else []
-  words_of shard (reply.Forgot was) = if was then codes " forget" else codes " none"
-  words_of shard reply.Cleaned = if shard == 0 then codes " clean" else []
-  words_of shard (reply.Refused (TooHeavy weight bound)) = codes " heavy"
-  words_of shard (reply.Refused (TooManyFlights limit)) = codes " full"
-  words_of shard (reply.Refused fault) = []
-
-  -- a load that was landed at once
-  abbrev pub loaded_words : Reply (Version K) → List ℕ
-  loaded_words (reply.Kept sharers) = codes " load"
-  loaded_words r = words_of 0 r
 
 -- a state, and the text added to a line on the way there
 pub record Shown (K : Type 0) : Type 0 where
@@ -82,13 +47,9 @@ module _ {K : Type 0} (keys : Keys K) where
   abbrev pub take : State K (Version K) → Call K (Version K) → Made K (Version K)
   take s c = taken keys.eq keys.word (λ v. v.weight) s c
 
-  -- what is printed of an entry that left
-  abbrev pub notice_text : Notice K (Version K) → List ℕ
-  notice_text e = codes " " ++ (keys.shown e.key ++ (codes ":" ++ (decimal e.value.line ++ (codes ":" ++ cause_name e.cause))))
-
   -- the words, then the notices
   abbrev pub shown : List ℕ → List (Notice K (Version K)) → State K (Version K) → Shown K
-  shown words notices s = record { state = s; text = words ++ flat_map notice_text notices }
+  shown words notices s = record { state = s; text = words ++ flat_map (notice_text keys) notices }
 
   -- one call: its words and its notices
   abbrev pub one_call : ℕ → State K (Version K) → Call K (Version K) → Shown K

@@ -4,6 +4,7 @@ pub mod FaultLine
 pub mod Keys
 pub mod Line
 pub mod Trace
+pub mod Words
 pub mod Answers
 pub mod Pieces
 pub mod Report

@@ -2,7 +2,7 @@
 ghost use Rattle.std.specs.Prelude.{◌≡◌, ◌++◌, OnOk, decimal};
 ghost use Rattle.std.specs.List.{flat_map};
 ghost use Rattle.wt_replay.specs.Keys.{keys_by};
-ghost use Rattle.wt_replay.specs.Answers as spec;
+ghost use Rattle.wt_replay.specs.Words as spec;
 
 use crate::key::{TraceKey, show_number};
 use crate::line::Version;

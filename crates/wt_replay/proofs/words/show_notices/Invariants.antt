@@ -1,6 +1,6 @@
 use Rattle.std.proofs.Common.{◌≡◌, ◌++◌, take}
 use Rattle.std.specs.List.{flat_map}
-use Rattle.wt_replay.specs.Answers.{notice_text}
+use Rattle.wt_replay.specs.Words.{notice_text}
 use Rattle.wt_replay.specs.Keys.{keys_by}
 use Rattle.wt_replay.proofs.words.show_notices.Given as goal
 

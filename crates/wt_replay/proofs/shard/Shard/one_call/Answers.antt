@@ -3,7 +3,8 @@ use Rattle.std.specs.List.{flat_map}
 use Rattle.wt_regions.specs.Notices.{NoticeList, appended}
 use Rattle.wt_regions.specs.declared.kinds.Notice.{Notice}
 use Rattle.wt_core.specs.State.{Made}
-use Rattle.wt_replay.specs.Answers.{take, words_of, notice_text}
+use Rattle.wt_replay.specs.Answers.{take}
+use Rattle.wt_replay.specs.Words.{words_of, notice_text}
 use Rattle.wt_replay.specs.Keys.{keys_by}
 use Rattle.wt_replay.specs.declared.line.Version.{Version}
 use Rattle.wt_replay.proofs.shard.Shard.one_call.Goals as goal
