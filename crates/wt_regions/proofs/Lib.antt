@@ -18,5 +18,4 @@ pub mod Sweeps
 pub mod Gone
 pub mod Fits
 pub mod Looks
-pub mod Finds
 pub mod Room

@@ -1,6 +1,6 @@
 -- The loop of trim, step by step.
 use Rattle.std.proofs.Common.{◌≡◌, ℕ, zero, suc, ◌+◌, ◌-◌, ◌<◌, ◌≤◌, Bool, true, false, cond, not, List, [], ◌∷◌, ◌++◌, length, Option, Some, None, refl, sym, ap, subst, ◌∙◌, arith, rules, length-append, append_assoc}
-use Rattle.std.specs.Prelude.{nat_le, sum_by}
+use Rattle.std.specs.Prelude.{nat_le}
 use Rattle.std.specs.Option.{option_map_or}
 use Rattle.std.specs.List.{list_any}
 use Rattle.std.proofs.lemmas.List.{length-take, append-nil}
@@ -156,10 +156,3 @@ module _ {K V : Type 0} where
           no.2 ∙ sym (ap (λ (p : Lists K V × List (Notice K V)). appended p.1 t) d ∙ appended-none t) ∙ is.told,
           is.weight ∙ ap weight_of (sym no.1),
         )
-
-  weighs_at : (es : List (Entry K V)) (b : ℕ) → b < sum_by (λ (e : Entry K V). e.1.weight) es → 0 < length es
-  weighs_at [] b h = absurd (omega arith)
-  weighs_at (x ∷ xs) b h = omega arith
-
-  pub weighs_some : (r : Lists K V) (b : ℕ) → b < weight_of r → 0 < length (all_entries r)
-  weighs_some r b h = weighs_at (all_entries r) b h

@@ -4,7 +4,7 @@ use Rattle.std.specs.List.{IsDistinct}
 use Rattle.std.specs.List.Sorted.{IsPermutation}
 use Rattle.std.specs.Map.{keys_of, lookup, lookup_entry, remove_entry}
 use Rattle.std.specs.Cmp.{IsEquivalence}
-use Rattle.std.proofs.lemmas.List.{take_all, append-nil, length-take}
+use Rattle.std.proofs.lemmas.List.{length-take}
 use Rattle.std.proofs.lemmas.List.Sorted.{IsPermutation-to_front, IsPermutation-map}
 use Rattle.std.proofs.lemmas.Map.Keys.{IsDistinct-IsPermutation}
 use Rattle.std.proofs.Math.Seq.{take-append_seam}
@@ -16,7 +16,7 @@ use Rattle.wt_regions.proofs.Moves.{IsPermutation-last}
 use Rattle.wt_regions.proofs.Apart.{last_apart, no_last}
 use Rattle.wt_regions.proofs.Sound.{keys-front}
 use Rattle.wt_regions.proofs.Weights.{weights-moves, weights-cons}
-use Rattle.wt_regions.proofs.Loop.{appended-twice, appended-none}
+use Rattle.wt_regions.proofs.Loop.{appended-twice}
 use Rattle.wt_regions.specs.Lists.{Entry, front, is_expired, notice, weights}
 use Rattle.wt_regions.specs.Steps.{expired_of, live_of, told_back}
 use Rattle.wt_regions.specs.Notices.{NoticeList, appended}
@@ -81,11 +81,6 @@ module _ {K V : Type 0} (eq : K → K → Bool) (laws : IsEquivalence eq) where
     none_dropped [] = refl
     none_dropped (x ∷ xs) = none_dropped xs
 
-    pub cleaning-start : IsDistinct eq (keys_of es0) → length es0 ≤ t0.room → weights es0 ≤ w0 → IsCleaning now c es0 t0 w0 (length es0) es0 t0 w0
-    cleaning-start d room low =
-        let n = none_dropped es0 in let a = take_all (length es0) es0 (omega arith) in
-        record { entries = rw (n, a); told = rw n (sym (appended-none t0)); distinct = d; within = omega arith; room = room; weight = omega arith; low = low; lighter = omega arith }
-
     -- one turn: the last, which stood at that place
     pub record IsTurned (left : ℕ) (es : List (Entry K V)) (l : Entry K V) : Type 0 where
       pub ys : List (Entry K V)
@@ -144,18 +139,6 @@ module _ {K V : Type 0} (eq : K → K → Bool) (laws : IsEquivalence eq) where
           lighter = cl.lighter;
         }
 
-    pub cleaning-end : (es : List (Entry K V)) (t : NoticeList K V) (w : ℕ) → IsCleaning now c es0 t0 w0 0 es t w → (es ≡ live_of now c es0) × (t ≡ appended (expired_of now c es0) t0)
-    cleaning-end es t w cl = (cl.entries ∙ append-nil (live_of now c es0), cl.told)
-
-    pub cleaning-never : (left : ℕ) (es : List (Entry K V)) (t : NoticeList K V) (w : ℕ) → IsCleaning now c es0 t0 w0 (suc left) es t w → last_entry es ≡ None → ⊥
-    cleaning-never left es t w cl is =
-        let s = step_at left es0 (omega (arith, cl.within)) in
-        let e = no_last es is in
-        let n : length (live_of now c (drop (suc left) es0) ++ take (suc left) es0) ≡ 0 = ap length (sym cl.entries ∙ e) in
-        let m = length-append (live_of now c (drop (suc left) es0)) (take (suc left) es0) in
-        let p : length (take (suc left) es0) ≡ suc (length (take left es0)) = ap length s.2 ∙ length-append (take left es0) (s.0 ∷ []) ∙ omega arith in
-        omega (arith, n, m, p)
-
     one_less : (n : ℕ) → 0 < n → n ≡ suc (n - 1)
     one_less n h = omega (arith, h)
 
@@ -179,10 +162,6 @@ module _ {K V : Type 0} (now : ℕ) (c : Caps) (es0 : List (Entry K V)) (t0 : No
   all_dropped : (xs : List (Entry K V)) → drop (length xs) xs ≡ []
   all_dropped [] = refl
   all_dropped (x ∷ xs) = all_dropped xs
-
-  pub clearing-start : length es0 ≤ t0.room → IsClearing (length es0) es0 t0
-  clearing-start room = let n = all_dropped es0 in let a = take_all (length es0) es0 (omega arith) in
-      record { is = refl; entries = rw a; told = rw n (sym (appended-none t0)); within = omega arith; room = room }
 
   clearing-out : (n : ℕ) (es : List (Entry K V)) (t : NoticeList K V) (l : Entry K V) (t' : NoticeList K V) → IsClearing (suc n) es t → last_entry es ≡ Some l → t' ≡ appended (notice (cond (is_expired c now l.1) Expired Explicit) l ∷ []) t → IsClearing n (front es) t'
   clearing-out n es t l t' cl last it =
@@ -209,10 +188,6 @@ module _ {K V : Type 0} (now : ℕ) (c : Caps) (es0 : List (Entry K V)) (t0 : No
       let n : length (front (e ∷ es)) ≡ length es = omega (arith, k) in
       let r = clearing-out (length es) (e ∷ es) t l t' cl last it in
       (subst (λ m. IsClearing m (front (e ∷ es)) t') (sym n) r, omega (arith, n))
-
-  pub clearing-room : (es : List (Entry K V)) (t : NoticeList K V) (l : Entry K V) → IsClearing (length es) es t → last_entry es ≡ Some l → 0 < t.room
-  clearing-room [] t l cl last = cc
-  clearing-room (e ∷ es) t l cl last = let r = cl.room in omega (arith, r)
 
   pub clearing-end : (es : List (Entry K V)) (t : NoticeList K V) → IsClearing (length es) es t → last_entry es ≡ None → (es ≡ []) × (t ≡ appended (told_back now c es0) t0)
   clearing-end es t cl last = let e = no_last es last in

@@ -5,7 +5,7 @@ use Rattle.std.specs.Map.{lookup, lookup_entry, remove_entry}
 use Rattle.std.specs.Prelude.{nat_lt}
 use Rattle.std.specs.Cmp.{IsEquivalence}
 use Rattle.std.proofs.lemmas.List.{length-take}
-use Rattle.lru.specs.LruCache.{LruCache, lru_cache, last_entry, put_entries}
+use Rattle.lru.specs.LruCache.{LruCache, last_entry, put_entries}
 use Rattle.wt_regions.specs.declared.kinds.Held.{Held}
 use Rattle.wt_regions.specs.declared.kinds.Caps.{Caps}
 use Rattle.wt_regions.proofs.Moves.{bare, Moves, bring-moves, moves-left, moves-right, promote-brings, moves-length, lawful-moves, lookup_none-entry, lookup_entry-none, moves-refl, promoted_so}
@@ -110,14 +110,6 @@ module _ {K V : Type 0} (eq : K → K → Bool) (k : K) (f : Held V → Held V) 
         lawful-moves eq weigh laws (lists_of c ws ps qs) (lists_of c ws ps (brought qs)) refl
         (moves-right eq k f keeps ws (ps ++ qs) (ps ++ brought qs) (moves-right eq k f keeps ps qs (brought qs) m))
         law.window (rw n law.protected) (rw n law.main_part) law
-
-pub not_there : {K X : Type 0} (test : K → Bool) (es : List (K × X)) → is_some (lookup test es) ≡ false → lookup test es ≡ None
-not_there test es h = grind (arith)
-
--- `freshen` of a key that is not there changes nothing
-pub unmoved_cache : {K V : Type 0} (test : K → Bool) (f : Held V → Held V) (c d : LruCache K (Held V)) → lookup test c.entries ≡ None
-    → d ≡ lru_cache (option_map_or (λ (e : Entry K V). (e.0, f e.1) ∷ remove_entry test c.entries) (lookup_entry test c.entries) c.entries) c.cap → d ≡ c
-unmoved_cache test f c d n h = let m = lookup_entry-none test c.entries n in rw m at h
 
 -- `put` at a key that is there
 put-there_at : {K V : Type 0} (eq : K → K → Bool) (c : LruCache K (Held V)) (k : K) (v : Held V) (o : Option (Entry K V)) → lookup_entry (eq k) c.entries ≡ o → is_some (lookup (eq k) c.entries) ≡ true

@@ -91,9 +91,6 @@ module _ {K V : Type 0} where
       → weight_of (lists_of k (front ws) (front (c ∷ ps)) qs) + option_map_or (λ (e : Entry K V). e.1.weight) (last_entry (c ∷ ps)) 0 ≡ weight_of (lists_of k ws ps qs)
   weight-ousts k c ws ps qs h = omega (arith, weight-split k ws ps qs, weight-split k (front ws) (front (c ∷ ps)) qs, weights-cons c ps, weights-last-is ws c h, weights-last (c ∷ ps))
 
-  pub weight-grown : (k : Caps) (c : Entry K V) (ws ps qs : List (Entry K V)) → weight_of (lists_of k (c ∷ ws) ps qs) ≡ weight_of (lists_of k ws ps qs) + c.1.weight
-  weight-grown k c ws ps qs = omega (arith, weight-split k ws ps qs, weight-split k (c ∷ ws) ps qs, weights-cons c ws)
-
   pub weights-moves : (xs ys : List (Entry K V)) → IsPermutation xs ys → weights ys ≡ weights xs
   weights-moves xs ys h = sum_by-IsPermutation (λ (e : Entry K V). e.1.weight) xs ys (h)
 

@@ -5,6 +5,7 @@ pub mod Traces
 pub mod Ends
 pub mod Lines
 pub mod Gets
+pub mod Fetches
 pub mod Sums
 pub mod Examples
 pub mod Reports

@@ -4,6 +4,7 @@
 mod answers;
 mod fault;
 mod key;
+mod laws;
 mod line;
 mod options;
 mod replay;
