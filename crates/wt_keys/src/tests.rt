@@ -1,5 +1,6 @@
 use crate::{Answers, CacheKey, Fault, Field, NoMemory, Share, Shared};
-use std::alloc::AllocError;
+use std::alloc::{AllocError, Global};
+use std::process::Abort;
 use std::test::Fail;
 
 // Answers the keys below it.
@@ -43,6 +44,18 @@ fn a_shared_value_answers_as_its_value(rt: HostRuntime) -> Result<(), Fail> {
     Ok(())
 }
 
+fn expect_faults(
+    rt: &impl Abort,
+    alloc: Global,
+    faults: &[(Fault, u64, &str)],
+) -> Result<(), Fail> {
+    for (fault, number, sentence) in faults {
+        assert_eq!(rt; fault.number(), *number);
+        assert_eq!(rt; format!(in alloc; "{fault}")?.as_str(), *sentence);
+    }
+    Ok(())
+}
+
 #[test]
 fn a_fault_is_a_sentence_with_a_number(rt: HostRuntime) -> Result<(), Fail> {
     let faults = [
@@ -72,6 +85,13 @@ fn a_fault_is_a_sentence_with_a_number(rt: HostRuntime) -> Result<(), Fail> {
             5,
             "the cache has made all of its 2^60 steps",
         ),
+    ];
+    expect_faults(&rt, rt.alloc(), &faults)
+}
+
+#[test]
+fn a_fault_of_loads_is_a_sentence_with_a_number(rt: HostRuntime) -> Result<(), Fail> {
+    let faults = [
         (
             Fault::LoadFailed { code: 7 },
             6,
@@ -100,11 +120,7 @@ fn a_fault_is_a_sentence_with_a_number(rt: HostRuntime) -> Result<(), Fail> {
             "all of the 65535 passes were given out",
         ),
     ];
-    for (fault, number, sentence) in faults {
-        assert_eq!(rt; fault.number(), number);
-        assert_eq!(rt; format!(in rt.alloc(); "{fault}")?.as_str(), sentence);
-    }
-    Ok(())
+    expect_faults(&rt, rt.alloc(), &faults)
 }
 
 #[test]

@@ -302,6 +302,32 @@ impl Run<Loaded> {
     }
 }
 
+fn put_both(
+    rt: &impl Abort,
+    run: &mut Run<Loaded>,
+    lists: &mut Lists,
+    key: u64,
+    value: Loaded,
+    now: u64,
+) -> Result<(), Fail> {
+    let row = Row {
+        key,
+        value,
+        written: now,
+        accessed: now,
+    };
+    let counted = run.counted();
+    match run.put(key, value, now) {
+        Ok(()) => lists.put(row, now, &counted)?,
+        Err(fault) => {
+            let (weight, bound) = (value.weight, lists.caps.bound);
+            assert_eq!(rt; fault, Fault::TooHeavy { weight, bound });
+            assert!(rt; weight as u64 > bound);
+        }
+    }
+    Ok(())
+}
+
 fn one_call(
     rt: &impl Abort,
     dice: &mut Dice,
@@ -339,21 +365,7 @@ fn one_call(
         _ => {
             let weight = u32::try_from(dice.roll(7)).unwrap_or(0);
             let value = Loaded { version, weight };
-            let row = Row {
-                key,
-                value,
-                written: now,
-                accessed: now,
-            };
-            let counted = run.counted();
-            match run.put(key, value, now) {
-                Ok(()) => lists.put(row, now, &counted)?,
-                Err(fault) => {
-                    let bound = lists.caps.bound;
-                    assert_eq!(rt; fault, Fault::TooHeavy { weight, bound });
-                    assert!(rt; weight as u64 > bound);
-                }
-            }
+            put_both(rt, run, lists, key, value, now)?;
         }
     }
     Ok(())
