@@ -11,9 +11,10 @@ ghost use Rattle.std.specs.Map.{keys_of};
 ghost use Rattle.std.specs.Option.{option_map};
 ghost use Rattle.wt_keys.specs.declared.fault.Fault.TheVariants as fault;
 ghost use Rattle.wt_regions.specs.Lists.{all_entries, region_of, weight_of};
-ghost use Rattle.wt_flights.specs.Rows.{row, first_of};
+ghost use Rattle.wt_flights.specs.Rows.{row, row_of, first_of};
 
 use crate::kinds::{Config, Counts, Stats};
+use crate::opening::row_with;
 use std::alloc::Global;
 use std::marker::Model;
 use wt_flights::{FlightTable, Row};
@@ -157,6 +158,15 @@ impl<K: CacheKey, V: Share + Weighs> Core<K, V> {
         self.regions.len()
     }
 
+    /// Returns how many entries may be held, which is the room for notices that a step asks for.
+    ///
+    /// Takes no memory. O(1).
+    pub fn entries(&self) -> u32
+        ensures { result ≡ self.now.regions.caps.entries }
+    {
+        self.regions.entries()
+    }
+
     /// Returns whether no entry is held. Takes no memory. O(1).
     pub fn is_empty(&self) -> bool
         ensures { result ≡ (length (all_entries self.now.regions) == 0) }
@@ -183,6 +193,13 @@ impl<K: CacheKey, V: Share + Weighs> Core<K, V> {
         ensures { result ≡ row id self.now.flights }
     {
         self.flights.row(id)
+    }
+
+    /// Returns the open load with an id, if there is one and it is the key's. Takes no memory. Expected O(1).
+    pub fn row_of(&self, id: u64, key: K) -> Option<Row<K>>
+        ensures { result ≡ row_of K.eq key id self.now.flights }
+    {
+        row_with(&self.flights, id, key)
     }
 
     /// Returns the id of the key's oldest open load, current or not, if it has one.

@@ -1,8 +1,10 @@
 // Calls as data, and whole runs of them.
-ghost use Rattle.std.specs.Prelude.{◌≡◌, ℕ, ◌+◌, ◌≤◌, IfOk, IfErr, OnOk, OnErr, length, take};
+ghost use Rattle.std.specs.Prelude.{◌≡◌, ℕ, ◌+◌, ◌≤◌, IfOk, IfErr, IsOk, IsSome, OnOk, OnErr, length, take};
 ghost use Rattle.wt_keys.specs.declared.fault.Fault.TheVariants as fault;
 ghost use Rattle.wt_regions.specs.Notices.{appended};
+ghost use Rattle.wt_core.specs.Landings.{TakesNone};
 ghost use Rattle.wt_core.specs.Run.{taken, run, replies, last_notices};
+ghost use Rattle.wt_core.specs.Step.{refusal_of};
 
 use crate::cache::Core;
 use crate::kinds::{Call, Reply};
@@ -40,6 +42,9 @@ impl<K: CacheKey, V: Share + Weighs> Core<K, V> {
         ensures same { self.new.regions.caps ≡ self.old.regions.caps }
         ensures whole { notices.new.room + length notices.new.list
             ≡ notices.old.room + length notices.old.list }
+        // What the state refuses is refused whatever the memory does, and some calls take none.
+        ensures refusal { IsSome (refusal_of K.eq K.word V.weight self.old call) → IsOk result }
+        ensures memory { TakesNone K.eq V.weight self.old call → IsOk result }
         ensures err { OnErr result ((self.new ≡ self.old) × (notices.new ≡ notices.old)) }
     {
         match call {
@@ -83,6 +88,10 @@ pub fn run_calls<K: CacheKey, V: Share + Weighs>(
         ≡ last_notices K.eq K.word V.weight core.old calls.items notices.old) }
 
     ensures memory { IfErr result (λ f. f ≡ fault.NoMemory) }
+    // Whatever is answered.
+    ensures same { core.new.regions.caps ≡ core.old.regions.caps }
+    ensures whole { notices.new.room + length notices.new.list
+        ≡ notices.old.room + length notices.old.list }
     ensures err { OnErr result ((n : ℕ) × (core.new ≡ run K.eq K.word V.weight core.old (take n calls.items))) }
 {
     let mut made = Vec::with_capacity(alloc, calls.len())?;

@@ -48,6 +48,13 @@ impl<K: CacheKey, V: Share + Weighs> Regions<K, V> {
         self.window.len() + (self.probation.len() + self.protected.len())
     }
 
+    /// Returns how many entries there may be, as `Caps` had it. Takes no memory. O(1).
+    pub fn entries(&self) -> u32
+        ensures { result ≡ self.now.caps.entries }
+    {
+        self.caps.entries
+    }
+
     /// Returns what all entries weigh together, the expired ones among them: at most the bound.
     ///
     /// Takes no memory. O(1).
