@@ -1,0 +1,160 @@
+"""The picture of tools/hit_curve: hit ratio over entries, and beside it over the window.
+
+Colours can be told apart by the colour-blind, and by dashes without any; they suit a light and a dark page.
+"""
+from html import escape
+from math import ceil, log2
+
+WIDTH, HEIGHT = 880, 440
+TOP, BOTTOM = 104, 376
+MAIN_LEFT, MAIN_RIGHT = 58, 500
+SWEEP_LEFT, SWEEP_RIGHT = 660, 850
+CLASSES = {"LRU": "lru", "FIFO": "fifo", "optimum": "best"}
+
+LIGHT = {"page": "#ffffff", "ink": "#1f2933", "soft": "#5b6675", "grid": "#e3e7ed", "axis": "#98a2b3",
+         "ours": "#0072b2", "lru": "#c2410c", "fifo": "#8e5572", "best": "#5b6675"}
+DARK = {"page": "#12161d", "ink": "#e8ebf0", "soft": "#a3adbb", "grid": "#2a323e", "axis": "#667085",
+        "ours": "#56b4e9", "lru": "#f0a54a", "fifo": "#d896b8", "best": "#a3adbb"}
+SHAPES = """
+  text { font: 13px system-ui, -apple-system, "Segoe UI", Roboto, "DejaVu Sans", Helvetica, Arial, sans-serif }
+  .title { font-size: 19px; font-weight: 700 } .small { font-size: 12px } .label { font-weight: 600 } .end { text-anchor: end } .mid { text-anchor: middle }
+  .line { fill: none; stroke-width: 2.25; stroke-linejoin: round; stroke-linecap: round } .lead { stroke-width: 1; stroke-opacity: .5 }
+  .ours-line { stroke-width: 3.25 } .lru-line { stroke-dasharray: 9 4.5 } .fifo-line { stroke-dasharray: 1.5 5 } .best-line { stroke-width: 1.5 }
+  .gain { fill-opacity: .12 }"""
+
+
+def colours(palette):
+    """The rules of one palette."""
+    rules = [".%s { fill: %s }" % (name, palette[name]) for name in ("page", "ink", "soft")]
+    rules += [".%s { stroke: %s; stroke-width: 1 }" % (name, palette[name]) for name in ("grid", "axis")]
+    for name in ("ours", "lru", "fifo", "best"):
+        rules.append(".%s { fill: %s } .%s-line, .%s-lead { stroke: %s }" % (name, palette[name], name, name, palette[name]))
+    return " ".join(rules)
+
+
+STYLE = "%s\n  %s\n  @media (prefers-color-scheme: dark) { %s }\n" % (SHAPES, colours(LIGHT), colours(DARK))
+
+
+class Panel:
+    """A plot: where a number of entries and a ratio stand."""
+
+    def __init__(self, left, right, least, greatest, top_ratio):
+        self.left, self.right, self.top_ratio = left, right, top_ratio
+        self.least, self.span = log2(least), max(1e-9, log2(greatest) - log2(least))
+
+    def x(self, n):
+        return self.left + (log2(n) - self.least) / self.span * (self.right - self.left)
+
+    def y(self, ratio):
+        return BOTTOM - ratio / self.top_ratio * (BOTTOM - TOP)
+
+    def points(self, curve):
+        return " ".join("%.1f,%.1f" % (self.x(n), self.y(ratio)) for n, ratio in curve.items())
+
+
+def text(x, y, words, kinds):
+    return '<text x="%.1f" y="%.1f" class="%s">%s</text>' % (x, y, kinds, escape(words))
+
+
+def line(x1, y1, x2, y2, kind):
+    return '<line x1="%.1f" y1="%.1f" x2="%.1f" y2="%.1f" class="%s"/>' % (x1, y1, x2, y2, kind)
+
+
+def kind_of(name):
+    return CLASSES.get(name, "ours")
+
+
+def top_of(curves, sweep):
+    """The upper end of the ratios' axis, and its step, in percent."""
+    most = 100 * max([ratio for curve in curves.values() for ratio in curve.values()] + list(sweep.values()))
+    step = next(step for step in (1, 2, 5, 10, 20) if most / step <= 6.5 or step == 20)
+    return max(step, step * ceil(most / step)), step
+
+
+def axes(panel, step, ticks, title):
+    parts = []
+    for percent in range(0, round(100 * panel.top_ratio) + 1, step):
+        y = panel.y(percent / 100)
+        parts.append(line(panel.left, y, panel.right, y, "axis" if percent == 0 else "grid"))
+        parts.append(text(panel.left - 8, y + 4, "%d %%" % percent, "soft small end"))
+    end = -100.0
+    for n in ticks:
+        half = 3.5 * len("{:,}".format(n))
+        if panel.x(n) - half - end > 8:
+            end = panel.x(n) + half
+            parts.append(text(panel.x(n), BOTTOM + 20, "{:,}".format(n), "soft small mid"))
+        parts.append(line(panel.x(n), BOTTOM, panel.x(n), BOTTOM + 5, "axis"))
+    parts.append(text((panel.left + panel.right) / 2, BOTTOM + 44, title, "soft mid"))
+    return parts
+
+
+def spread(wanted, gap):
+    """Heights as near the wanted ones as they may be with so much between them."""
+    order = sorted(range(len(wanted)), key=lambda at: wanted[at])
+    placed = [wanted[at] for at in order]
+    for _ in range(200):
+        for at in range(1, len(placed)):
+            over = gap - (placed[at] - placed[at - 1])
+            if over > 0:
+                placed[at - 1] -= over / 2
+                placed[at] += over / 2
+    low = placed[-1] - (BOTTOM - 2) if placed else 0
+    placed = [y - max(0, low) for y in placed]
+    return {at: y for at, y in zip(order, placed)}
+
+
+def main_panel(panel, step, curves):
+    ours = next(iter(curves))
+    sizes = list(curves[ours])
+    parts = axes(panel, step, sizes, "entries that the cache may hold")
+    back = " ".join(reversed(panel.points(curves["LRU"]).split()))
+    parts.append('<polygon points="%s %s" class="ours gain"/>' % (panel.points(curves[ours]), back))
+    names = list(curves)
+    for name in reversed(names):
+        parts.append('<polyline points="%s" class="line %s-line"/>' % (panel.points(curves[name]), kind_of(name)))
+    parts += ['<circle cx="%.1f" cy="%.1f" r="3.6" class="ours"/>' % (panel.x(n), panel.y(ratio)) for n, ratio in curves[ours].items()]
+    heights = spread([panel.y(curves[name][sizes[-1]]) + 4 for name in names], 18)
+    for at, name in enumerate(names):
+        end = panel.y(curves[name][sizes[-1]])
+        parts.append(line(panel.right + 5, end, panel.right + 18, heights[at] - 4, "lead %s-lead" % kind_of(name)))
+        parts.append(text(panel.right + 22, heights[at], name, "%s label" % kind_of(name)))
+    return parts
+
+
+def sweep_panel(panel, step, sweep_at, sweep):
+    best = max(sweep, key=lambda window: (sweep[window], -window))
+    parts = axes(panel, step, list(sweep), "its window, of {:,} entries".format(sweep_at))
+    parts.append('<polyline points="%s" class="line ours-line"/>' % panel.points(sweep))
+    parts += ['<circle cx="%.1f" cy="%.1f" r="3.6" class="ours"/>' % (panel.x(n), panel.y(ratio)) for n, ratio in sweep.items()]
+    x, y = panel.x(best), panel.y(sweep[best])
+    place = "ours label mid" if x - panel.left > 40 and panel.right - x > 40 else "ours label" if x - panel.left <= 40 else "ours label end"
+    parts.append(text(x, y - 12, "best: {:,}".format(best), place))
+    return parts
+
+
+def gain_told(curves):
+    """The size at which the gain over LRU is greatest, in words."""
+    ours = next(iter(curves))
+    at = max(curves[ours], key=lambda n: curves[ours][n] - curves["LRU"][n])
+    return "With {:,} entries {:.0f} % of look-ups hit; LRU {:.0f} %, the optimum {:.0f} %".format(
+        at, *(100 * curves[name][at] for name in (ours, "LRU", "optimum")))
+
+
+def draw(title, told, curves, sweep_at, sweep):
+    ours = next(iter(curves))
+    sizes = list(curves[ours])
+    top, step = top_of(curves, sweep)
+    main = Panel(MAIN_LEFT, MAIN_RIGHT, sizes[0], sizes[-1], top / 100)
+    side = Panel(SWEEP_LEFT, SWEEP_RIGHT, min(sweep), max(sweep), top / 100)
+    words = "%s. Hit ratio over entries: %s." % (title, gain_told(curves))
+    parts = [
+        '<svg xmlns="http://www.w3.org/2000/svg" viewBox="0 0 %d %d" width="%d" height="%d" role="img" aria-label="%s">' % (WIDTH, HEIGHT, WIDTH, HEIGHT, escape(words, True)),
+        "<title>%s</title>" % escape(words),
+        "<style>%s</style>" % STYLE,
+        '<rect width="%d" height="%d" rx="8" class="page"/>' % (WIDTH, HEIGHT),
+        text(24, 34, title, "ink title"),
+        text(24, 57, "%s. %s" % (told, gain_told(curves)), "soft"),
+        text(MAIN_LEFT - 34, TOP - 14, "hit ratio", "soft small"),
+    ]
+    parts += main_panel(main, step, curves) + sweep_panel(side, step, sweep_at, sweep) + ["</svg>"]
+    return "\n".join(parts) + "\n"
