@@ -210,9 +210,9 @@ unfolding counted_word estimate_of checked line_step answers line_text count_tex
 lines_that_are_none = refl
 
 -- the first field that is out of its range
-pub faults_of_options : map option_fault (four ∷ default_options ∷ record four { shards = 0 } ∷ record four { shards = 2 } ∷ record four { entries = 0 } ∷ record four { entries = 65537 } ∷ record four { window = Some 0 } ∷ record four { window = Some 5 } ∷ record four { weight = 0 }
+pub faults_of_options : map option_fault (four ∷ default_options ∷ record four { shards = 0 } ∷ record four { shards = 3 } ∷ record four { entries = 0 } ∷ record four { entries = 65537 } ∷ record four { window = Some 0 } ∷ record four { window = Some 5 } ∷ record four { weight = 0 }
     ∷ record four { weight = 281474976710657 } ∷ record four { modulus = 0 } ∷ record four { modulus = 1000001 } ∷ record four { write = Some 0 } ∷ record four { access = Some 0 } ∷ record four { refresh = Some 0; flights = 0 } ∷ record four { fail_mod = Some 0 }
-    ∷ record four { flights = 0 } ∷ record four { flights = 4097 } ∷ record four { ring = Some 32 } ∷ record four { ring = Some 65537 } ∷ record four { flights = 4096; ring = Some 4096 } ∷ record four { threads = 1 } ∷ record four { turn = 1 } ∷ record four { workers = 1 } ∷ [])
+    ∷ record four { flights = 0 } ∷ record four { flights = 4097 } ∷ record four { ring = Some 32 } ∷ record four { ring = Some 65537 } ∷ record four { flights = 4096; ring = Some 4096 } ∷ record four { threads = 65 } ∷ record four { turn = 1 } ∷ record four { workers = 1 } ∷ [])
     ≡ None ∷ None ∷ Some field.Shards ∷ Some field.Shards ∷ Some field.Entries ∷ Some field.Entries ∷ Some field.Window ∷ Some field.Window ∷ Some field.Bound
     ∷ Some field.Bound ∷ Some field.Modulus ∷ Some field.Modulus ∷ Some field.AfterWrite ∷ Some field.AfterAccess ∷ Some field.Refresh ∷ Some field.FailMod
     ∷ Some field.Flights ∷ Some field.Flights ∷ Some field.Ring ∷ Some field.Ring ∷ Some field.Ring ∷ Some field.Threads ∷ Some field.Turn ∷ Some field.Workers ∷ []

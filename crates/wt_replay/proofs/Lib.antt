@@ -9,3 +9,9 @@ pub mod Fetches
 pub mod Sums
 pub mod Examples
 pub mod Reports
+pub mod Ranges
+pub mod Passages
+pub mod Places
+pub mod Stopped
+pub mod Others
+pub mod Histories

@@ -6,6 +6,9 @@ pub mod Line
 pub mod Trace
 pub mod Words
 pub mod Answers
+pub mod Calls
 pub mod Pieces
 pub mod Report
+pub mod Stops
+pub mod Parts
 pub mod Replayed

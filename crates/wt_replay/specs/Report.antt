@@ -72,3 +72,9 @@ IsVerdict (Err (BadLine n)) = Unit {0}
 IsVerdict (Err (LineTooLong n)) = Unit {0}
 IsVerdict (Err TooManyLines) = Unit {0}
 IsVerdict _ = ⊥
+
+-- a text and a verdict are those of a report
+pub record IsReport (r : Report) (bytes : List ℕ) (end : Verdict) : Type 0 where
+  pub text : bytes ≡ r.text
+  pub verdict : end ≡ r.verdict
+  pub kind : IsVerdict end

@@ -4,7 +4,7 @@ ghost use Rattle.wt_keys.specs.declared.fault.Fault.TheVariants as cache;
 ghost use Rattle.wt_replay.specs.FaultLine as spec;
 ghost use Rattle.wt_replay.specs.declared.fault.ReplayFault.TheVariants as fault;
 
-use std::alloc::{AllocError, Global};
+use std::alloc::{AllocError, AllocFailed, Global};
 use thiserror::Error;
 use wt_keys::{Fault, NoMemory};
 
@@ -46,6 +46,14 @@ impl From<AllocError> for ReplayFault {
     ghost from_gives = { λ _ e. e ≡ fault.Cache cache.NoMemory };
 
     fn from(_error: AllocError) -> ReplayFault {
+        ReplayFault::Cache(Fault::NoMemory)
+    }
+}
+
+impl<T: Drop> From<AllocFailed<T>> for ReplayFault {
+    ghost from_gives = { λ _ e. e ≡ fault.Cache cache.NoMemory };
+
+    fn from(_failed: AllocFailed<T>) -> ReplayFault {
         ReplayFault::Cache(Fault::NoMemory)
     }
 }

@@ -1,8 +1,12 @@
 //! Replays a trace on a cache, and reports what came of each line.
 #![tactic(auto)]
 
+ghost use Rattle.std.specs.Prelude.{◌≡◌, IfOk, is_ok, if◌then◌else◌};
+
 mod answers;
+mod by_shard;
 mod fault;
+mod gate;
 mod key;
 mod laws;
 mod line;
@@ -18,7 +22,9 @@ mod words;
 
 use clap::{Arg, ArgAction, ArgMatches, Command, value_parser};
 use fault::ReplayFault;
-use options::Options;
+use gate::Open;
+use options::{MOST_THREADS, Options};
+use replay::{replay, replay_by_shard};
 use std::alloc::Global;
 use std::io;
 use std::process::ExitCode;
@@ -26,7 +32,7 @@ use tallied::Tallied;
 
 // Each option with what it does, its range and its default, in the order in which the ranges are checked.
 const OPTIONS: [(&str, &str); 14] = [
-    ("shards", "Number of shards: for now 1 [default: 1]"),
+    ("shards", "Number of shards: 1, 2 or 4 [default: 1]"),
     (
         "entries",
         "Entries that a shard may hold: 1 to 65536 [default: 1024]",
@@ -69,7 +75,7 @@ const OPTIONS: [(&str, &str); 14] = [
     ),
     (
         "threads",
-        "Threads that replay shard by shard: for now 0 [default: 0]",
+        "Threads that replay shard by shard: 0 to 64; 0 starts none [default: 0]",
     ),
     (
         "turn",
@@ -118,7 +124,9 @@ fn options_of(matches: &ArgMatches) -> Options {
 }
 
 // The exit status of a run, after its fault line, if it has one, went to standard error.
-fn status_of<R: Eprint>(rt: &R, alloc: Global, outcome: Result<(), ReplayFault>) -> io::Result<u8> {
+fn status_of<R: Eprint>(rt: &R, alloc: Global, outcome: Result<(), ReplayFault>) -> io::Result<u8>
+    ensures { IfOk result (λ status. status ≡ (if is_ok outcome then 0 else 1)) }
+{
     let Err(fault) = outcome else {
         return Ok(0);
     };
@@ -144,6 +152,19 @@ fn main(rt: HostRuntime) -> anyhow::Result<ExitCode> {
     let options = options_of(&matches);
     let mut reader = Tallied::new(rt.reader());
     let mut writer = Tallied::new(io::writer(&rt));
-    let outcome = replay::replay(alloc, &mut reader, &mut writer, &options);
+    let outcome = if options.threads == 0 {
+        replay(alloc, &mut reader, &mut writer, &options)
+    } else {
+        let threads = options.threads.min(MOST_THREADS);
+        replay_by_shard(
+            &rt,
+            alloc,
+            &mut reader,
+            &mut writer,
+            &options,
+            threads,
+            &Open,
+        )
+    };
     Ok(ExitCode::from(status_of(&rt, alloc, outcome)?))
 }

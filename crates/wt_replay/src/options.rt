@@ -1,7 +1,7 @@
 // The options of a run.
 ghost use Rattle.std.specs.Prelude.{◌≡◌, ◌<◌, ◌≤◌, ◌^◌, ◌==◌, ◌||◌, IsTrue, MatchOption, None, Ok, Err};
 ghost use Rattle.wt_keys.specs.declared.fault.Fault.TheVariants as cache;
-ghost use Rattle.wt_replay.specs.Options.{is_outside};
+ghost use Rattle.wt_replay.specs.Options.{is_outside, is_shard_count};
 ghost use Rattle.wt_replay.specs.declared.fault.ReplayFault.TheVariants as fault;
 
 use crate::fault::ReplayFault;
@@ -11,10 +11,13 @@ use wt_keys::{Fault, Field};
 /// The most that all entries of a shard may weigh together: 2^48.
 pub const MOST_WEIGHT: u64 = 281474976710656;
 
+/// The most threads of a replay shard by shard.
+pub const MOST_THREADS: u64 = 64;
+
 /// The options, each as it was given. Durations are in milliseconds; `None` stands for the default.
 #[derive(Clone, Copy, Debug, PartialEq, Eq)]
 pub struct Options {
-    /// The number of shards: for now 1.
+    /// The number of shards: 1, 2 or 4.
     pub shards: u64,
     /// How many entries a shard may hold: 1 to 65,536.
     pub entries: u64,
@@ -36,7 +39,7 @@ pub struct Options {
     pub flights: u64,
     /// How many steps a shard may record, more than `flights` and up to 65,536. By default 64, or `flights` and one.
     pub ring: Option<u64>,
-    /// The number of threads of a replay shard by shard: for now 0.
+    /// The number of threads of a replay shard by shard: 0 to 64, where 0 stands for one without threads of its own.
     pub threads: u64,
     /// The number of threads of a replay turn by turn: for now 0.
     pub turn: u64,
@@ -76,6 +79,13 @@ fn is_outside(low: u64, high: u64, n: u64) -> bool
     n < low || high < n
 }
 
+// Whether there can be so many shards.
+fn is_shard_count(n: u64) -> bool
+    ensures { result ≡ is_shard_count n }
+{
+    n == 1 || n == 2 || n == 4
+}
+
 impl Options {
     ghost use Rattle.wt_replay.specs.Options.{option_fault, later_fault, window_of, ring_of, config_of};
 
@@ -98,7 +108,7 @@ impl Options {
     pub(crate) fn fault(&self) -> Option<Field>
         ensures { result ≡ option_fault self.now }
     {
-        if is_outside(1, 1, self.shards) {
+        if !is_shard_count(self.shards) {
             return Some(Field::Shards);
         }
         if is_outside(1, 65536, self.entries) {
@@ -138,7 +148,7 @@ impl Options {
         if is_outside(self.flights + 1, 65536, self.ring()) {
             return Some(Field::Ring);
         }
-        if 0 < self.threads {
+        if is_outside(0, MOST_THREADS, self.threads) {
             return Some(Field::Threads);
         }
         if 0 < self.turn {

@@ -1,16 +1,19 @@
 // The report of a trace, printed from what each shard answers.
-ghost use Rattle.std.specs.Prelude.{◌≡◌, ◌++◌, ◌+◌, ◌<◌, ◌≤◌, ◌^◌, All, IfOk, IfSome, IsNone, OnOk, length, None, map, drop, true, false};
+ghost use Rattle.std.specs.Prelude.{◌≡◌, ◌++◌, ◌+◌, ◌<◌, ◌≤◌, ◌^◌, All, IfOk, IfErr, IfSome, IsNone, OnOk, length, None, map, drop, true, false};
 ghost use Rattle.std.specs.List.{range_with_len};
+ghost use Rattle.wt_replay.specs.Answers.{answers};
 ghost use Rattle.wt_replay.specs.Keys.{keys_by};
 ghost use Rattle.wt_replay.specs.Options.{option_fault};
 ghost use Rattle.wt_replay.specs.Report as spec;
+ghost use Rattle.wt_replay.specs.Stops.{IsStop};
 ghost use Rattle.wt_replay.specs.Trace.{lines_of, is_header, trace_from};
 ghost use Rattle.wt_replay.specs.declared.fault.ReplayFault.{ReplayFault};
 
 use crate::answers::Answers;
 use crate::fault::ReplayFault;
+use crate::gate::Open;
 use crate::key::{TraceKey, show_number};
-use crate::line::cut;
+use crate::line::{Line, cut};
 use crate::options::Options;
 use crate::shard::shard_answers;
 use crate::trace::{Lines, read_lines};
@@ -116,49 +119,63 @@ pub fn print(
     Ok(out)
 }
 
-// The report of lines, the first of which is line `first`.
+/// Returns the report of lines, the first of which is line `first`, by what the shards answer to them.
+pub fn text_of<K: TraceKey>(
+    alloc: Global,
+    options: &Options,
+    first: u64,
+    read: &Lines<K>,
+    all: &[Answers],
+) -> Result<Vec<u8>, NoMemory>
+    requires options { option_fault options.now ≡ None }
+    requires first { first ≤ 1000001 }
+    requires all { all.now ≡ map (answers (keys_by K.eq K.word K.read K.shown) options.now first read.now.lines.items) (range_with_len 0 options.now.shards) }
+    ensures { IfOk result (λ out. out.items ≡ (spec.report_of (keys_by K.eq K.word K.read K.shown) options.now first (record { lines = read.now.lines.items; verdict = read.now.verdict })).text) }
+{
+    let text = print(alloc, first, read.lines.len(), read.verdict.is_ok(), all)?;
+    Ok(text)
+}
+
+// What each shard answers to the lines, the first of which is line `first`, one shard after another.
+fn answers_in_order<K: TraceKey>(
+    alloc: Global,
+    options: &Options,
+    first: u64,
+    lines: &[Line<K>],
+) -> Result<Vec<Answers>, ReplayFault>
+    requires options { option_fault options.now ≡ None }
+    requires first { first ≤ 1000001 }
+    ensures answers { IfOk result (λ all. all.items ≡ map (answers (keys_by K.eq K.word K.read K.shown) options.now first lines.now) (range_with_len 0 options.now.shards)) }
+    ensures err { IfErr result (IsStop (λ _. ⊥)) }
+{
+    let mut all = Vec::new(alloc);
+    for shard in 0..options.shards() {
+        let one = shard_answers(alloc, options, shard, first, lines, &Open)?;
+        all.push(one)?;
+    }
+    Ok(all)
+}
+
+// The report of a trace whose first line is line `first`, whatever its keys are.
 fn report_of<K: TraceKey>(
     alloc: Global,
     options: &Options,
     first: u64,
-    read: Lines<K>,
-) -> Result<(Vec<u8>, Result<(), ReplayFault>), NoMemory>
-    requires options { option_fault options.now ≡ None }
-    requires first { first ≤ 1000001 }
-    ensures text { IfOk result (λ r. r.0.items ≡ (spec.report_of (keys_by K.eq K.word K.read K.shown) options.now first (record { lines = read.lines.items; verdict = read.verdict })).text) }
-    ensures verdict { IfOk result (λ r. r.1 ≡ read.verdict) }
-{
-    let Lines { lines, verdict } = read;
-    let mut all = Vec::new(alloc);
-    for shard in 0..options.shards() {
-        let one = shard_answers(alloc, options, shard, first, &lines)?;
-        all.push(one)?;
-    }
-    let text = print(alloc, first, lines.len(), verdict.is_ok(), &all)?;
-    Ok((text, verdict))
-}
-
-// The report of a trace whose first line is line `first`, whatever its keys are.
-fn report_by<K: TraceKey>(
-    alloc: Global,
-    options: &Options,
-    first: u64,
     bytes: &[u8],
-) -> Result<(Vec<u8>, Result<(), ReplayFault>), NoMemory>
+) -> Result<(Vec<u8>, Result<(), ReplayFault>), ReplayFault>
     requires options { option_fault options.now ≡ None }
     requires first { first ≤ 1000001 }
-    ensures text { IfOk result (λ r. r.0.items ≡ (spec.report_of (keys_by K.eq K.word K.read K.shown) options.now first (trace_from K.read first (lines_of bytes.now))).text) }
-    ensures verdict { IfOk result (λ r. r.1 ≡ (trace_from K.read first (lines_of bytes.now)).verdict) }
-    ensures kind { IfOk result (λ r. spec.IsVerdict r.1) }
+    ensures report { IfOk result (λ r. spec.IsReport (spec.report_of (keys_by K.eq K.word K.read K.shown) options.now first (trace_from K.read first (lines_of bytes.now))) r.0.items r.1) }
+    ensures err { IfErr result (IsStop (λ _. ⊥)) }
 {
     let read = read_lines::<K>(alloc, first, bytes)?;
-    let report = report_of(alloc, options, first, read)?;
-    Ok(report)
+    let all = answers_in_order(alloc, options, first, &read.lines)?;
+    Ok((text_of(alloc, options, first, &read, &all)?, read.verdict))
 }
 
 // What stands behind a header, where the first line is one.
 #[tactic(auto, using(crate::proofs::Reports::header_first, crate::proofs::Reports::behind_first))]
-fn behind_header(bytes: &[u8]) -> Option<&[u8]>
+pub(crate) fn behind_header(bytes: &[u8]) -> Option<&[u8]>
     ensures some { IfSome result (λ rest. (is_header (lines_of bytes.now) ≡ true) × (drop 1 (lines_of bytes.now) ≡ lines_of rest.now)) }
     ensures none { IsNone result → is_header (lines_of bytes.now) ≡ false }
 {
@@ -172,16 +189,13 @@ pub fn report(
     alloc: Global,
     bytes: &[u8],
     options: &Options,
-) -> Result<(Vec<u8>, Result<(), ReplayFault>), NoMemory>
+) -> Result<(Vec<u8>, Result<(), ReplayFault>), ReplayFault>
     requires { option_fault options.now ≡ None }
-    ensures text { IfOk result (λ r. r.0.items ≡ (spec.report options.now bytes.now).text) }
-    ensures verdict { IfOk result (λ r. r.1 ≡ (spec.report options.now bytes.now).verdict) }
-    ensures kind { IfOk result (λ r. spec.IsVerdict r.1) }
+    ensures report { IfOk result (λ r. spec.IsReport (spec.report options.now bytes.now) r.0.items r.1) }
+    ensures err { IfErr result (IsStop (λ _. ⊥)) }
 {
     let Some(rest) = behind_header(bytes) else {
-        let numbered = report_by::<u64>(alloc, options, 1, bytes)?;
-        return Ok(numbered);
+        return report_of::<u64>(alloc, options, 1, bytes);
     };
-    let named = report_by::<Name>(alloc, options, 2, rest)?;
-    Ok(named)
+    report_of::<Name>(alloc, options, 2, rest)
 }

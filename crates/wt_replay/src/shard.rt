@@ -1,11 +1,14 @@
 // A shard at work on the lines of a trace.
-ghost use Rattle.std.specs.Prelude.{◌≡◌, ◌++◌, ◌+◌, ◌≤◌, ◌%◌, IfOk, OnOk, length, None, []};
+ghost use Rattle.std.specs.Prelude.{◌≡◌, ◌++◌, ◌+◌, ◌≤◌, ◌%◌, IfOk, OnOk, IfErr, length, None, [], true, false};
 ghost use Rattle.wt_replay.specs.Keys.{keys_by};
 ghost use Rattle.wt_replay.specs.Options.{option_fault};
 ghost use Rattle.wt_replay.specs.Answers as spec;
+ghost use Rattle.wt_replay.specs.Stops.{IsStop, AreAsked};
 ghost use Rattle.wt_replay.specs.declared.line.Act.TheVariants as act;
 
 use crate::answers::Answers;
+use crate::fault::ReplayFault;
+use crate::gate::Gate;
 use crate::key::TraceKey;
 use crate::line::{Act, Line, Version};
 use crate::options::Options;
@@ -13,7 +16,7 @@ use crate::words::{show, show_loaded, show_notices, show_reply, show_with};
 use std::alloc::Global;
 use std::marker::Model;
 use wt_core::{Call, Core, Land, Notices, Reply};
-use wt_keys::{NoMemory, shard_of};
+use wt_keys::{Fault, NoMemory, shard_of};
 
 // A shard with its cache, what its latest call told, and the text that its lines added so far.
 #[derive(Drop)]
@@ -116,16 +119,12 @@ impl<K: TraceKey> Shard<K> {
         }
     }
 
-    // Does line n, if it belongs to the shard, and appends what the shard adds to it.
-    #[tactic(auto, unfolding(crate::specs::Answers::line_step))]
-    fn do_line(&mut self, n: u64, line: &Line<K>) -> Result<(), NoMemory>
-        ensures state { OnOk result (self.new.state ≡ (spec.line_step (keys_by K.eq K.word K.read K.shown) self.old.options self.old.shard n line.now self.old.state).state) }
-        ensures text { OnOk result (self.new.text ≡ self.old.text ++ (spec.line_step (keys_by K.eq K.word K.read K.shown) self.old.options self.old.shard n line.now self.old.state).text) }
+    // Does what line n asks for, and appends what the shard adds to it.
+    fn act(&mut self, n: u64, line: &Line<K>) -> Result<(), NoMemory>
+        ensures state { OnOk result (self.new.state ≡ (spec.act_step (keys_by K.eq K.word K.read K.shown) self.old.options self.old.shard n line.now.moment line.now.act self.old.state).state) }
+        ensures text { OnOk result (self.new.text ≡ self.old.text ++ (spec.act_step (keys_by K.eq K.word K.read K.shown) self.old.options self.old.shard n line.now.moment line.now.act self.old.state).text) }
         ensures same { (self.new.options ≡ self.old.options) × (self.new.shard ≡ self.old.shard) }
     {
-        if !belongs(&self.options, self.number, &line.act) {
-            return Ok(());
-        }
         let now = line.moment;
         match line.act {
             Act::Look(key) => self.one_call(Call::Look(key, now)),
@@ -141,6 +140,25 @@ impl<K: TraceKey> Shard<K> {
             Act::Clean => self.one_call(Call::Clean(now)),
             Act::Clear => self.one_call(Call::Clear(now)),
         }
+    }
+
+    // Does line n, if it belongs to the shard and the gate lets it through, and appends what the shard adds to it.
+    #[tactic(auto, unfolding(crate::specs::Answers::line_step))]
+    fn do_line<G: Gate>(&mut self, gate: &G, n: u64, line: &Line<K>) -> Result<(), ReplayFault>
+        ensures state { OnOk result (self.new.state ≡ (spec.line_step (keys_by K.eq K.word K.read K.shown) self.old.options self.old.shard n line.now self.old.state).state) }
+        ensures text { OnOk result (self.new.text ≡ self.old.text ++ (spec.line_step (keys_by K.eq K.word K.read K.shown) self.old.options self.old.shard n line.now self.old.state).text) }
+        ensures same { (self.new.options ≡ self.old.options) × (self.new.shard ≡ self.old.shard) }
+        ensures asked { OnOk result (spec.belongs (keys_by K.eq K.word K.read K.shown) self.old.options self.old.shard line.now.act ≡ true → G.answers gate.now n true) }
+        ensures err { IfErr result (IsStop (λ m. G.answers gate.now m false)) }
+    {
+        if !belongs(&self.options, self.number, &line.act) {
+            return Ok(());
+        }
+        if !gate.pass(n) {
+            return Err(ReplayFault::GateShut { n });
+        }
+        self.act(n, line)?;
+        Ok(())
     }
 }
 
@@ -180,23 +198,28 @@ fn belongs<K: TraceKey>(options: &Options, shard: usize, act: &Act<K>) -> bool
     }
 }
 
-/// Does the lines, the first of which is line `first`, at a new shard of this number.
+/// Does the lines, the first of which is line `first`, at a new shard of this number, and asks the gate before each
+/// that belongs to it.
 ///
+/// The first line that the gate doesn't let through ends it with `GateShut`.
 /// Takes memory for the shard, for two lists of notices with room for its entries, and for the texts.
 #[tactic(auto, unfolding(crate::specs::Answers::answers))]
-pub fn shard_answers<K: TraceKey>(
+pub fn shard_answers<K: TraceKey, G: Gate>(
     alloc: Global,
     options: &Options,
     number: usize,
     first: u64,
     lines: &[Line<K>],
-) -> Result<Answers, NoMemory>
+    gate: &G,
+) -> Result<Answers, ReplayFault>
     requires options { option_fault options.now ≡ None }
     requires first { first ≤ 1000001 }
-    ensures { IfOk result (λ a. a ≡ spec.answers (keys_by K.eq K.word K.read K.shown) options.now first lines.now number) }
+    ensures answers { IfOk result (λ a. a ≡ spec.answers (keys_by K.eq K.word K.read K.shown) options.now first lines.now number) }
+    ensures asked { OnOk result (AreAsked (spec.belongs (keys_by K.eq K.word K.read K.shown) options.now number) (λ n. G.answers gate.now n true) first lines.now) }
+    ensures err { IfErr result (IsStop (λ n. G.answers gate.now n false)) }
 {
     let Ok(core) = Core::new(alloc, &options.config()) else {
-        return Err(NoMemory);
+        return Err(ReplayFault::Cache(Fault::NoMemory));
     };
     let mut shard = Shard {
         options: *options,
@@ -210,7 +233,7 @@ pub fn shard_answers<K: TraceKey>(
     let mut rest = lines;
     let mut n = first;
     while let Some((line, after)) = rest.split_first() {
-        shard.do_line(n, line)?;
+        shard.do_line(gate, n, line)?;
         ends.push(shard.text.len())?;
         rest = after;
         n += 1;

@@ -1,7 +1,9 @@
 // What the tests share: options, inputs, and what a replay writes.
+mod command_line;
 mod options;
 mod reports;
 mod streams;
+mod threads;
 
 use crate::fault::ReplayFault;
 use crate::options::Options;

@@ -8,13 +8,17 @@ use std::test::*;
 use wt_keys::{Fault, Field};
 
 // A field, a value, and whether it is in the field's range.
-const ROWS: [(Field, u64, bool); 33] = [
+const ROWS: [(Field, u64, bool); 38] = [
     (Field::Entries, 0, false),
     (Field::Entries, 1, true),
     (Field::Entries, 65536, true),
     (Field::Entries, 65537, false),
     (Field::Shards, 0, false),
-    (Field::Shards, 2, false),
+    (Field::Shards, 1, true),
+    (Field::Shards, 2, true),
+    (Field::Shards, 3, false),
+    (Field::Shards, 4, true),
+    (Field::Shards, 5, false),
     (Field::Window, 0, false),
     (Field::Window, 4, true),
     (Field::Window, 5, false),
@@ -39,7 +43,8 @@ const ROWS: [(Field, u64, bool); 33] = [
     (Field::Ring, 33, true),
     (Field::Ring, 65536, true),
     (Field::Ring, 65537, false),
-    (Field::Threads, 1, false),
+    (Field::Threads, 64, true),
+    (Field::Threads, 65, false),
     (Field::Turn, 1, false),
     (Field::Workers, 1, false),
 ];

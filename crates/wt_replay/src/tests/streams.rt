@@ -1,4 +1,6 @@
 // Readers and writers that give or take little, or fail.
+ghost use Rattle.std.specs.Prelude.{◌≤◌, IfOk};
+
 use super::{FIRST, FIRST_REPORT, of};
 use crate::fault::ReplayFault;
 use crate::replay::replay;
@@ -104,4 +106,58 @@ fn a_writer_that_fails_took_a_front_of_the_report(rt: HostRuntime) {
         assert_eq!(rt; writer.failures(), 1);
         assert_eq!(rt; writer.into_inner().bytes.as_slice(), written);
     }
+}
+
+// Takes or gives two bytes, then none, then fails, over and over.
+#[derive(Drop)]
+struct Moody {
+    calls: u8,
+}
+
+impl Moody {
+    // The next answer, of so many bytes at most.
+    fn next(&mut self, most: usize) -> io::Result<usize>
+        ensures { IfOk result (λ n. n ≤ most) }
+    {
+        self.calls = self.calls.wrapping_add(1);
+        match self.calls % 3 {
+            1 => Ok(most.min(2)),
+            2 => Ok(0),
+            _ => Err(io::Error::from(io::ErrorKind::Other)),
+        }
+    }
+}
+
+impl Read for Moody {
+    fn read(&mut self, buf: &mut [u8]) -> io::Result<usize> {
+        self.next(buf.len())
+    }
+}
+
+impl Write for Moody {
+    fn write(&mut self, buf: &[u8]) -> io::Result<usize> {
+        self.next(buf.len())
+    }
+
+    fn flush(&mut self) -> io::Result<()> {
+        Err(io::Error::from(io::ErrorKind::Other))
+    }
+}
+
+#[test]
+fn what_the_inner_one_answers_is_answered(rt: HostRuntime) {
+    let mut part = [0u8; 4];
+    let mut reader = Tallied::new(Moody { calls: 0 });
+    assert_eq!(rt; reader.read(&mut part).ok(), Some(2));
+    assert_eq!(rt; reader.read(&mut part).ok(), Some(0));
+    assert_eq!(rt; reader.read(&mut part).ok(), None);
+    assert_eq!(rt; reader.reads(), 3);
+    assert_eq!(rt; reader.failures(), 1);
+    let mut writer = Tallied::new(Moody { calls: 0 });
+    assert_eq!(rt; writer.write(b"four").ok(), Some(2));
+    assert_eq!(rt; writer.write(b"four").ok(), Some(0));
+    assert_eq!(rt; writer.write(b"four").ok(), None);
+    assert_eq!(rt; writer.flush().ok(), None);
+    assert_eq!(rt; writer.reads(), 0);
+    assert_eq!(rt; writer.failures(), 2);
 }

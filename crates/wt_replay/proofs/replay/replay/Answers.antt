@@ -6,4 +6,4 @@ use Rattle.wt_replay.proofs.replay.replay.Goals as goal
 pub returns-clause-config : goal.returns-clause-config
 returns-clause-config g c =
     let none : option_fault c.args.options.now ≡ None = search rules in
-    rw none (no_config_fault c.in_ok-text.verdict c.in_ok-text.ensures.kind)
+    rw none (no_config_fault c.in_ok-text.verdict c.in_ok-text.ensures.report.kind)

@@ -1,6 +1,7 @@
-use Rattle.std.proofs.Common.{◌≡◌, ◌+◌, length}
+use Rattle.std.proofs.Common.{◌≡◌, ◌+◌, length, true}
 use Rattle.wt_core.specs.State.{opening}
-use Rattle.wt_replay.specs.Answers.{answers_from}
+use Rattle.wt_replay.specs.Answers.{answers_from, belongs}
+use Rattle.wt_replay.specs.Stops.{AreAsked}
 use Rattle.wt_replay.specs.Keys.{keys_by}
 use Rattle.wt_replay.specs.Options.{config_of}
 use Rattle.wt_replay.proofs.Lines.{IsSoFar}
@@ -13,6 +14,7 @@ invariant-loop-line g l =
       far : IsSoFar keys l.options l.number (answers_from keys l.options l.number l.fn.first l.fn.lines (opening (config_of l.options))) l.shard.text l.ends.items l.n l.rest l.shard.state;
       options : l.shard.options ≡ l.options;
       number : l.shard.shard ≡ l.number;
+      asked : AreAsked (belongs keys l.options l.number) (λ m. g.G.Gate.answers l.gate m true) l.n l.rest → AreAsked (belongs keys l.options l.number) (λ m. g.G.Gate.answers l.gate m true) l.fn.first l.fn.lines;
       numbers : l.n + length l.rest ≡ l.fn.first + length l.fn.lines;
     }
 

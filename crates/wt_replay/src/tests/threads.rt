@@ -1,0 +1,139 @@
+// Replays shard by shard on threads.
+use super::{four_but, replayed};
+use crate::fault::ReplayFault;
+use crate::gate::{Gate, Open};
+use crate::options::Options;
+use crate::replay::replay_by_shard;
+use crate::tallied::Tallied;
+use std::alloc::Global;
+use std::sync::atomic::{AtomicU64, Ordering};
+use std::test::*;
+use std::thread;
+use std::thread::Threads;
+use wt_keys::Field;
+
+// What is written for an input on so many threads, and how the run ends.
+fn by_shard<H: Threads + Sync + Alloc<A = Global>, G: Gate>(
+    rt: &H,
+    input: &[u8],
+    options: &Options,
+    threads: u64,
+    gate: &G,
+) -> (Vec<u8>, Result<(), ReplayFault>) {
+    let alloc = rt.alloc();
+    let mut reader = Tallied::new(input);
+    let mut writer = Tallied::new(Vec::new(alloc));
+    let threads = threads.min(64).max(1);
+    let outcome = replay_by_shard(rt, alloc, &mut reader, &mut writer, options, threads, gate);
+    (writer.into_inner(), outcome)
+}
+
+// Four entries a shard, four shards.
+fn four_shards() -> Options {
+    four_but(Field::Shards, 4)
+}
+
+#[test]
+fn any_number_of_threads_writes_the_same(rt: HostRuntime) {
+    let rows: [(&[u8], &[u8]); 3] = [
+        (
+            b"0 G 1\n0 G 2\n0 G 3\n0 G 4\n0 G 1\n0 G 5\n0 G 4\n0 G 6\n",
+            b"1 load\n2 load\n3 load\n4 load\n5 hit 1\n6 load\n7 hit 4\n8 load\nlookups 8 hits 2 misses 6 loads 6 failed 0 evicted 0 entries 6 weight 6\n",
+        ),
+        (
+            b"0 P 1\n0 P 2\n0 P 3\n0 P 4\n0 X\n",
+            b"1 put\n2 put\n3 put\n4 put\n5 clear 4:4:explicit 3:3:explicit 2:2:explicit 1:1:explicit\nlookups 0 hits 0 misses 0 loads 0 failed 0 evicted 0 entries 0 weight 0\n",
+        ),
+        (
+            b"wt 2\n0 P foobar\n0 L foobar\n0 L a\n",
+            b"2 put\n3 hit 2\n4 absent\nlookups 2 hits 1 misses 1 loads 0 failed 0 evicted 0 entries 1 weight 1\n",
+        ),
+    ];
+    for (input, report) in rows {
+        let (text, outcome) = replayed(rt.alloc(), input, &four_shards());
+        assert_eq!(rt; text.as_slice(), report);
+        assert_eq!(rt; outcome, Ok(()));
+        for threads in [1, 2, 3, 8, 64] {
+            let (text, outcome) = by_shard(&rt, input, &four_shards(), threads, &Open);
+            assert_eq!(rt; text.as_slice(), report);
+            assert_eq!(rt; outcome, Ok(()));
+        }
+    }
+}
+
+#[test]
+fn a_bad_line_ends_the_report_on_threads_too(rt: HostRuntime) {
+    let (text, outcome) = by_shard(&rt, b"0 P 1\n0 L 1\n0 Q 1\n", &four_shards(), 2, &Open);
+    assert_eq!(rt; text.as_slice(), b"1 put\n2 hit 1\n".as_slice());
+    assert_eq!(rt; outcome, Err(ReplayFault::BadLine { n: 3 }));
+}
+
+// Lets nothing through but the lines before one.
+#[derive(Drop)]
+struct Before(u64);
+
+impl Gate for Before {
+    ghost use Rattle.std.specs.Prelude.{◌≡◌, nat_lt};
+
+    ghost answers = { λ g n answer. answer ≡ nat_lt n g.0 };
+
+    fn pass(&self, line: u64) -> bool {
+        line < self.0
+    }
+}
+
+#[test]
+fn a_shut_gate_is_told_and_nothing_is_written(rt: HostRuntime) {
+    let input = b"0 P 1\n0 P 2\n0 P 3\n0 P 4\n";
+    // Key 4 is of shard 0, key 3 of shard 1.
+    for (threads, gate, n) in [(1, 3, 4), (2, 3, 4), (4, 3, 4), (4, 4, 4)] {
+        let (text, outcome) = by_shard(&rt, input, &four_shards(), threads, &Before(gate));
+        assert!(rt; text.is_empty());
+        assert_eq!(rt; outcome, Err(ReplayFault::GateShut { n }));
+    }
+    let (_, outcome) = by_shard(&rt, input, &four_shards(), 4, &Before(5));
+    assert_eq!(rt; outcome, Ok(()));
+}
+
+// Holds each of lines 1 and 2 until the other one was asked for.
+#[derive(Drop)]
+struct Pair {
+    first: AtomicU64,
+    second: AtomicU64,
+}
+
+impl Gate for Pair {
+    ghost use Rattle.std.specs.Prelude.{◌≡◌};
+
+    ghost answers = { λ _ _ answer. answer ≡ answer };
+
+    fn pass(&self, line: u64) -> bool {
+        let (mine, other) = if line == 1 {
+            (&self.first, &self.second)
+        } else {
+            (&self.second, &self.first)
+        };
+        mine.store(1, Ordering::SeqCst);
+        for _ in 0..10000000 {
+            if other.load(Ordering::SeqCst) == 1 {
+                return true;
+            }
+            thread::yield_now();
+        }
+        false
+    }
+}
+
+#[test]
+fn shards_of_two_threads_run_beside_each_other(rt: HostRuntime) {
+    let gate = Pair {
+        first: AtomicU64::new(0),
+        second: AtomicU64::new(0),
+    };
+    let (text, outcome) = by_shard(&rt, b"0 P 4\n0 P 3\n", &four_shards(), 2, &gate);
+    assert_eq!(rt;
+        text.as_slice(),
+        b"1 put\n2 put\nlookups 0 hits 0 misses 0 loads 0 failed 0 evicted 0 entries 2 weight 2\n".as_slice()
+    );
+    assert_eq!(rt; outcome, Ok(()));
+}
