@@ -1,6 +1,7 @@
 use crate::{Answers, CacheKey, Fault, Field, NoMemory, Share, Shared};
 use std::alloc::{AllocError, Global};
 use std::process::Abort;
+use std::rc::Rc;
 use std::test::Fail;
 
 // Answers the keys below it.
@@ -124,8 +125,27 @@ fn a_fault_of_loads_is_a_sentence_with_a_number(rt: HostRuntime) -> Result<(), F
 }
 
 #[test]
-fn refused_memory_is_told_as_such(rt: HostRuntime) {
+fn a_shared_value_is_dropped_with_its_last_owner(rt: HostRuntime) -> Result<(), Fail> {
+    // Each value that isn't dropped yet is an owner of the counter.
+    let counter = Rc::new(rt.alloc(), 7u64)?;
+    let first = Shared::new(rt.alloc(), counter.clone()?)?;
+    let second = first.share()?;
+    let third = second.share()?;
+    assert_eq!(rt; Rc::strong_count(&counter), 2);
+    drop(first);
+    drop(third);
+    assert_eq!(rt; Rc::strong_count(&counter), 2);
+    assert_eq!(rt; **second.get(), 7);
+    drop(second);
+    assert_eq!(rt; Rc::strong_count(&counter), 1);
+    Ok(())
+}
+
+#[test]
+fn refused_memory_is_told_as_such(rt: HostRuntime) -> Result<(), Fail> {
+    assert_eq!(rt; format!(in rt.alloc(); "{NoMemory}")?.as_str(), "no memory was left");
     assert_eq!(rt; NoMemory::from(AllocError), NoMemory);
     assert_eq!(rt; Fault::from(AllocError), Fault::NoMemory);
     assert_eq!(rt; Fault::from(NoMemory), Fault::NoMemory);
+    Ok(())
 }

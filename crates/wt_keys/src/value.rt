@@ -1,5 +1,5 @@
 // What a value offers.
-ghost use Rattle.std.specs.Prelude.{◌≡◌, IfOk, Bool};
+ghost use Rattle.std.specs.Prelude.{◌≡◌, IfOk, IsOk, Bool};
 
 use crate::fault::NoMemory;
 
@@ -24,7 +24,10 @@ pub trait Answers<K> {
 
 /// The share of a number is the number. Never refused.
 impl Share for u64 {
-    fn share(&self) -> Result<u64, NoMemory> {
+    fn share(&self) -> Result<u64, NoMemory>
+        ensures answer { IfOk result (λ second. second ≡ self.now) }
+        ensures succeeds { IsOk result }
+    {
         Ok(*self)
     }
 }

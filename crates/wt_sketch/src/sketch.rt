@@ -2,10 +2,11 @@
 //
 //   word ──► place 0 ──► row 0  .. 3 ..      a count raises each of the four that is below 15,
 //        ──► place 1 ──► row 1  .. 5 ..      an estimate is the least of the four: 3 here.
-//        ──► place 2 ──► row 2  .. 3 ..      Other keys can only raise a counter, so no estimate
-//        ──► place 3 ──► row 3  .. 4 ..      is below the key's own count.
+//        ──► place 2 ──► row 2  .. 3 ..      A count of another key raises counters, or brings
+//        ──► place 3 ──► row 3  .. 4 ..      the halving of all of them.
 //
-// At ten additions an entry all counters are halved, so that the past weighs less and less.
+// At ten additions an entry all counters are halved, so that the past weighs less and less. So an estimate
+// is never below what a counter of the key's own would show, stopped at 15 and halved with the sketch.
 ghost use Rattle.std.specs.Prelude.{◌≡◌, ℕ, ◌*◌, ◌^◌, ◌<◌, ◌≤◌, ◌&&◌, length, IfOk, IfErr, nat_le, if◌then◌else◌};
 ghost use Rattle.std.specs.List.{All};
 ghost use Rattle.wt_keys.specs.Hash.{bits_for};
@@ -123,8 +124,8 @@ impl Sketch {
 
     /// Returns how often a key was counted, about: the least of the counters at its four places.
     ///
-    /// Takes no memory. O(1). Never below the key's own count, stopped and halved alike; it may be above
-    /// it, by the counts of keys that share a place in each row.
+    /// Takes no memory. O(1). It may be above the key's own count, by the counts of keys that share a place
+    /// in each row; [`Sketch::count_all`] says that it isn't below it.
     pub fn estimate(&self, places: &[usize; 4]) -> u8
         requires within { All (λ p. p < 2 ^ bits_for self.now.entries) places.now }
         ensures value { result ≡ estimate places.now self.now }

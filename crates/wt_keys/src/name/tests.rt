@@ -51,7 +51,7 @@ fn names_are_equal_where_their_bytes_are(rt: HostRuntime) -> Result<(), Fail> {
 
 #[test]
 fn a_name_prints_as_text(rt: HostRuntime) -> Result<(), Fail> {
-    let rows: [(&[u8], &str, &str); 4] = [
+    let rows: [(&[u8], &str, &str); 5] = [
         (b"foobar", "foobar", "\"foobar\""),
         (b"", "", "\"\""),
         (b"a\"b\n", "a\"b\n", "\"a\\\"b\\n\""),
@@ -60,6 +60,8 @@ fn a_name_prints_as_text(rt: HostRuntime) -> Result<(), Fail> {
             "caf\u{E9} \u{FFFD}!",
             "\"caf\u{E9} \\xff!\"",
         ),
+        // The first two bytes of a sign of three, which are one broken sequence.
+        (b"a\xE2\x82b", "a\u{FFFD}b", "\"a\\xe2\\x82b\""),
     ];
     for (bytes, shown, quoted) in rows {
         assert_eq!(rt; format!(in rt.alloc(); "{}", name(bytes)?)?.as_str(), shown);

@@ -1,4 +1,4 @@
-// Worked examples, with values from the rule's own text.
+// Worked examples, with values worked out by hand.
 use super::{Loaded, Run, caps};
 use crate::{Caps, Cause, Found, Region, Regions, Weighs};
 use std::process::Abort;
