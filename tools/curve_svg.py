@@ -133,9 +133,9 @@ def sweep_panel(panel, step, sweep_at, sweep):
 
 
 def gain_told(curves):
-    """The size at which the gain over LRU is greatest, in words."""
+    """The size at which the difference from LRU is greatest, in words."""
     ours = next(iter(curves))
-    at = max(curves[ours], key=lambda n: curves[ours][n] - curves["LRU"][n])
+    at = max(curves[ours], key=lambda n: abs(curves[ours][n] - curves["LRU"][n]))
     return "With {:,} entries {:.0f} % of look-ups hit; LRU {:.0f} %, the optimum {:.0f} %".format(
         at, *(100 * curves[name][at] for name in (ours, "LRU", "optimum")))
 

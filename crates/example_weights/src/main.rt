@@ -1,0 +1,57 @@
+//! Entries that weigh what they take, and what leaves for them.
+#![tactic(auto)]
+
+use wt_core::{Config, Core, Notices, Weighs};
+use wt_keys::{Fault, NoMemory, Share};
+
+/// A picture, by its size in kilobytes.
+#[derive(Clone, Copy)]
+struct Picture {
+    kilobytes: u32,
+}
+
+impl Share for Picture {
+    fn share(&self) -> Result<Picture, NoMemory> {
+        Ok(*self)
+    }
+}
+
+impl Weighs for Picture {
+    ghost weight = { λ p. p.kilobytes };
+
+    fn weight(&self) -> u32 {
+        self.kilobytes
+    }
+}
+
+fn main(rt: HostRuntime) -> anyhow::Result<()> {
+    let alloc = rt.alloc();
+    let config = Config {
+        entries: 100,
+        window: 10,
+        bound: 1000,
+        after_write: None,
+        after_access: None,
+        refresh: None,
+        flights: 16,
+        ring: 64,
+    };
+    let mut cache: Core<u64, Picture> = Core::new(alloc, &config)?;
+    for (key, kilobytes) in [(1, 400), (2, 300), (3, 2000), (4, 250), (5, 500)] {
+        let mut left = Notices::new(alloc, cache.entries() as usize)?;
+        match cache.put(key, Picture { kilobytes }, 0, &mut left) {
+            Ok(()) => println!(rt; "{key} is stored, all weigh {}", cache.weight())?,
+            Err(Fault::TooHeavy { weight, bound }) => {
+                println!(rt; "{key} weighs {weight}, and {bound} is the bound: nothing changed")?
+            }
+            Err(other) => return Err(other.into()),
+        }
+        for notice in left.list() {
+            println!(rt;
+                "  {} left, {} kilobytes",
+                notice.key, notice.value.kilobytes
+            )?;
+        }
+    }
+    Ok(())
+}
