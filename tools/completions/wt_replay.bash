@@ -2,7 +2,7 @@
 _wt_replay() {
     local word=${COMP_WORDS[COMP_CWORD]} before=${COMP_WORDS[COMP_CWORD-1]}
     case $before in
-        --shards) COMPREPLY=($(compgen -W '1' -- "$word")) ;;
+        --shards) COMPREPLY=($(compgen -W '1 2 4' -- "$word")) ;;
         --entries) COMPREPLY=($(compgen -W '1 1024 65536' -- "$word")) ;;
         --window) COMPREPLY=($(compgen -W '1' -- "$word")) ;;
         --weight) COMPREPLY=($(compgen -W '1 281474976710656' -- "$word")) ;;
@@ -13,7 +13,7 @@ _wt_replay() {
         --fail-mod) COMPREPLY=($(compgen -W '1' -- "$word")) ;;
         --flights) COMPREPLY=($(compgen -W '1 32 4096' -- "$word")) ;;
         --ring) COMPREPLY=($(compgen -W '65536' -- "$word")) ;;
-        --threads) COMPREPLY=($(compgen -W '0' -- "$word")) ;;
+        --threads) COMPREPLY=($(compgen -W '0 64' -- "$word")) ;;
         --turn) COMPREPLY=($(compgen -W '0' -- "$word")) ;;
         --workers) COMPREPLY=($(compgen -W '0' -- "$word")) ;;
         *) COMPREPLY=($(compgen -W '--shards --entries --window --weight --mod --write --access --refresh --fail-mod --flights --ring --threads --turn --workers --help' -- "$word")) ;;
