@@ -21,7 +21,7 @@ def option_values(rng, entries):
         "access": rng.choice((None, None, rng.randint(1, 20), rng.randint(1, 300))),
         "refresh": rng.choice((None, None, rng.randint(1, 20), rng.randint(1, 100))),
         "fail-mod": rng.choice((None, None, small)),
-        "flights": rng.choice((None, 1, 2, small)),
+        "flights": rng.choice((None, 1, 1, 2, small)),
         "ring": rng.choice((None, None, None, 4097)),
     }
 
@@ -66,9 +66,9 @@ def skewed(rng, count):
 
 def random_trace(rng, entries):
     keys, weights, names = random_keys(rng, entries)
-    common = rng.choice((LETTERS, "PL", "G", "GGP", "SSE", "SSEEP", "GLPD", "SEFPL"))
+    common = rng.choice((LETTERS, "PL", "PPPL", "G", "GGP", "SSE", "SSEEP", "SSPL", "GLPD", "SEFPL"))
     count = rng.choice((0, 5, 20, 60, 60, 120, 300))
-    step, back = rng.choice((0, 0, 1, 1, 3, 10)), rng.choice((0, 0, 20))
+    step, back = rng.choice((0, 1, 1, 3, 10)), rng.choice((0, 20, 40))
     moment = rng.choice((0, 0, 0, 1000, BELOW_64 - 200))
     lines = [b"wt 2"] if names else []
     for _ in range(count):

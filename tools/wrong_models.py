@@ -204,6 +204,40 @@ class RefreshJoinsNothing(Shard):
         return False
 
 
+class OneLatestMomentForAllShards(Shard):
+    @property
+    def latest(self):
+        return self.s["latest"]
+
+    @latest.setter
+    def latest(self, moment):
+        self.s["latest"] = moment
+
+
+class OneCountOfLoadsForAllShards(Shard):
+    @property
+    def next_load(self):
+        return self.s["next load"]
+
+    @next_load.setter
+    def next_load(self, number):
+        self.s["next load"] = number
+
+
+def shard_by_lower_bits(options, trace):
+    upper, model.shard_of = model.shard_of, lambda word, shards: model.SHARD_FACTOR * word % shards
+    told = model.run(options, trace)
+    model.shard_of = upper
+    return told
+
+
+def entries_for_all_shards(options, trace):
+    """A program that divides the entries among its shards."""
+    shards = options.get("shards", 1)
+    shared = dict(options, entries=max(1, options.get("entries", 1024) // shards)) if shards in (2, 4) else options
+    return model.run(shared, trace)
+
+
 def swapped(one, other):
     """A program that takes one option for another."""
     def run(options, trace):
@@ -237,6 +271,8 @@ def all_wrong():
     yield "WriteForAccess", swapped("write", "access")
     yield "EntriesForWindow", swapped("entries", "window")
     yield "WriteForRefresh", swapped("write", "refresh")
+    yield "ShardByLowerBits", shard_by_lower_bits
+    yield "EntriesForAllShards", entries_for_all_shards
     yield "FaultIsStatus0", fault_is_status_0
     yield "SummaryAfterAFault", summary_after_a_fault
     yield "LastLineIsLost", last_line_is_lost
