@@ -143,7 +143,10 @@ fn a_shared_value_is_dropped_with_its_last_owner(rt: HostRuntime) -> Result<(), 
 
 #[test]
 fn refused_memory_is_told_as_such(rt: HostRuntime) -> Result<(), Fail> {
-    assert_eq!(rt; format!(in rt.alloc(); "{NoMemory}")?.as_str(), "no memory was left");
+    assert_eq!(rt;
+        format!(in rt.alloc(); "{NoMemory}")?.as_str(),
+        "no memory was left"
+    );
     assert_eq!(rt; NoMemory::from(AllocError), NoMemory);
     assert_eq!(rt; Fault::from(AllocError), Fault::NoMemory);
     assert_eq!(rt; Fault::from(NoMemory), Fault::NoMemory);

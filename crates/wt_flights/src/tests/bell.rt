@@ -1,14 +1,12 @@
 // The bell, in the schedules that are hardest to meet by chance. Each test ends whatever the body under
 // test does: a waiter that isn't woken as it should be is woken by the test, after a long time.
-ghost use Rattle.std.specs.Prelude.{◌≡◌};
-
 use super::Version;
 use crate::{Landing, Lead, Outcome, Publish, Ticket};
-use std::alloc::Global;
+use std::sync::Wait;
 use std::sync::atomic::{AtomicU32, Ordering};
-use std::sync::{Arc, Wait};
 use std::test::Fail;
 use std::thread;
+use wt_keys::Answers;
 
 const SEVENTH: Version = Version { key: 9, number: 7 };
 
@@ -47,10 +45,12 @@ fn wait_counted<R: Wait>(
 }
 
 // Publishes the value, and answers a ticket.
-fn published(lead: Lead<u64, Version>) -> Option<Ticket<u64, Version>>
-    requires { lead.key ≡ 9 }
-{
-    match lead.publish(Outcome::Value(SEVENTH)) {
+fn published(lead: Lead<u64, Version>) -> Option<Ticket<u64, Version>> {
+    let outcome = Outcome::Value(SEVENTH);
+    if !outcome.answers(&lead.key()) {
+        return None;
+    }
+    match lead.publish(outcome) {
         Publish::Published(ticket) => Some(ticket),
         Publish::Already(_) => None,
     }
