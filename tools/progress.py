@@ -17,6 +17,7 @@ BEGUN = re.compile(r"^(?:rt: chose --jobs \d+ for|==) (\w+)")
 TOTAL = re.compile(r"^so far: (\d+) of (\d+) functions")
 ENDED = re.compile(r"^logic=(\w+) functions=(\d+)")
 GATE = re.compile(r"^(?:rt: )?\w+(?:: its tests are)? (?:proved|NOT PROVED)$|^(?:rt: )?\w+: trying its must-fail edits \(\d+\)$")
+REFUSED = re.compile(r"^(?:rt: )?must-fail \S+: refused")
 # What the moving line leaves no room for, on a terminal.
 NOISE = re.compile(r"^(?:fn |statements |library |logic |crate |by-macro: |so far: |==)")
 
@@ -24,7 +25,7 @@ NOISE = re.compile(r"^(?:fn |statements |library |logic |crate |by-macro: |so fa
 class Progress:
     def __init__(self, name, of_gate):
         self.name, self.of_gate, self.start = name, of_gate, time.monotonic()
-        self.crate, self.proved, self.total = "", 0, 0
+        self.crate, self.proved, self.total, self.refused = "", 0, 0, 0
         self.ended, self.notes = [], []
         self.moves = sys.stderr.isatty()
         self.lock = threading.Lock()
@@ -40,6 +41,8 @@ class Progress:
             self.ended.append(line.removeprefix("rt: "))
             return self.ended[-1]
         if self.of_gate:
+            self.proved += bool(function)
+            self.refused += bool(REFUSED.match(line))
             return None
         if begun:
             self.crate, self.proved, self.total = begun.group(1), 0, 0
@@ -59,7 +62,7 @@ class Progress:
         parts = ["tools/%s: %s" % (self.name, self.time_so_far())]
         if self.ended and self.of_gate:
             proved = sum(1 for text in self.ended if text.endswith(" proved"))
-            parts.append("%d of the gate's checks proved; latest: %s" % (proved, self.ended[-1]))
+            parts.append("%d checks and %d functions proved, %d edits refused; latest: %s" % (proved, self.proved, self.refused, self.ended[-1]))
         elif self.ended:
             parts.append("done: %s" % " ".join(dict.fromkeys(self.ended)))
         if self.crate and self.total:
