@@ -28,6 +28,7 @@ RUNS = [
     ("1,000,000 lines", "", MANY, 0, MANY_REPORT + MANY_SUMMARY, b""),
     ("1,000,001 lines", "", MANY + b"0 L 1\n", 1, MANY_REPORT, b"fault 13\n"),
     ("1,000,001 lines, the last too long", "", MANY + b"1" * 65, 1, MANY_REPORT, b"fault 13\n"),
+    ("1,000,001 lines with the header", "", b"wt 2\n" + MANY, 1, MANY_REPORT[len(b"1 absent\n"):], b"fault 13\n"),
     ("the first option at fault is told", "--flights 0 --window 9 --entries 4", TWO, 1, b"", b"fault 2 field window\n"),
     ("an option before a bad line", "--entries 0", b"bad\n", 1, b"", b"fault 2 field entries\n"),
     ("a due hit at the limit of loads", "--entries 4 --window 1 --flights 1 --refresh 5", b"0 S 2\n0 P 1\n9 S 1\n", 0,
@@ -126,7 +127,7 @@ def check(program):
     outcomes += [
         ("help is told, and the trace not read", help_is_told(program)),
         ("a full device", full_output(program, TWO)),
-        ("a full device and a bad line", full_output(program, b"bad\n0 L 1\n") or full_output(program, TWO + b"bad\n")),
+        ("a full device and a bad line", full_output(program, TWO + b"bad\n")),
         ("a pipe that nobody reads", closed_output(program)),
         ("no standard output", missing_output(program)),
         ("input that can't be read", read_fails(program)),
