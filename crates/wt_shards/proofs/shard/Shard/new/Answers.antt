@@ -1,0 +1,47 @@
+use Rattle.std.proofs.Common.{◌≡◌, ◌+◌, ◌≤◌, Err, length, refl, sym, ap, ◌∙◌, subst, arith}
+use Rattle.circular_buffer.specs.Buffer.{Buffer}
+use Rattle.wt_regions.specs.Notices.{NoticeList}
+use Rattle.wt_core.specs.declared.kinds.Call.{Call}
+use Rattle.wt_core.specs.Lawful.{IsLawful}
+use Rattle.wt_core.specs.State.{State, config_fault}
+use Rattle.wt_shards.specs.declared.shade.Shade.{Shade}
+use Rattle.wt_shards.specs.Audited.{IsAudited, new_shard}
+use Rattle.wt_shards.proofs.Audits.{audited-new, same_shard}
+use Rattle.wt_shards.proofs.Configs.{accepted, refused-by_check}
+use Rattle.wt_shards.proofs.shard.Shard.new.Goals as goal
+
+pub returns-in-Err-clause-refusal : goal.returns-in-Err-clause-refusal
+returns-in-Err-clause-refusal g c = refused-by_check (λ x. Err x) (config_fault c.args.config.now) c.check.result c.in-Err.fault c.check.ensures.refusal c.in-Err.is
+
+pub returns-in_default-new-3-clause-refusal : goal.returns-in_default-new-3-clause-refusal
+returns-in_default-new-3-clause-refusal g c = accepted _ (λ x. Err x) (config_fault c.args.config.now) c.check.result c.check.ensures.refusal c.in_default.is refl
+
+pub returns-clause-refusal : goal.returns-clause-refusal
+returns-clause-refusal g c = accepted _ (λ x. Err x) (config_fault c.args.config.now) c.check.result c.check.ensures.refusal c.in_default.is tt
+
+pub invariant_of-result : goal.invariant_of-result
+invariant_of-result g c =
+    let K = g.row.K.Denot in
+    let V = g.row.V.Denot in
+    let eq = g.K.PartialEq.eq in
+    let word = g.K.CacheKey.word in
+    let weight = g.V.Weighs.weight in
+    let config = c.args.config.now in
+    let core = c.in-Ok.ensures.ok in
+    let lagging = c.in-Ok-new.ensures.ok in
+    let ring = c.in-Ok-with_capacity.ensures in
+    let aside = c.in-Ok-new-2.ensures in
+    let is = same_shard (new_shard config) (record { config = config; core = c.in-Ok.core; lagging = c.in-Ok-new.lagging; records = c.in-Ok-with_capacity.ring.items; landings = c.in-Ok-with_capacity-2.landings.items; given = 0 })
+    refl core lagging (ap (λ (b : Buffer (Call K Shade)). b.items) ring) c.in-Ok-with_capacity-2.ensures.items refl in (
+      subst (IsAudited eq word weight g.V.Answers.answers g.S.ShardLedger.place.shards g.S.ShardLedger.place.index) (sym is) (audited-new eq word weight g.V.Answers.answers g.S.ShardLedger.place.shards g.S.ShardLedger.place.index config c.in_default.ensures.within.ring_over (subst (IsLawful eq weight) core c.stats-stats.ensures.lawful)),
+      ap (λ (b : Buffer (Call K Shade)). b.capacity) ring,
+      omega (arith, c.in-Ok-with_capacity-2.ensures.exact),
+      omega (arith, ap (λ (s : State K Shade). s.regions.caps.entries) lagging, ap (λ (n : NoticeList K Shade). n.room) aside),
+      c.open-steps.ensures.total ∙ sym (ap (λ (s : State K V). s.step) core),
+      c.open-hits.ensures.total ∙ sym (ap (λ (s : State K V). s.counts.hits) core),
+      omega (arith, c.open-steps.ensures.parts, c.requires.steps.1, c.requires.steps.2),
+      omega (arith, c.open-hits.ensures.parts, c.requires.hits.1, c.requires.hits.2),
+      c.open-steps.ensures.amount,
+      c.open-hits.ensures.amount,
+      c.requires.made_for,
+    )

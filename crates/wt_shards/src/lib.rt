@@ -1,0 +1,41 @@
+//! Audited shards of a cache behind locks: at all times the outline of each is its lagging copy
+//! followed by recorded steps.
+#![tactic(auto)]
+
+mod at_home;
+mod books;
+mod closed;
+mod done;
+mod explained;
+mod kept;
+mod lag;
+mod laws;
+mod names;
+mod pass;
+mod refusal;
+mod shade;
+mod shading;
+mod shard;
+mod shard_ledger;
+mod shards;
+mod shares;
+mod sought;
+mod sweep;
+mod total;
+mod totals;
+
+pub use books::{Blanks, Books, Named};
+pub use closed::Closed;
+pub use done::Done;
+pub use explained::Explained;
+pub use laws::outline_of_step;
+pub use names::{Hits, Names, Of, Steps};
+pub use pass::Pass;
+pub use shade::{Noted, Shade};
+pub use shard::Shard;
+pub use shard_ledger::ShardLedger;
+pub use shards::Shards;
+pub use shares::Shares;
+pub use sought::Sought;
+pub use total::Total;
+pub use totals::Totals;

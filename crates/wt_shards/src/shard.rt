@@ -1,0 +1,243 @@
+// A shard: a cache that is audited.
+//
+//     core       the cache itself
+//     lagging    its outline, so many steps ago
+//     ring       the steps since then, the oldest first; a place for each open load is kept free
+//     landings   where the outcome of each open load will stand, in the order of opening
+//     books      how many steps were made and how many of them hit, as sums of what callers hold
+//
+// A step decides whether it is refused, then moves the fewest oldest records over to the lagging
+// copy, then makes the cache's step and records it. So what may be refused for memory comes before
+// the cache changes.
+ghost use Rattle.std.specs.Prelude.{◌≡◌, ℕ, ◌+◌, ◌-◌, ◌<◌, ◌≤◌, ◌^◌, ◌==◌, None, Some, IsTrue, IsSome, IsOk, IfOk, IfErr, OnOk, OnErr, IsOkUnless, MatchOption, Ok, Err, length, take, drop, [], ◌∷◌, ◌++◌, false, true, is_some, if◌then◌else◌};
+ghost use Rattle.wt_keys.specs.declared.fault.Fault.TheVariants as fault;
+ghost use Rattle.wt_flights.specs.Rows.{row_of};
+ghost use Rattle.wt_regions.specs.Notices.{appended};
+ghost use Rattle.wt_core.specs.declared.kinds.Call.TheVariants as call;
+ghost use Rattle.wt_core.specs.State.{config_fault, stats_of};
+ghost use Rattle.wt_core.specs.Lawful.{AreSmall};
+ghost use Rattle.wt_shards.specs.StateAt.{IsStateAt};
+ghost use Rattle.wt_shards.specs.Totals.{total_of};
+ghost use Rattle.wt_shards.specs.Counts.{counted, no_steps, is_hit, IsBlankOf};
+
+mod looks;
+mod removals;
+mod stepping;
+mod stores;
+
+use crate::closed::Closed;
+use crate::explained::Explained;
+use crate::kept::Kept;
+use crate::shade::Shade;
+use crate::shard_ledger::ShardLedger;
+use crate::shares::Shares;
+use crate::sought::Sought;
+use crate::total::Total;
+use circular_buffer::HeapCircularBuffer;
+use std::alloc::Global;
+use std::marker::Model;
+use std::sync::ledger::{Blank, Book, Ledger, Share as Part};
+use wt_core::{Call, Config, Core, Land, Notices, Reply, Stats, Weighs};
+use wt_keys::{Answers, CacheKey, Fault, NoMemory, Share};
+
+/// An audited cache: at all times its outline is that of its lagging copy followed by the recorded
+/// steps.
+#[derive(Drop)]
+pub struct Shard<K: CacheKey, V: Share + Weighs + Answers<K>, S: ShardLedger, H: Ledger> {
+    pub(crate) alloc: Global,
+    // What it was made for; never changes.
+    pub(crate) config: Config,
+    pub(crate) core: Core<K, V>,
+    pub(crate) lagging: Core<K, Shade>,
+    pub(crate) ring: HeapCircularBuffer<Call<K, Shade>>,
+    pub(crate) landings: Vec<Kept<K, V>>,
+    // The notices of the lagging copy, which nobody reads.
+    pub(crate) aside: Notices<K, Shade>,
+    // How many shares of the books were given out.
+    pub(crate) given: u32,
+    pub(crate) steps: Book<S>,
+    pub(crate) hits: Book<H>,
+    pub(crate) steps_left: Part<S>,
+    pub(crate) hits_left: Part<H>,
+}
+
+impl<K: CacheKey, V: Share + Weighs + Answers<K>, S: ShardLedger, H: Ledger> Model
+    for Shard<K, V, S, H> {
+    ghost use Rattle.std.specs.Prelude.{◌≡◌, ◌+◌, ◌≤◌, length, vec_capacity};
+    ghost use Rattle.wt_shards.specs.Audited.{Audited, IsAudited};
+
+    ghost Value = { Audited K V };
+
+    ghost view = { λ s. record {
+      config = s.config;
+      core = s.core;
+      lagging = s.lagging;
+      records = s.ring.items;
+      landings = s.landings.items;
+      given = s.given;
+    } };
+
+    ghost invariant = { λ s. IsAudited K.eq K.word V.weight V.answers
+        S.ShardLedger.place.shards S.ShardLedger.place.index (record {
+          config = s.config;
+          core = s.core;
+          lagging = s.lagging;
+          records = s.ring.items;
+          landings = s.landings.items;
+          given = s.given;
+        })
+        × (s.ring.capacity ≡ s.config.ring)
+        × (s.config.flights ≤ vec_capacity s.landings)
+        × (s.lagging.regions.caps.entries ≤ s.aside.room + length s.aside.list)
+        × (s.steps.total ≡ s.core.step)
+        × (s.hits.total ≡ s.core.counts.hits)
+        × (s.steps_left.parts + s.given ≡ 65536)
+        × (s.hits_left.parts + s.given ≡ 65536)
+        × (s.steps_left.amount ≡ 0)
+        × (s.hits_left.amount ≡ 0)
+        × (s.config ≡ S.ShardLedger.place.config) };
+}
+
+impl<K: CacheKey, V: Share + Weighs + Answers<K>, S: ShardLedger, H: Ledger> Shard<K, V, S, H> {
+    ghost use Rattle.wt_core.specs.Step.{step, refusal_of};
+    ghost use Rattle.wt_shards.specs.Audited.{IsAudited, IsShardState, IsHome, IsCaughtUp, new_shard, moved, excess, shard_step};
+    ghost use Rattle.wt_shards.specs.Sought.{reply_of, opened_by, IsOfLandings};
+
+    /// Makes an empty shard, of this number among so many.
+    ///
+    /// `BadConfig` as `Config::check` answers it, before memory is asked for. Takes memory for the
+    /// cache and its copy, the ring, the landings and the copy's notices. O(entries + ring).
+    pub fn new(
+        alloc: Global,
+        config: &Config,
+        index: usize,
+        shards: usize,
+        steps: Blank,
+        hits: Blank,
+    ) -> Result<Shard<K, V, S, H>, Fault>
+        requires here { (index ≡ S.ShardLedger.place.index)
+            × (shards ≡ S.ShardLedger.place.shards) × (index < shards) }
+        requires made_for { config.now ≡ S.ShardLedger.place.config }
+        requires steps { IsBlankOf steps S.Ledger.name S.Ledger.parts }
+        requires hits { IsBlankOf hits H.name H.parts }
+
+        ensures ok { IfOk result (λ shard. shard ≡ new_shard config.now) }
+        // What the configuration refuses is refused whatever the memory does.
+        ensures refusal { MatchOption (config_fault config.now)
+            (IsOkUnless result fault.NoMemory) (λ field. result ≡ Err (fault.BadConfig field)) }
+    {
+        if let Err(fault) = config.check() {
+            return Err(fault);
+        }
+        let Ok(core) = Core::new(alloc, config) else {
+            return Err(Fault::NoMemory);
+        };
+        let Ok(lagging) = Core::new(alloc, config) else {
+            return Err(Fault::NoMemory);
+        };
+        let Ok(ring) = HeapCircularBuffer::with_capacity(alloc, config.ring as usize) else {
+            return Err(Fault::NoMemory);
+        };
+        let Ok(landings) = Vec::with_capacity(alloc, config.flights as usize) else {
+            return Err(Fault::NoMemory);
+        };
+        let Ok(aside) = Notices::new(alloc, config.entries as usize) else {
+            return Err(Fault::NoMemory);
+        };
+        // For the prover: shows what holds of the cache at all times.
+        let _stats = core.stats();
+        let (steps, steps_left) = steps.open::<S>();
+        let (hits, hits_left) = hits.open::<H>();
+        Ok(Shard {
+            alloc,
+            config: *config,
+            core,
+            lagging,
+            ring,
+            landings,
+            aside,
+            given: 0,
+            steps,
+            hits,
+            steps_left,
+            hits_left,
+        })
+    }
+
+    /// Returns a caller's shares of the books, of nothing yet.
+    ///
+    /// `PassesSpent` comes exactly after 65,535 of them. Takes no memory. O(1).
+    pub fn shares(&mut self) -> Result<Shares<S, H>, Fault>
+        ensures state { OnOk result (self.new ≡ record self.old { given = self.old.given + 1 }) }
+        ensures answer { IfOk result (λ shares. shares ≡ no_steps) }
+        ensures refusal { MatchOption
+            (if self.old.given == 65535 then Some fault.PassesSpent else None)
+            (IsOk result) (λ f. result ≡ Err f) }
+        ensures err { OnErr result (self.new ≡ self.old) }
+    {
+        if self.given >= 65535 {
+            return Err(Fault::PassesSpent);
+        }
+        let of_steps = self.steps_left.split_off(1, 0);
+        let of_hits = self.hits_left.split_off(1, 0);
+        self.given += 1;
+        Ok(Shares::of(of_steps, of_hits))
+    }
+
+    /// Returns how many steps were made. Takes no memory. O(1).
+    pub fn steps(&self) -> u64
+        ensures number { result ≡ self.now.core.step }
+        // What holds of the shard at all times.
+        ensures audited { IsAudited K.eq K.word V.weight V.answers
+            S.ShardLedger.place.shards S.ShardLedger.place.index self.now }
+        ensures lawful { IsStateAt K.eq K.word V.weight V.answers
+            S.ShardLedger.place self.now.core }
+    {
+        self.core.step()
+    }
+
+    /// Returns the numbers of the cache. Is no step, and takes no memory. O(1).
+    pub fn stats(&self) -> Stats
+        ensures numbers { result ≡ stats_of self.now.core }
+        ensures small { AreSmall result }
+    {
+        self.core.stats()
+    }
+
+    /// Shows the lagging copy, and the steps that lead from it to the present. Takes no memory.
+    /// O(1).
+    pub fn explain(&self) -> Explained<'_, K>
+        ensures shown { (result.lagging ≡ self.now.lagging) × (result.records ≡ self.now.records) }
+        // What holds of the shard at all times.
+        ensures audited { IsAudited K.eq K.word V.weight V.answers
+            S.ShardLedger.place.shards S.ShardLedger.place.index self.now }
+    {
+        Explained {
+            copy: &self.lagging,
+            ring: &self.ring,
+        }
+    }
+
+    /// Ends the shard and closes its books. Takes no memory.
+    pub(crate) fn close(self) -> Closed<S, H>
+        ensures total { result ≡ total_of self.core }
+        // What held of the shard at all times.
+        ensures lawful { IsStateAt K.eq K.word V.weight V.answers S.ShardLedger.place self.core }
+        ensures sound { (result.stats.hits + result.stats.misses ≡ result.stats.lookups)
+            × (result.stats.weight ≤ S.ShardLedger.place.config.bound) }
+        ensures small { AreSmall result.stats }
+    {
+        let stats = self.stats();
+        let made = self.steps();
+        let Shard { steps, hits, .. } = self;
+        Closed::of(
+            Total {
+                steps: made,
+                hits: stats.hits,
+                stats,
+            },
+            steps,
+            hits,
+        )
+    }
+}

@@ -1,0 +1,162 @@
+// Look-ups of a shard.
+ghost use Rattle.std.specs.Prelude.{◌≡◌, ℕ, ◌+◌, ◌<◌, ◌≤◌, None, Some, [], IfOk, OnOk, OnErr, IsOk, IsOkUnless, MatchOption, Ok, Err, IsTrue, is_some, length, IfErr, true, IfSome};
+ghost use Rattle.wt_keys.specs.declared.fault.Fault.TheVariants as fault;
+ghost use Rattle.wt_regions.specs.Notices.{appended};
+ghost use Rattle.wt_core.specs.declared.kinds.Call.TheVariants as call;
+ghost use Rattle.wt_shards.specs.Counts.{counted, is_hit};
+ghost use Rattle.wt_shards.specs.Told.{HasTold};
+ghost use Rattle.wt_shards.specs.Faults.{is_step_fault, is_seek_fault, is_put_fault};
+
+use crate::kept::{Kept, find_kept};
+use crate::shard::Shard;
+use crate::shard_ledger::ShardLedger;
+use crate::shares::Shares;
+use crate::sought::Sought;
+use std::sync::ledger::Ledger;
+use wt_core::{Call, Foreseen, Notices, Reply, Weighs};
+use wt_keys::{Answers, CacheKey, Fault, Share};
+
+impl<K: CacheKey, V: Share + Weighs + Answers<K>, S: ShardLedger, H: Ledger> Shard<K, V, S, H> {
+    ghost use Rattle.wt_core.specs.Step.{step, refusal_of};
+    ghost use Rattle.wt_shards.specs.Asked.{ReplyAnswers};
+    ghost use Rattle.wt_shards.specs.Audited.{IsCaughtUp, IsHome, shard_step};
+    ghost use Rattle.wt_shards.specs.Sought.{IsOfLandings, opened_by, reply_of};
+
+    /// Looks the key up at the moment `now`, in milliseconds, and answers `Hit` with a share of its
+    /// value, or `Absent`.
+    ///
+    /// `StepsSpent` comes before memory is asked for, which a hit takes and the lagging copy may.
+    /// Expected O(1), and what the dropped records cost.
+    pub fn look(
+        &mut self,
+        mine: &mut Shares<S, H>,
+        key: K,
+        now: u64,
+        notices: &mut Notices<K, V>,
+    ) -> Result<Reply<V>, Fault>
+        requires home { IsHome K.word S.ShardLedger.place.shards S.ShardLedger.place.index key }
+        requires room { S.ShardLedger.place.config.entries ≤ notices.old.room }
+
+        ensures state { OnOk result (self.new
+            ≡ shard_step K.eq K.word V.weight (call.Look key now) [] self.old) }
+        ensures answer { IfOk result (λ reply. reply
+            ≡ (step K.eq K.word V.weight self.old.core (call.Look key now)).reply) }
+        ensures notices { OnOk result (notices.new ≡ appended
+            (step K.eq K.word V.weight self.old.core (call.Look key now)).notices
+            notices.old) }
+        ensures moved { IfOk result (λ reply. mine.new ≡ counted (is_hit reply) mine.old) }
+        // The number of this step is above those of all steps that the caller made here.
+        ensures later { OnOk result ((mine.old.steps ≤ self.old.core.step)
+            × (self.new.core.step ≡ self.old.core.step + 1)) }
+        ensures answers { IfOk result (λ reply. ReplyAnswers V.answers key reply) }
+
+        ensures allowed { OnOk result
+            (refusal_of K.eq K.word V.weight self.old.core (call.Look key now) ≡ None) }
+        // What the state refuses is refused whatever the memory does, and leaves the whole shard as
+        // it is.
+        ensures refusal { MatchOption
+            (refusal_of K.eq K.word V.weight self.old.core (call.Look key now))
+            (IsOkUnless result fault.NoMemory)
+            (λ f. (result ≡ Err f) × (self.new ≡ self.old)) }
+        ensures faults { IfErr result (λ f. is_step_fault f ≡ true) }
+        // Whatever is answered.
+        ensures told { HasTold S.ShardLedger.place.config.entries notices.old notices.new }
+        ensures err { OnErr result
+            (IsCaughtUp K.eq K.word V.weight (call.Look key now) self.old self.new
+            × (mine.new ≡ mine.old) × (notices.new ≡ notices.old)) }
+    {
+        self.make(mine, Call::Look(key, now), None, notices)
+    }
+
+    /// Looks the key up at the moment `now`, and where it isn't there joins its current load or
+    /// opens one.
+    ///
+    /// Answers `Hit`, a `Join` with a ticket, or a `Lead` with the right to load and a ticket; or
+    /// `HitLead`, where the entry is due. Leads and tickets are of the landing that the shard keeps
+    /// for the load; the lead's moment is `now`, in milliseconds. `StepsSpent` comes before
+    /// `TooManyFlights`, and both before memory is asked for. Expected O(open loads), and what the
+    /// dropped records cost.
+    pub fn seek(
+        &mut self,
+        mine: &mut Shares<S, H>,
+        key: K,
+        now: u64,
+        notices: &mut Notices<K, V>,
+    ) -> Result<Sought<K, V>, Fault>
+        requires home { IsHome K.word S.ShardLedger.place.shards S.ShardLedger.place.index key }
+        requires room { S.ShardLedger.place.config.entries ≤ notices.old.room }
+
+        ensures state { IfOk result (λ sought. self.new
+            ≡ shard_step K.eq K.word V.weight (call.Seek key now) (opened_by sought) self.old) }
+        ensures answer { IfOk result (λ sought. reply_of sought
+            ≡ (step K.eq K.word V.weight self.old.core (call.Seek key now)).reply) }
+        ensures landings { IfOk result (IsOfLandings key now self.new.landings) }
+        ensures notices { OnOk result (notices.new ≡ appended
+            (step K.eq K.word V.weight self.old.core (call.Seek key now)).notices
+            notices.old) }
+        ensures moved { IfOk result (λ sought.
+            mine.new ≡ counted (is_hit (reply_of sought)) mine.old) }
+        // The number of this step is above those of all steps that the caller made here.
+        ensures later { OnOk result ((mine.old.steps ≤ self.old.core.step)
+            × (self.new.core.step ≡ self.old.core.step + 1)) }
+        ensures answers { IfOk result (λ sought. ReplyAnswers V.answers key (reply_of sought)) }
+
+        ensures allowed { OnOk result
+            (refusal_of K.eq K.word V.weight self.old.core (call.Seek key now) ≡ None) }
+        // What the state refuses is refused whatever the memory does, and leaves the whole shard as
+        // it is.
+        ensures refusal { MatchOption
+            (refusal_of K.eq K.word V.weight self.old.core (call.Seek key now))
+            (IsOkUnless result fault.NoMemory)
+            (λ f. (result ≡ Err f) × (self.new ≡ self.old)) }
+        ensures faults { IfErr result (λ f. is_seek_fault f ≡ true) }
+        // Whatever is answered.
+        ensures told { HasTold S.ShardLedger.place.config.entries notices.old notices.new }
+        ensures err { OnErr result
+            (IsCaughtUp K.eq K.word V.weight (call.Seek key now) self.old self.new
+            × (mine.new ≡ mine.old) × (notices.new ≡ notices.old)) }
+    {
+        if let Some(fault) = self.refusal(&Call::Seek(key, now)) {
+            return Err(fault);
+        }
+        match self.core.foresee(key, now) {
+            Foreseen::Hit => {
+                let reply = self.make(mine, Call::Seek(key, now), None, notices)?;
+                let Reply::Hit(value) = reply else {
+                    unreachable!()
+                };
+                Ok(Sought::Hit(value))
+            }
+            Foreseen::Join(id) => {
+                let Some(kept) = find_kept(&self.landings, id) else {
+                    unreachable!()
+                };
+                let Ok(ticket) = kept.ticket() else {
+                    self.stay(&Call::Seek(key, now));
+                    return Err(Fault::NoMemory);
+                };
+                self.make(mine, Call::Seek(key, now), None, notices)?;
+                Ok(Sought::Join(ticket))
+            }
+            Foreseen::Lead(id) => {
+                let Ok((kept, lead, ticket)) = Kept::start(self.alloc, id, key, now) else {
+                    self.stay(&Call::Seek(key, now));
+                    return Err(Fault::NoMemory);
+                };
+                self.make(mine, Call::Seek(key, now), Some(kept), notices)?;
+                Ok(Sought::Lead(lead, ticket))
+            }
+            Foreseen::HitLead(id) => {
+                let Ok((kept, lead, ticket)) = Kept::start(self.alloc, id, key, now) else {
+                    self.stay(&Call::Seek(key, now));
+                    return Err(Fault::NoMemory);
+                };
+                let reply = self.make(mine, Call::Seek(key, now), Some(kept), notices)?;
+                let Reply::HitLead(value, _) = reply else {
+                    unreachable!()
+                };
+                Ok(Sought::HitLead(value, lead, ticket))
+            }
+        }
+    }
+}

@@ -1,0 +1,133 @@
+// A step of a shard, whichever call it is: decide, catch up, step, record.
+ghost use Rattle.std.specs.Prelude.{◌≡◌, ℕ, ◌+◌, ◌<◌, ◌≤◌, None, Some, IfOk, OnOk, OnErr, IsOk, IsOkUnless, MatchOption, Ok, Err, IsTrue, is_some, length, map, ◌++◌, IfErr, true, IfSome};
+ghost use Rattle.std.specs.Option.{option_to_list};
+ghost use Rattle.wt_keys.specs.declared.fault.Fault.TheVariants as fault;
+ghost use Rattle.wt_regions.specs.Notices.{appended};
+ghost use Rattle.wt_shards.specs.Counts.{counted, is_hit};
+ghost use Rattle.wt_shards.specs.Told.{HasTold};
+ghost use Rattle.wt_shards.specs.Faults.{is_fault_of};
+
+use crate::kept::{Kept, change};
+use crate::lag::catch_up;
+use crate::refusal::{open_after, refusal};
+use crate::shading::shaded;
+use crate::shard::Shard;
+use crate::shard_ledger::ShardLedger;
+use crate::shares::Shares;
+use std::sync::ledger::Ledger;
+use wt_core::{Call, Notices, Reply, Weighs, steps_keep_counts, steps_tell_few};
+use wt_keys::{Answers, CacheKey, Fault, NoMemory, Share};
+
+impl<K: CacheKey, V: Share + Weighs + Answers<K>, S: ShardLedger, H: Ledger> Shard<K, V, S, H> {
+    ghost use Rattle.wt_core.specs.Landings.{IsLanding, IsEmptyLanding};
+    ghost use Rattle.wt_core.specs.Step.{step, refusal_of};
+    ghost use Rattle.wt_shards.specs.Asked.{AnswersAsked, IsAsked};
+    ghost use Rattle.wt_shards.specs.Audited.{IsAudited, IsCaughtUp, excess, load_at, load_of, moved, need, places, shard_step, still_open};
+
+    // The fault by which the state refuses the call, want of memory aside.
+    pub(crate) fn refusal(&self, call: &Call<K, V>) -> Option<Fault>
+        ensures refusal { result ≡ refusal_of K.eq K.word V.weight self.now.core call.now }
+        ensures faults { IfSome result (λ f. is_fault_of call.now f ≡ true) }
+    {
+        refusal(&self.core, self.config.bound, self.config.flights, call)
+    }
+
+    // Makes the call's step and records it; the landing is that of the load which the step opens.
+    #[tactic(auto, using(crate::proofs::Told::told_none, crate::proofs::Loads::empty_takes_none))]
+    pub(crate) fn make(
+        &mut self,
+        mine: &mut Shares<S, H>,
+        call: Call<K, V>,
+        opened: Option<Kept<K, V>>,
+        notices: &mut Notices<K, V>,
+    ) -> Result<Reply<V>, Fault>
+        requires asked { IsAsked V.answers K.word
+            S.ShardLedger.place.shards S.ShardLedger.place.index call }
+        requires room { S.ShardLedger.place.config.entries ≤ notices.old.room }
+        // Where each open load has one landing, each has one after the call.
+        requires landed { refusal_of K.eq K.word V.weight self.old.core call ≡ None
+            → IsAudited K.eq K.word V.weight V.answers
+            S.ShardLedger.place.shards S.ShardLedger.place.index self.old
+            → map load_at (still_open K.eq call self.old.landings ++ option_to_list opened)
+            ≡ map load_of (step K.eq K.word V.weight self.old.core call).state.flights.rows }
+
+        ensures state { OnOk result (self.new
+            ≡ shard_step K.eq K.word V.weight call (option_to_list opened) self.old) }
+        ensures answer { IfOk result (λ reply. reply
+            ≡ (step K.eq K.word V.weight self.old.core call).reply) }
+        ensures notices { OnOk result (notices.new
+            ≡ appended (step K.eq K.word V.weight self.old.core call).notices notices.old) }
+        ensures moved { IfOk result (λ reply. mine.new ≡ counted (is_hit reply) mine.old) }
+        ensures answers { IfOk result (AnswersAsked V.answers call) }
+        ensures later { OnOk result ((mine.old.steps ≤ self.old.core.step)
+            × (self.new.core.step ≡ self.old.core.step + 1)) }
+
+        ensures allowed { OnOk result (refusal_of K.eq K.word V.weight self.old.core call ≡ None) }
+        ensures refusal { MatchOption (refusal_of K.eq K.word V.weight self.old.core call)
+            (IsOkUnless result fault.NoMemory) (λ f. (result ≡ Err f) × (self.new ≡ self.old)) }
+        ensures faults { IfErr result (λ f. is_fault_of call f ≡ true) }
+        // Whatever is answered.
+        ensures told { HasTold S.ShardLedger.place.config.entries notices.old notices.new }
+        // A landing of an open load has its place.
+        ensures place { IsLanding K.eq self.old.core call
+            → excess K.eq K.word V.weight call self.old ≡ 0 }
+        ensures empty_succeeds { IsEmptyLanding K.eq self.old.core call → IsOk result }
+        ensures err { OnErr result (IsCaughtUp K.eq K.word V.weight call self.old self.new
+            × (mine.new ≡ mine.old) × (notices.new ≡ notices.old)) }
+    {
+        if let Some(fault) = refusal(&self.core, self.config.bound, self.config.flights, &call) {
+            return Err(fault);
+        }
+        // For the prover: how many loads are open after the step, and how many notices it tells.
+        steps_keep_counts::<K, V>();
+        steps_tell_few::<K, V>();
+        let rows = open_after(&self.core, &call);
+        let Ok(()) = self.make_room(rows) else {
+            return Err(Fault::NoMemory);
+        };
+        let noted = shaded(&call);
+        let Ok(reply) = self.core.take(call, notices) else {
+            return Err(Fault::NoMemory);
+        };
+        // For the prover: shows what holds of the cache at all times.
+        let _stats = self.core.stats();
+        change(&mut self.landings, &noted, opened);
+        let _dropped = self.ring.push_back(noted);
+        mine.count(&mut self.steps, &mut self.hits, hits(&reply));
+        Ok(reply)
+    }
+
+    // Moves the fewest oldest records over, so that one is recorded and so many loads have a place
+    // after it.
+    pub(crate) fn make_room(&mut self, rows: usize) -> Result<(), NoMemory>
+        requires rows { rows ≤ self.old.config.flights }
+        ensures ok { OnOk result
+            (self.new ≡ moved K.eq K.word V.weight (need rows self.old) self.old) }
+        ensures room { OnOk result (length self.new.records + 1 + rows ≤ places self.new) }
+        ensures none_succeeds { need rows self.old ≡ 0 → IsOk result }
+        ensures err { OnErr result ((n : ℕ) × (n ≤ need rows self.old)
+            × (self.new ≡ moved K.eq K.word V.weight n self.old)) }
+    {
+        let count = (self.ring.len() + 1 + rows).saturating_sub(self.ring.capacity());
+        let Ok(()) = catch_up(&mut self.lagging, &mut self.ring, &mut self.aside, count) else {
+            return Err(NoMemory);
+        };
+        Ok(())
+    }
+
+    // Does nothing.
+    pub(crate) fn stay(&mut self, call: &Call<K, V>)
+        ensures { (self.new ≡ self.old)
+            × IsCaughtUp K.eq K.word V.weight call.now self.old self.new }
+    {}
+}
+
+// Whether a reply counts as a hit.
+fn hits<V>(reply: &Reply<V>) -> bool
+    ensures { result ≡ is_hit reply.now }
+{
+    match reply {
+        Reply::Hit(_) | Reply::HitLead(_, _) => true,
+        _ => false,
+    }
+}

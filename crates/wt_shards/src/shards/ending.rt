@@ -1,0 +1,168 @@
+// How the shards end.
+ghost use Rattle.std.specs.Prelude.{◌≡◌, ◌<◌, ◌≤◌, ◌^◌, ◌↔◌, ℕ, sum_by, IfOk, IfErr, OnOk, IfSome, IfNone, IsSome};
+ghost use Rattle.wt_keys.specs.declared.fault.Fault.TheVariants as fault;
+ghost use Rattle.wt_shards.specs.Place.{place_of};
+ghost use Rattle.wt_shards.specs.StateAt.{IsStateAt};
+ghost use Rattle.wt_shards.specs.Passes.{steps_at, hits_at};
+ghost use Rattle.wt_shards.specs.Totals.{IsSound, AreSums, AreNotSums, AddUp, IsTotal, IsMissing, AreTotals, AddUpBelow, total_of};
+
+use crate::books::Books;
+use crate::closed::Closed;
+use crate::pass::Pass;
+use crate::shard::Shard;
+use crate::shard_ledger::ShardLedger;
+use crate::shards::Shards;
+use crate::totals::Totals;
+use std::alloc::Global;
+use std::sync::Mutex;
+use std::sync::ledger::Ledger;
+use wt_core::Weighs;
+use wt_keys::{Answers, CacheKey, Fault, Share};
+
+// The sum of the passes' steps at a shard, if it fits.
+#[tactic(auto, using(std::proofs::lemmas::List::Sums::sum_by_more_le))]
+fn steps_sum<B: Books>(passes: &Vec<Pass<B>>, shard: usize) -> Option<u64>
+    ensures sum { IfSome result (λ n. n ≡ sum_by (steps_at shard) passes.now.items) }
+    ensures large { IfNone result (2 ^ 64 ≤ sum_by (steps_at shard) passes.now.items) }
+{
+    let mut sum = 0u64;
+    for pass in passes {
+        let Some(more) = sum.checked_add(pass.steps(shard)) else {
+            return None;
+        };
+        sum = more;
+    }
+    Some(sum)
+}
+
+// The sum of the passes' hits at a shard, if it fits.
+#[tactic(auto, using(std::proofs::lemmas::List::Sums::sum_by_more_le))]
+fn hits_sum<B: Books>(passes: &Vec<Pass<B>>, shard: usize) -> Option<u64>
+    ensures sum { IfSome result (λ n. n ≡ sum_by (hits_at shard) passes.now.items) }
+    ensures large { IfNone result (2 ^ 64 ≤ sum_by (hits_at shard) passes.now.items) }
+{
+    let mut sum = 0u64;
+    for pass in passes {
+        let Some(more) = sum.checked_add(pass.hits(shard)) else {
+            return None;
+        };
+        sum = more;
+    }
+    Some(sum)
+}
+
+// Ends a shard whose lock is gone: its books are closed exactly where the passes add up to them.
+fn close<
+    K: CacheKey,
+    V: Share + Weighs + Answers<K> + Send + Sync,
+    S: ShardLedger,
+    H: Ledger,
+    B: Books,
+>(shard: Shard<K, V, S, H>, passes: &Vec<Pass<B>>, number: u32) -> Result<Closed<S, H>, Fault>
+    requires number { number ≡ S.ShardLedger.place.index }
+    ensures total { IfOk result (λ closed. closed ≡ total_of shard.core) }
+    ensures sound { IfOk result (IsSound S.ShardLedger.place passes.now.items) }
+    ensures sums { OnOk result (AreSums S.ShardLedger.place.index passes.now.items
+        shard.core.step shard.core.counts.hits) }
+    ensures missing { IfErr result (λ f. (f ≡ fault.PassMissing number)
+        × AreNotSums S.ShardLedger.place.index passes.now.items
+        shard.core.step shard.core.counts.hits) }
+    ensures lawful { IsStateAt K.eq K.word V.weight V.answers S.ShardLedger.place shard.core }
+{
+    let missing = Fault::PassMissing { shard: number };
+    let closed = shard.close();
+    let total = closed.total();
+    let Some(steps) = steps_sum(passes, number as usize) else {
+        return Err(missing);
+    };
+    if steps != total.steps {
+        return Err(missing);
+    }
+    let Some(hits) = hits_sum(passes, number as usize) else {
+        return Err(missing);
+    };
+    if hits != total.hits {
+        return Err(missing);
+    }
+    Ok(closed)
+}
+
+// Ends the shard of a number, if there is one.
+fn settle_at<
+    K: CacheKey,
+    V: Share + Weighs + Answers<K> + Send + Sync,
+    S: ShardLedger,
+    H: Ledger,
+    B: Books,
+>(
+    shard: Option<Mutex<Shard<K, V, S, H>>>,
+    passes: &Vec<Pass<B>>,
+    number: u32,
+) -> Result<Option<Closed<S, H>>, Fault>
+    requires number { IsSome shard → number ≡ S.ShardLedger.place.index }
+    ensures there { IfOk result (λ closed. IsSome closed ↔ IsSome shard) }
+    ensures total { IfOk result (λ closed. IfSome closed (λ total.
+        IsTotal K.eq K.word V.weight V.answers S.ShardLedger.place passes.now.items total)) }
+    ensures sums { OnOk result (IsSome shard
+        → AddUp K.eq K.word V.weight V.answers S.ShardLedger.place passes.now.items) }
+    ensures missing { IfErr result (λ f. (f ≡ fault.PassMissing number) × IsSome shard
+        × IsMissing K.eq K.word V.weight V.answers S.ShardLedger.place passes.now.items) }
+{
+    let Some(shard) = shard else {
+        return Ok(None);
+    };
+    match close(shard.into_inner(), passes, number) {
+        Ok(closed) => Ok(Some(closed)),
+        Err(fault) => Err(fault),
+    }
+}
+
+impl<K: CacheKey, V: Share + Weighs + Answers<K> + Send + Sync, B: Books> Shards<K, V, B> {
+    /// Ends the shards, and compares their books with the passes that are handed back.
+    pub fn settle<R>(
+        self,
+        _rt: &R,
+        _alloc: Global,
+        passes: Vec<Pass<B>>,
+    ) -> Result<Totals<B>, Fault>
+        ensures shards { IfOk result (λ totals. totals.shards ≡ self.shards) }
+        ensures totals { IfOk result (λ totals.
+            AreTotals K.eq K.word V.weight V.answers self passes.items totals) }
+        ensures missing { IfErr result (λ f. (least : ℕ) × (least < self.shards)
+            × (f ≡ fault.PassMissing least)
+            × IsMissing K.eq K.word V.weight V.answers (place_of least self) passes.items
+            × AddUpBelow K.eq K.word V.weight V.answers self passes.items least) }
+    {
+        let Shards {
+            shards,
+            config: _,
+            zero,
+            one,
+            two,
+            three,
+        } = self;
+        let zero = match settle_at(zero, &passes, 0) {
+            Ok(zero) => zero,
+            Err(fault) => return Err(fault),
+        };
+        let one = match settle_at(one, &passes, 1) {
+            Ok(one) => one,
+            Err(fault) => return Err(fault),
+        };
+        let two = match settle_at(two, &passes, 2) {
+            Ok(two) => two,
+            Err(fault) => return Err(fault),
+        };
+        let three = match settle_at(three, &passes, 3) {
+            Ok(three) => three,
+            Err(fault) => return Err(fault),
+        };
+        Ok(Totals {
+            shards,
+            zero,
+            one,
+            two,
+            three,
+        })
+    }
+}

@@ -1,0 +1,247 @@
+// One step at one shard, under its lock.
+ghost use Rattle.std.specs.Prelude.{◌≡◌, ◌<◌, ◌≤◌, false, true, IsTrue, IfOk, IfErr, OnOk, OnErr};
+ghost use Rattle.wt_core.specs.declared.kinds.Call.TheVariants as call;
+ghost use Rattle.wt_core.specs.declared.kinds.Reply.TheVariants as reply;
+ghost use Rattle.wt_shards.specs.Asked.{LandAnswers, ReplyAnswers};
+ghost use Rattle.wt_shards.specs.Audited.{IsHome};
+ghost use Rattle.wt_shards.specs.Counts.{counted, is_hit};
+ghost use Rattle.wt_shards.specs.Faults.{is_step_fault, is_seek_fault, is_put_fault};
+ghost use Rattle.wt_shards.specs.Outer.{IsSomeStep, IsOfKey};
+ghost use Rattle.wt_shards.specs.Sought.{reply_of};
+ghost use Rattle.wt_shards.specs.Told.{HasTold};
+
+use crate::done::Done;
+use crate::shard::Shard;
+use crate::shard_ledger::ShardLedger;
+use crate::shares::Shares;
+use crate::sought::Sought;
+use std::sync::ledger::Ledger;
+use std::sync::{Mutex, Wait};
+use wt_core::{Land, Notices, Reply, Weighs};
+use wt_flights::Lead;
+use wt_keys::{Answers, CacheKey, Fault, Share};
+
+// One look-up.
+pub(crate) fn look_at<
+    K: CacheKey,
+    V: Share + Weighs + Answers<K> + Send + Sync,
+    S: ShardLedger,
+    H: Ledger,
+    R: Wait,
+>(
+    rt: &R,
+    shard: &Mutex<Shard<K, V, S, H>>,
+    mine: &mut Shares<S, H>,
+    key: K,
+    now: u64,
+    notices: &mut Notices<K, V>,
+) -> Result<Done<Reply<V>>, Fault>
+    requires home { IsHome K.word S.ShardLedger.place.shards S.ShardLedger.place.index key }
+    requires room { S.ShardLedger.place.config.entries ≤ notices.old.room }
+    ensures moved { IfOk result (λ done. mine.new ≡ counted (is_hit done.reply) mine.old) }
+    ensures later { IfOk result (λ done. mine.old.steps < done.step) }
+    ensures step { IfOk result (λ done. IsSomeStep K.eq K.word V.weight V.answers
+        S.ShardLedger.place (call.Look key now) done.reply done.step
+        notices.old notices.new) }
+    ensures answers { IfOk result (λ done. ReplyAnswers V.answers key done.reply) }
+    ensures faults { IfErr result (λ fault. is_step_fault fault ≡ true) }
+    ensures err { OnErr result ((mine.new ≡ mine.old) × (notices.new ≡ notices.old)) }
+    ensures told { HasTold S.ShardLedger.place.config.entries notices.old notices.new }
+{
+    let mut shard = shard.lock(rt);
+    // For the prover: shows what holds of the shard.
+    let _before = shard.steps();
+    let reply = shard.look(mine, key, now, notices)?;
+    Ok(Done {
+        step: shard.steps(),
+        reply,
+    })
+}
+
+// One seek.
+pub(crate) fn seek_at<
+    K: CacheKey,
+    V: Share + Weighs + Answers<K> + Send + Sync,
+    S: ShardLedger,
+    H: Ledger,
+    R: Wait,
+>(
+    rt: &R,
+    shard: &Mutex<Shard<K, V, S, H>>,
+    mine: &mut Shares<S, H>,
+    key: K,
+    now: u64,
+    notices: &mut Notices<K, V>,
+) -> Result<Done<Sought<K, V>>, Fault>
+    requires home { IsHome K.word S.ShardLedger.place.shards S.ShardLedger.place.index key }
+    requires room { S.ShardLedger.place.config.entries ≤ notices.old.room }
+    ensures moved { IfOk result (λ done.
+        mine.new ≡ counted (is_hit (reply_of done.reply)) mine.old) }
+    ensures later { IfOk result (λ done. mine.old.steps < done.step) }
+    ensures step { IfOk result (λ done. IsSomeStep K.eq K.word V.weight V.answers
+        S.ShardLedger.place (call.Seek key now) (reply_of done.reply) done.step
+        notices.old notices.new) }
+    ensures answers { IfOk result (λ done. ReplyAnswers V.answers key (reply_of done.reply)) }
+    ensures asked { IfOk result (λ done. IsOfKey key now done.reply) }
+    ensures faults { IfErr result (λ fault. is_seek_fault fault ≡ true) }
+    ensures err { OnErr result ((mine.new ≡ mine.old) × (notices.new ≡ notices.old)) }
+    ensures told { HasTold S.ShardLedger.place.config.entries notices.old notices.new }
+{
+    let mut shard = shard.lock(rt);
+    // For the prover: shows what holds of the shard.
+    let _before = shard.steps();
+    let reply = shard.seek(mine, key, now, notices)?;
+    Ok(Done {
+        step: shard.steps(),
+        reply,
+    })
+}
+
+// One landing.
+pub(crate) fn land_at<
+    K: CacheKey,
+    V: Share + Weighs + Answers<K> + Send + Sync,
+    S: ShardLedger,
+    H: Ledger,
+    R: Wait,
+>(
+    rt: &R,
+    shard: &Mutex<Shard<K, V, S, H>>,
+    mine: &mut Shares<S, H>,
+    lead: &Lead<K, V>,
+    what: Land<V>,
+    now: u64,
+    notices: &mut Notices<K, V>,
+) -> Result<Done<Reply<V>>, Fault>
+    requires home { IsHome K.word S.ShardLedger.place.shards S.ShardLedger.place.index
+        lead.now.key }
+    requires room { S.ShardLedger.place.config.entries ≤ notices.old.room }
+    requires answers { LandAnswers V.answers lead.now.key what }
+    ensures moved { OnOk result (mine.new ≡ counted false mine.old) }
+    ensures later { IfOk result (λ done. mine.old.steps < done.step) }
+    ensures step { IfOk result (λ done. IsSomeStep K.eq K.word V.weight V.answers
+        S.ShardLedger.place (call.Land lead.now.id lead.now.key what now) done.reply done.step
+        notices.old notices.new) }
+    ensures faults { IfErr result (λ fault. is_step_fault fault ≡ true) }
+    ensures err { OnErr result ((mine.new ≡ mine.old) × (notices.new ≡ notices.old)) }
+    ensures told { HasTold S.ShardLedger.place.config.entries notices.old notices.new }
+{
+    let mut shard = shard.lock(rt);
+    // For the prover: shows what holds of the shard.
+    let _before = shard.steps();
+    let reply = shard.land(mine, lead.id(), lead.key(), what, now, notices)?;
+    Ok(Done {
+        step: shard.steps(),
+        reply,
+    })
+}
+
+// One store.
+pub(crate) fn put_at<
+    K: CacheKey,
+    V: Share + Weighs + Answers<K> + Send + Sync,
+    S: ShardLedger,
+    H: Ledger,
+    R: Wait,
+>(
+    rt: &R,
+    shard: &Mutex<Shard<K, V, S, H>>,
+    mine: &mut Shares<S, H>,
+    key: K,
+    value: V,
+    now: u64,
+    notices: &mut Notices<K, V>,
+) -> Result<Done<()>, Fault>
+    requires home { IsHome K.word S.ShardLedger.place.shards S.ShardLedger.place.index key }
+    requires room { S.ShardLedger.place.config.entries ≤ notices.old.room }
+    requires answers { IsTrue (V.answers value key) }
+    ensures moved { OnOk result (mine.new ≡ counted false mine.old) }
+    ensures later { IfOk result (λ done. mine.old.steps < done.step) }
+    ensures step { IfOk result (λ done. IsSomeStep K.eq K.word V.weight V.answers
+        S.ShardLedger.place (call.Put key value now) reply.Stored done.step
+        notices.old notices.new) }
+    ensures faults { IfErr result (λ fault. is_put_fault fault ≡ true) }
+    ensures err { OnErr result ((mine.new ≡ mine.old) × (notices.new ≡ notices.old)) }
+    ensures told { HasTold S.ShardLedger.place.config.entries notices.old notices.new }
+{
+    let mut shard = shard.lock(rt);
+    // For the prover: shows what holds of the shard.
+    let _before = shard.steps();
+    shard.put(mine, key, value, now, notices)?;
+    Ok(Done {
+        step: shard.steps(),
+        reply: (),
+    })
+}
+
+// One removal.
+pub(crate) fn drop_key_at<
+    K: CacheKey,
+    V: Share + Weighs + Answers<K> + Send + Sync,
+    S: ShardLedger,
+    H: Ledger,
+    R: Wait,
+>(
+    rt: &R,
+    shard: &Mutex<Shard<K, V, S, H>>,
+    mine: &mut Shares<S, H>,
+    key: K,
+    now: u64,
+    notices: &mut Notices<K, V>,
+) -> Result<Done<bool>, Fault>
+    requires home { IsHome K.word S.ShardLedger.place.shards S.ShardLedger.place.index key }
+    requires room { S.ShardLedger.place.config.entries ≤ notices.old.room }
+    ensures moved { OnOk result (mine.new ≡ counted false mine.old) }
+    ensures later { IfOk result (λ done. mine.old.steps < done.step) }
+    ensures step { IfOk result (λ done. IsSomeStep K.eq K.word V.weight V.answers
+        S.ShardLedger.place (call.DropKey key now) (reply.Dropped done.reply) done.step
+        notices.old notices.new) }
+    ensures faults { IfErr result (λ fault. is_step_fault fault ≡ true) }
+    ensures err { OnErr result ((mine.new ≡ mine.old) × (notices.new ≡ notices.old)) }
+    ensures told { HasTold S.ShardLedger.place.config.entries notices.old notices.new }
+{
+    let mut shard = shard.lock(rt);
+    // For the prover: shows what holds of the shard.
+    let _before = shard.steps();
+    let reply = shard.drop_key(mine, key, now, notices)?;
+    Ok(Done {
+        step: shard.steps(),
+        reply,
+    })
+}
+
+// One forgetting.
+pub(crate) fn forget_at<
+    K: CacheKey,
+    V: Share + Weighs + Answers<K> + Send + Sync,
+    S: ShardLedger,
+    H: Ledger,
+    R: Wait,
+>(
+    rt: &R,
+    shard: &Mutex<Shard<K, V, S, H>>,
+    mine: &mut Shares<S, H>,
+    key: K,
+    now: u64,
+    notices: &mut Notices<K, V>,
+) -> Result<Done<bool>, Fault>
+    requires home { IsHome K.word S.ShardLedger.place.shards S.ShardLedger.place.index key }
+    requires room { S.ShardLedger.place.config.entries ≤ notices.old.room }
+    ensures moved { OnOk result (mine.new ≡ counted false mine.old) }
+    ensures later { IfOk result (λ done. mine.old.steps < done.step) }
+    ensures step { IfOk result (λ done. IsSomeStep K.eq K.word V.weight V.answers
+        S.ShardLedger.place (call.Forget key now) (reply.Forgot done.reply) done.step
+        notices.old notices.new) }
+    ensures faults { IfErr result (λ fault. is_step_fault fault ≡ true) }
+    ensures err { OnErr result ((mine.new ≡ mine.old) × (notices.new ≡ notices.old)) }
+    ensures told { HasTold S.ShardLedger.place.config.entries notices.old notices.new }
+{
+    let mut shard = shard.lock(rt);
+    // For the prover: shows what holds of the shard.
+    let _before = shard.steps();
+    let reply = shard.forget(mine, key, now, notices)?;
+    Ok(Done {
+        step: shard.steps(),
+        reply,
+    })
+}

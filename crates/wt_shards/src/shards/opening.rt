@@ -1,0 +1,185 @@
+// How shards and passes are made.
+ghost use Rattle.std.specs.Prelude.{◌≡◌, ◌+◌, ◌*◌, ◌<◌, ◌≤◌, ◌^◌, ◌==◌, ◌||◌, ◌↔◌, IsTrue, IfOk, IfErr, IsSome, IsOkUnless, MatchOption, Err};
+ghost use Rattle.wt_keys.specs.declared.fault.Fault.TheVariants as fault;
+ghost use Rattle.wt_shards.specs.Counts.{IsBlankOf, no_steps};
+ghost use Rattle.wt_core.specs.Lawful.{AreSmall};
+ghost use Rattle.wt_shards.specs.Opening.{AreBlanks, layout_fault};
+ghost use Rattle.wt_shards.specs.Passes.{counts_of, new_pass};
+ghost use Rattle.wt_shards.specs.Place.{place_of};
+
+use crate::books::{Blanks, Books};
+use crate::pass::Pass;
+use crate::shard::Shard;
+use crate::shard_ledger::ShardLedger;
+use crate::shards::Shards;
+use crate::shares::Shares;
+use std::alloc::Global;
+use std::sync::ledger::{Blank, Ledger};
+use std::sync::{Mutex, Wait};
+use wt_core::{Config, Stats, Weighs};
+use wt_keys::{Answers, CacheKey, Fault, Field, Share};
+
+// One shard behind its lock.
+fn locked<K: CacheKey, V: Share + Weighs + Answers<K> + Send + Sync, S: ShardLedger, H: Ledger>(
+    alloc: Global,
+    config: &Config,
+    index: usize,
+    shards: usize,
+    steps: Blank,
+    hits: Blank,
+) -> Result<Option<Mutex<Shard<K, V, S, H>>>, Fault>
+    requires place { index < shards
+        → S.ShardLedger.place ≡ place_of index (record { shards = shards; config = config.now }) }
+    requires steps { IsBlankOf steps S.Ledger.name S.Ledger.parts }
+    requires hits { IsBlankOf hits H.name H.parts }
+    ensures there { IfOk result (λ shard. (index < shards) ↔ IsSome shard) }
+{
+    if index >= shards {
+        return Ok(None);
+    }
+    let shard = Shard::new(alloc, config, index, shards, steps, hits)?;
+    Ok(Some(Mutex::new(shard)))
+}
+
+// Shares of the books of one shard, where there is one.
+fn shares_at<
+    K: CacheKey,
+    V: Share + Weighs + Answers<K> + Send + Sync,
+    S: ShardLedger,
+    H: Ledger,
+    R: Wait,
+>(rt: &R, shard: &Option<Mutex<Shard<K, V, S, H>>>) -> Result<Option<Shares<S, H>>, Fault>
+    ensures there { IfOk result (λ shares. IsSome shares ↔ IsSome shard.now) }
+    ensures none { IfOk result (λ shares. counts_of shares ≡ no_steps) }
+    ensures spent { IfErr result (λ f. f ≡ fault.PassesSpent) }
+{
+    let Some(shard) = shard else {
+        return Ok(None);
+    };
+    match shard.lock(rt).shares() {
+        Ok(shares) => Ok(Some(shares)),
+        Err(fault) => Err(fault),
+    }
+}
+
+impl<K: CacheKey, V: Share + Weighs + Answers<K> + Send + Sync, B: Books> Shards<K, V, B> {
+    /// Makes so many empty shards, 1, 2 or 4 of them, each for this configuration.
+    ///
+    /// `BadConfig` of the number of shards first, then as `Config::check` answers it, before memory
+    /// is asked for. Takes memory for each shard as `Shard::new` does. Takes no lock, and `rt`
+    /// isn't used. O(shards × (entries + ring)).
+    pub fn new<R>(
+        _rt: &R,
+        alloc: Global,
+        blanks: Blanks,
+        config: &Config,
+        shards: usize,
+    ) -> Result<Shards<K, V, B>, Fault>
+        requires zero { B.S0.ShardLedger.place
+            ≡ place_of 0 (record { shards = shards; config = config.now }) }
+        requires one { B.S1.ShardLedger.place
+            ≡ place_of 1 (record { shards = shards; config = config.now }) }
+        requires two { B.S2.ShardLedger.place
+            ≡ place_of 2 (record { shards = shards; config = config.now }) }
+        requires three { B.S3.ShardLedger.place
+            ≡ place_of 3 (record { shards = shards; config = config.now }) }
+        requires blanks { AreBlanks B.S0.Ledger.name B.S0.Ledger.parts
+            B.H0.name B.H0.parts blanks.s0 blanks.h0 }
+        requires blanks_1 { AreBlanks B.S1.Ledger.name B.S1.Ledger.parts
+            B.H1.name B.H1.parts blanks.s1 blanks.h1 }
+        requires blanks_2 { AreBlanks B.S2.Ledger.name B.S2.Ledger.parts
+            B.H2.name B.H2.parts blanks.s2 blanks.h2 }
+        requires blanks_3 { AreBlanks B.S3.Ledger.name B.S3.Ledger.parts
+            B.H3.name B.H3.parts blanks.s3 blanks.h3 }
+
+        ensures ok { IfOk result (λ made. made ≡ record { shards = shards; config = config.now }) }
+        ensures refusal { MatchOption (layout_fault shards config.now)
+            (IsOkUnless result fault.NoMemory) (λ field. result ≡ Err (fault.BadConfig field)) }
+    {
+        if shards != 1 && (shards != 2 && shards != 4) {
+            return Err(Fault::BadConfig {
+                field: Field::Shards,
+            });
+        }
+        if let Err(fault) = config.check() {
+            return Err(fault);
+        }
+        let Ok(made) = Shards::made(alloc, blanks, config, shards) else {
+            return Err(Fault::NoMemory);
+        };
+        Ok(made)
+    }
+
+    // The shards, where their number is allowed.
+    fn made(
+        alloc: Global,
+        blanks: Blanks,
+        config: &Config,
+        shards: usize,
+    ) -> Result<Shards<K, V, B>, Fault>
+        requires number { IsTrue (shards == 1 || (shards == 2 || shards == 4)) }
+        requires zero { B.S0.ShardLedger.place
+            ≡ place_of 0 (record { shards = shards; config = config.now }) }
+        requires one { B.S1.ShardLedger.place
+            ≡ place_of 1 (record { shards = shards; config = config.now }) }
+        requires two { B.S2.ShardLedger.place
+            ≡ place_of 2 (record { shards = shards; config = config.now }) }
+        requires three { B.S3.ShardLedger.place
+            ≡ place_of 3 (record { shards = shards; config = config.now }) }
+        requires blanks { AreBlanks B.S0.Ledger.name B.S0.Ledger.parts
+            B.H0.name B.H0.parts blanks.s0 blanks.h0 }
+        requires blanks_1 { AreBlanks B.S1.Ledger.name B.S1.Ledger.parts
+            B.H1.name B.H1.parts blanks.s1 blanks.h1 }
+        requires blanks_2 { AreBlanks B.S2.Ledger.name B.S2.Ledger.parts
+            B.H2.name B.H2.parts blanks.s2 blanks.h2 }
+        requires blanks_3 { AreBlanks B.S3.Ledger.name B.S3.Ledger.parts
+            B.H3.name B.H3.parts blanks.s3 blanks.h3 }
+        ensures { IfOk result (λ made. made ≡ record { shards = shards; config = config.now }) }
+    {
+        let Blanks {
+            s0,
+            h0,
+            s1,
+            h1,
+            s2,
+            h2,
+            s3,
+            h3,
+        } = blanks;
+        let zero = locked(alloc, config, 0, shards, s0, h0)?;
+        let one = locked(alloc, config, 1, shards, s1, h1)?;
+        let two = locked(alloc, config, 2, shards, s2, h2)?;
+        let three = locked(alloc, config, 3, shards, s3, h3)?;
+        Ok(Shards {
+            shards,
+            config: *config,
+            zero,
+            one,
+            two,
+            three,
+        })
+    }
+
+    /// Returns a caller's shares of the books of each shard, of nothing yet.
+    ///
+    /// `PassesSpent` comes only once a shard has given out 65,535 of them, and is the only fault.
+    /// Takes no memory, `alloc` isn't used. Takes each shard's lock in turn, and is no step.
+    /// O(shards). Not promised: that it returns. A refused pass may have taken shares at the shards
+    /// before, which stay unused.
+    pub fn pass<R: Wait>(&self, rt: &R, _alloc: Global) -> Result<Pass<B>, Fault>
+        ensures ok { IfOk result (λ pass. pass ≡ new_pass self.now.shards) }
+        ensures spent { IfErr result (λ f. f ≡ fault.PassesSpent) }
+    {
+        let zero = shares_at(rt, &self.zero)?;
+        let one = shares_at(rt, &self.one)?;
+        let two = shares_at(rt, &self.two)?;
+        let three = shares_at(rt, &self.three)?;
+        Ok(Pass {
+            shards: self.shards,
+            zero,
+            one,
+            two,
+            three,
+        })
+    }
+}

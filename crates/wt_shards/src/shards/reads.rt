@@ -1,0 +1,83 @@
+// What is read of shards: no step, and no lock is held longer than one shard's numbers are read.
+ghost use Rattle.std.specs.Prelude.{◌≡◌, ◌+◌};
+ghost use Rattle.wt_core.specs.Lawful.{AreSmall};
+
+use crate::books::Books;
+use crate::shard::Shard;
+use crate::shard_ledger::ShardLedger;
+use crate::shards::Shards;
+use std::sync::ledger::Ledger;
+use std::sync::{Mutex, Wait};
+use wt_core::{Stats, Weighs};
+use wt_keys::{Answers, CacheKey, Share};
+
+// The numbers of one shard, where there is one.
+fn stats_at<
+    K: CacheKey,
+    V: Share + Weighs + Answers<K> + Send + Sync,
+    S: ShardLedger,
+    H: Ledger,
+    R: Wait,
+>(rt: &R, shard: &Option<Mutex<Shard<K, V, S, H>>>) -> Stats
+    ensures small { AreSmall result }
+    ensures looked { result.hits + result.misses ≡ result.lookups }
+{
+    let Some(shard) = shard else {
+        return NOTHING;
+    };
+    let shard = shard.lock(rt);
+    // For the prover: shows what holds of the shard.
+    let _steps = shard.steps();
+    shard.stats()
+}
+
+// The numbers where there is no shard.
+const NOTHING: Stats = Stats {
+    lookups: 0,
+    hits: 0,
+    misses: 0,
+    loads: 0,
+    failed: 0,
+    evicted: 0,
+    entries: 0,
+    weight: 0,
+};
+
+impl<K: CacheKey, V: Share + Weighs + Answers<K> + Send + Sync, B: Books> Shards<K, V, B> {
+    /// Returns how many entries one shard may hold. Takes no lock. O(1).
+    pub fn entries(&self) -> u32
+        ensures { result ≡ self.now.config.entries }
+    {
+        self.config.entries
+    }
+
+    /// Returns how many shards there are. Takes no lock. O(1).
+    pub fn shards(&self) -> usize
+        ensures { result ≡ self.now.shards }
+    {
+        self.shards
+    }
+
+    /// Returns the numbers of all shards, added up.
+    ///
+    /// Takes no memory. Takes each shard's lock in turn, and is no step. O(shards). Not promised:
+    /// that it returns, and that all shards had these numbers at one moment.
+    pub fn stats<R: Wait>(&self, rt: &R) -> Stats
+        ensures looked { result.hits + result.misses ≡ result.lookups }
+    {
+        let zero = stats_at(rt, &self.zero);
+        let one = stats_at(rt, &self.one);
+        let two = stats_at(rt, &self.two);
+        let three = stats_at(rt, &self.three);
+        Stats {
+            lookups: zero.lookups + one.lookups + two.lookups + three.lookups,
+            hits: zero.hits + one.hits + two.hits + three.hits,
+            misses: zero.misses + one.misses + two.misses + three.misses,
+            loads: zero.loads + one.loads + two.loads + three.loads,
+            failed: zero.failed + one.failed + two.failed + three.failed,
+            evicted: zero.evicted + one.evicted + two.evicted + three.evicted,
+            entries: zero.entries + one.entries + two.entries + three.entries,
+            weight: zero.weight + one.weight + two.weight + three.weight,
+        }
+    }
+}

@@ -1,0 +1,106 @@
+// Stores, by a caller and by the landing of a load, each at the shard of its key.
+ghost use Rattle.std.specs.Prelude.{◌≡◌, ◌<◌, ◌≤◌, false, true, IsTrue, IfOk, IfErr, OnOk, OnErr};
+ghost use Rattle.wt_core.specs.declared.kinds.Call.TheVariants as call;
+ghost use Rattle.wt_core.specs.declared.kinds.Reply.TheVariants as reply;
+ghost use Rattle.wt_shards.specs.Asked.{LandAnswers};
+ghost use Rattle.wt_shards.specs.Faults.{is_step_fault, is_put_fault};
+ghost use Rattle.wt_shards.specs.Outer.{IsSomeStep};
+ghost use Rattle.wt_shards.specs.Passes.{with_step, steps_at};
+ghost use Rattle.wt_shards.specs.Place.{home_of, place_of};
+ghost use Rattle.wt_shards.specs.Told.{HasTold};
+
+use crate::at_home::at_home;
+use crate::books::Books;
+use crate::done::Done;
+use crate::pass::Pass;
+use crate::shards::Shards;
+use crate::shards::locked::{land_at, put_at};
+use std::sync::Wait;
+use wt_core::{Land, Notices, Reply, Weighs};
+use wt_flights::Lead;
+use wt_keys::{Answers, CacheKey, Fault, Share, shard_of};
+
+impl<K: CacheKey, V: Share + Weighs + Answers<K> + Send + Sync, B: Books> Shards<K, V, B> {
+    /// Stores the value under the key, in place of one that is there, and answers the number of the
+    /// step at the key's shard.
+    ///
+    /// `now` is in milliseconds. `TooHeavy` comes before `StepsSpent`, and both before memory is
+    /// asked for; the refused value is dropped. Takes that shard's lock, for one step. Expected
+    /// O(1), O(entries) where many leave. Not promised: that it returns.
+    pub fn put<R: Wait>(
+        &self,
+        rt: &R,
+        pass: &mut Pass<B>,
+        key: K,
+        value: V,
+        now: u64,
+        notices: &mut Notices<K, V>,
+    ) -> Result<Done<()>, Fault>
+        requires answers { IsTrue (V.answers value key) }
+        requires room { self.now.config.entries ≤ notices.old.room }
+
+        ensures moved { OnOk result (pass.new
+            ≡ with_step (home_of K.word key self.now) false pass.old) }
+        ensures later { IfOk result (λ done.
+            steps_at (home_of K.word key self.now) pass.old < done.step) }
+        ensures step { IfOk result (λ done. IsSomeStep K.eq K.word V.weight V.answers
+            (place_of (home_of K.word key self.now) self.now)
+            (call.Put key value now) reply.Stored done.step notices.old notices.new) }
+
+        ensures faults { IfErr result (λ fault. is_put_fault fault ≡ true) }
+        ensures err { OnErr result ((pass.new ≡ pass.old) × (notices.new ≡ notices.old)) }
+        // Whatever is answered.
+        ensures told { HasTold self.now.config.entries notices.old notices.new }
+    {
+        let home = shard_of(key.word(), self.shards);
+        at_home!(
+            home,
+            self,
+            pass,
+            |shard, mine| put_at(rt, shard, mine, key, value, now, notices)
+        )
+    }
+
+    /// Closes the load of a lead, if it is open, and answers `Kept`, `Loose` or `Failed` with the
+    /// number of those who shared it, or else `Gone`, and the number of the step at the key's
+    /// shard.
+    ///
+    /// `now` is in milliseconds. `StepsSpent` comes only where the answer would be `Gone`. Only a
+    /// value that is stored takes memory. Takes that shard's lock, for one step. Expected O(open
+    /// loads), O(entries) where many leave. Not promised: that it returns. A lead of other shards
+    /// at most closes a load of its id and key.
+    pub fn land<R: Wait>(
+        &self,
+        rt: &R,
+        pass: &mut Pass<B>,
+        lead: &Lead<K, V>,
+        what: Land<V>,
+        now: u64,
+        notices: &mut Notices<K, V>,
+    ) -> Result<Done<Reply<V>>, Fault>
+        requires answers { LandAnswers V.answers lead.now.key what }
+        requires room { self.now.config.entries ≤ notices.old.room }
+
+        ensures moved { OnOk result (pass.new
+            ≡ with_step (home_of K.word lead.now.key self.now) false pass.old) }
+        ensures later { IfOk result (λ done.
+            steps_at (home_of K.word lead.now.key self.now) pass.old < done.step) }
+        ensures step { IfOk result (λ done. IsSomeStep K.eq K.word V.weight V.answers
+            (place_of (home_of K.word lead.now.key self.now) self.now)
+            (call.Land lead.now.id lead.now.key what now) done.reply done.step
+            notices.old notices.new) }
+
+        ensures faults { IfErr result (λ fault. is_step_fault fault ≡ true) }
+        ensures err { OnErr result ((pass.new ≡ pass.old) × (notices.new ≡ notices.old)) }
+        // Whatever is answered.
+        ensures told { HasTold self.now.config.entries notices.old notices.new }
+    {
+        let home = shard_of(lead.key().word(), self.shards);
+        at_home!(
+            home,
+            self,
+            pass,
+            |shard, mine| land_at(rt, shard, mine, lead, what, now, notices)
+        )
+    }
+}

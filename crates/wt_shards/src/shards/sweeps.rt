@@ -1,0 +1,179 @@
+// Steps at every shard, one after the other.
+ghost use Rattle.std.specs.Prelude.{◌≡◌, ◌+◌, ◌*◌, ◌<◌, ◌≤◌, ℕ, false, true, IfErr, OnOk, OnErr};
+ghost use Rattle.wt_core.specs.declared.kinds.Call.TheVariants as call;
+ghost use Rattle.wt_core.specs.declared.kinds.Reply.TheVariants as reply;
+ghost use Rattle.wt_shards.specs.Counts.{counted};
+ghost use Rattle.wt_shards.specs.Place.{place_of};
+ghost use Rattle.wt_shards.specs.Passes.{with_step, with_steps};
+ghost use Rattle.wt_shards.specs.Faults.{is_step_fault};
+ghost use Rattle.wt_shards.specs.Told.{HasTold};
+ghost use Rattle.wt_shards.specs.Sweeps.{IsSwept, AreSwept, call_of};
+
+use crate::at_home::at_home;
+use crate::books::Books;
+use crate::pass::Pass;
+use crate::shard::Shard;
+use crate::shard_ledger::ShardLedger;
+use crate::shards::Shards;
+use crate::shares::Shares;
+use crate::sweep::Sweep;
+use std::sync::ledger::Ledger;
+use std::sync::{Mutex, Wait};
+use wt_core::{Notices, Weighs};
+use wt_keys::{Answers, CacheKey, Fault, Share};
+
+// One sweep at one shard.
+#[tactic(auto, using(crate::proofs::Told::told_room))]
+fn sweep_at<
+    K: CacheKey,
+    V: Share + Weighs + Answers<K> + Send + Sync,
+    S: ShardLedger,
+    H: Ledger,
+    R: Wait,
+>(
+    rt: &R,
+    shard: &Mutex<Shard<K, V, S, H>>,
+    mine: &mut Shares<S, H>,
+    sweep: Sweep,
+    now: u64,
+    notices: &mut Notices<K, V>,
+) -> Result<(), Fault>
+    requires room { S.ShardLedger.place.config.entries ≤ notices.old.room }
+    ensures moved { OnOk result (mine.new ≡ counted false mine.old) }
+    ensures step { OnOk result (IsSwept K.eq K.word V.weight V.answers
+        S.ShardLedger.place (call_of sweep now) notices.old notices.new) }
+    ensures few { OnOk result
+        (notices.old.room ≤ notices.new.room + S.ShardLedger.place.config.entries) }
+    ensures err { OnErr result ((mine.new ≡ mine.old) × (notices.new ≡ notices.old)) }
+    ensures told { HasTold S.ShardLedger.place.config.entries notices.old notices.new }
+    ensures faults { IfErr result (λ fault. is_step_fault fault ≡ true) }
+{
+    let mut shard = shard.lock(rt);
+    // For the prover: shows what holds of the shard.
+    let _before = shard.steps();
+    match sweep {
+        Sweep::Clear => {
+            shard.clear(mine, now, notices)?;
+            Ok(())
+        }
+        Sweep::Clean => {
+            shard.clean(mine, now, notices)?;
+            Ok(())
+        }
+    }
+}
+
+impl<K: CacheKey, V: Share + Weighs + Answers<K> + Send + Sync, B: Books> Shards<K, V, B> {
+    // One sweep at the shard of a number.
+    fn sweep_one<R: Wait>(
+        &self,
+        rt: &R,
+        pass: &mut Pass<B>,
+        home: usize,
+        sweep: Sweep,
+        now: u64,
+        notices: &mut Notices<K, V>,
+    ) -> Result<(), Fault>
+        requires within { home < self.now.shards }
+        requires room { self.now.config.entries ≤ notices.old.room }
+        ensures moved { OnOk result (pass.new ≡ with_step home false pass.old) }
+        ensures step { OnOk result (IsSwept K.eq K.word V.weight V.answers
+            (place_of home self.now) (call_of sweep now) notices.old notices.new) }
+        ensures few { OnOk result
+            (notices.old.room ≤ notices.new.room + self.now.config.entries) }
+        ensures err { OnErr result ((pass.new ≡ pass.old) × (notices.new ≡ notices.old)) }
+        ensures told { HasTold self.now.config.entries notices.old notices.new }
+        ensures faults { IfErr result (λ fault. is_step_fault fault ≡ true) }
+    {
+        at_home!(
+            home,
+            self,
+            pass,
+            |shard, mine| sweep_at(rt, shard, mine, sweep, now, notices)
+        )
+    }
+
+    // One sweep at each shard.
+    fn sweep<R: Wait>(
+        &self,
+        rt: &R,
+        pass: &mut Pass<B>,
+        sweep: Sweep,
+        now: u64,
+        notices: &mut Notices<K, V>,
+    ) -> Result<(), Fault>
+        requires room { self.now.shards * self.now.config.entries ≤ notices.old.room }
+        ensures moved { OnOk result (pass.new ≡ with_steps self.now.shards pass.old) }
+        ensures steps { OnOk result (AreSwept K.eq K.word V.weight V.answers self.now
+            (call_of sweep now) self.now.shards notices.old notices.new) }
+        ensures err { OnErr result ((made : ℕ) × (made < self.now.shards)
+            × (pass.new ≡ with_steps made pass.old)
+            × AreSwept K.eq K.word V.weight V.answers self.now
+            (call_of sweep now) made notices.old notices.new) }
+        ensures told { HasTold (self.now.shards * self.now.config.entries) notices.old notices.new }
+        ensures faults { IfErr result (λ fault. is_step_fault fault ≡ true) }
+    {
+        for home in 0..self.shards {
+            self.sweep_one(rt, pass, home, sweep, now, notices)?;
+        }
+        Ok(())
+    }
+
+    /// Takes every entry of every shard out, by one step at each in turn. No load that is open at a
+    /// shard when its step is made is joined any longer, nor its value stored.
+    ///
+    /// `now` is in milliseconds. Stops at the first shard whose step is refused, by `StepsSpent`
+    /// before memory is asked for, which only a lagging copy may take. Takes each shard's lock in
+    /// turn, never two at once. O(entries) a shard. Not promised: that it returns, and that at some
+    /// moment all shards are empty.
+    pub fn clear<R: Wait>(
+        &self,
+        rt: &R,
+        pass: &mut Pass<B>,
+        now: u64,
+        notices: &mut Notices<K, V>,
+    ) -> Result<(), Fault>
+        requires room { self.now.shards * self.now.config.entries ≤ notices.old.room }
+
+        ensures moved { OnOk result (pass.new ≡ with_steps self.now.shards pass.old) }
+        ensures steps { OnOk result (AreSwept K.eq K.word V.weight V.answers self.now
+            (call.Clear now) self.now.shards notices.old notices.new) }
+        // It stops at the first fault, and the pass shows at how many shards the step was made.
+        ensures err { OnErr result ((made : ℕ) × (made < self.now.shards)
+            × (pass.new ≡ with_steps made pass.old)
+            × AreSwept K.eq K.word V.weight V.answers self.now
+            (call.Clear now) made notices.old notices.new) }
+        ensures told { HasTold (self.now.shards * self.now.config.entries) notices.old notices.new }
+        ensures faults { IfErr result (λ fault. is_step_fault fault ≡ true) }
+    {
+        self.sweep(rt, pass, Sweep::Clear, now, notices)
+    }
+
+    /// Takes every expired entry of every shard out, by one step at each in turn.
+    ///
+    /// `now` is in milliseconds. Stops at the first shard whose step is refused, by `StepsSpent`
+    /// before memory is asked for, which only a lagging copy may take. Takes each shard's lock in
+    /// turn, never two at once. O(entries) a shard. Not promised: that it returns.
+    pub fn clean<R: Wait>(
+        &self,
+        rt: &R,
+        pass: &mut Pass<B>,
+        now: u64,
+        notices: &mut Notices<K, V>,
+    ) -> Result<(), Fault>
+        requires room { self.now.shards * self.now.config.entries ≤ notices.old.room }
+
+        ensures moved { OnOk result (pass.new ≡ with_steps self.now.shards pass.old) }
+        ensures steps { OnOk result (AreSwept K.eq K.word V.weight V.answers self.now
+            (call.Clean now) self.now.shards notices.old notices.new) }
+        // It stops at the first fault, and the pass shows at how many shards the step was made.
+        ensures err { OnErr result ((made : ℕ) × (made < self.now.shards)
+            × (pass.new ≡ with_steps made pass.old)
+            × AreSwept K.eq K.word V.weight V.answers self.now
+            (call.Clean now) made notices.old notices.new) }
+        ensures told { HasTold (self.now.shards * self.now.config.entries) notices.old notices.new }
+        ensures faults { IfErr result (λ fault. is_step_fault fault ≡ true) }
+    {
+        self.sweep(rt, pass, Sweep::Clean, now, notices)
+    }
+}
