@@ -61,7 +61,9 @@ class Crate:
                 owner, in_trait = None, False
             m = IMPL.match(line)
             if m:
-                owner = owner_of(m.group(1))
+                # A head with many bounds stands on several lines.
+                head = " ".join(" ".join(lines[number:]).split("{")[0].split())
+                owner = owner_of(IMPL.match(head).group(1))
             m = TRAIT.match(line)
             if m:
                 owner, in_trait = m.group(1), True

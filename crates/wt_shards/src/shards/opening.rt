@@ -164,8 +164,7 @@ impl<K: CacheKey, V: Share + Weighs + Answers<K> + Send + Sync, B: Books> Shards
     ///
     /// `PassesSpent` comes only once a shard has given out 65,535 of them, and is the only fault.
     /// Takes no memory, `alloc` isn't used. Takes each shard's lock in turn, and is no step.
-    /// O(shards). Not promised: that it returns. A refused pass may have taken shares at the shards
-    /// before, which stay unused.
+    /// O(shards). Not promised: that it returns.
     pub fn pass<R: Wait>(&self, rt: &R, _alloc: Global) -> Result<Pass<B>, Fault>
         ensures ok { IfOk result (λ pass. pass ≡ new_pass self.now.shards) }
         ensures spent { IfErr result (λ f. f ≡ fault.PassesSpent) }
