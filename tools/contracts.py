@@ -91,7 +91,7 @@ class Crate:
 
     def read_words(self, path):
         """Adds the words of one file of specs/, each with the words that its text names."""
-        record, current = None, None
+        record, head, current = None, None, None
         for line in path.read_text().split("\n"):
             if re.match(r"^\s*(pub\s+)?use\s", line):
                 for old, new in re.findall(r"([\w']+) as ([\w']+)", line):
@@ -106,12 +106,14 @@ class Crate:
             if m and record is None:
                 current = m.group(3)
                 self.words.add(current)
-                if m.group(2) and line.rstrip().endswith("where"):
-                    record = indent
+                # A record's head may go on in the next lines.
+                head = indent if m.group(2) else None
             elif record is None:
                 m = PLAIN.match(line)
                 if m and "=" not in line.split(" : ")[0]:
                     current = m.group(2)
+            if head is not None and line.rstrip().endswith("where"):
+                record, head = head, None
             if current is not None:
                 self.links.setdefault(current, set()).update(TOKEN.findall(line))
 
