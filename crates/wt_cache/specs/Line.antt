@@ -1,0 +1,44 @@
+-- The rule of the job line.
+use Rattle.std.specs.Prelude.{◌≡◌, ℕ, ◌+◌, ◌≤◌, List, [], ◌∷◌, length, drop, map, eqb, ltb, cond}
+use mathlib.Core.Option.{some}
+use lib.ListN.{get_elem?}
+use Rattle.wt_cache.specs.declared.hand.Hand.{Hand}
+use Rattle.wt_flights.specs.Outcomes.{Leading}
+
+module _ {K : Type 0} where
+  -- a job's name is its lead's id and key
+  abbrev pub name : Leading K → ℕ × K
+  name l = (l.id, l.key)
+
+  abbrev pub hand : List (ℕ × (ℕ × K)) → List (ℕ × (ℕ × K)) → Hand K
+  hand puts takes = record { puts = puts; takes = takes }
+
+  -- how often a number stands in the pairs
+  abbrev pub times : ℕ → List (ℕ × (ℕ × K)) → ℕ
+  times i [] = 0
+  times i (p ∷ ps) = cond (eqb i p.0) 1 0 + times i ps
+
+  -- f of each view, added up
+  abbrev pub total : (Hand K → ℕ) → List (Hand K) → ℕ
+  total f [] = 0
+  total f (v ∷ vs) = f v + total f vs
+
+  -- each pair has the name that stands at its number
+  abbrev pub AllNamed : List (ℕ × K) → List (ℕ × (ℕ × K)) → Type 0
+  AllNamed log ps = (j : ℕ) (p : ℕ × (ℕ × K)) → get_elem? ps j ≡ some p → get_elem? log p.0 ≡ some p.1
+
+-- 1 for each number below n, and else 0
+abbrev pub once_below : ℕ → ℕ → ℕ
+once_below i n = cond (ltb i n) 1 0
+
+-- The names of the puts stand in the log, in the order of their numbers. Those from `taken` on are in the line.
+-- Over all passes the numbers of the puts are those below the length of the log, each once, and those of the takes the ones below `taken`
+pub record Numbered {K : Type 0} (items : List (Leading K)) (views : List (Hand K)) : Type 0 where
+  pub log : List (ℕ × K)
+  pub taken : ℕ
+  pub within : taken ≤ length log
+  pub line : drop taken log ≡ map name items
+  pub puts_once : (i : ℕ) → total (λ v. times i v.puts) views ≡ once_below i (length log)
+  pub takes_once : (i : ℕ) → total (λ v. times i v.takes) views ≡ once_below i taken
+  pub puts_named : (pass : ℕ) (v : Hand K) → get_elem? views pass ≡ some v → AllNamed log v.puts
+  pub takes_named : (pass : ℕ) (v : Hand K) → get_elem? views pass ≡ some v → AllNamed log v.takes

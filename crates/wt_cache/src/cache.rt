@@ -1,0 +1,123 @@
+// The loading cache, and what is asked of it beside its steps.
+ghost use Rattle.std.specs.Prelude.{◌≡◌, ◌+◌, IfOk, IfErr, is_some};
+ghost use Rattle.wt_keys.specs.declared.fault.Fault.TheVariants as fault;
+ghost use Rattle.wt_shards.specs.Passes.{new_pass};
+
+use crate::job_line::JobLine;
+use crate::loader::Loader;
+use std::alloc::Global;
+use std::marker::Model;
+use std::sync::Wait;
+use wt_core::{Stats, Weighs};
+use wt_keys::{Answers, CacheKey, Fault, Share};
+use wt_shards::{Books, Pass, Shards};
+
+/// A cache that any number of threads share, and that loads what isn't there: one load for all who
+/// ask for a key at once.
+///
+/// A load is run by the caller whose seek opened it, or, where the cache has a line, by a worker.
+#[derive(Drop)]
+pub struct LoadingCache<
+    K: CacheKey,
+    V: Share + Weighs + Answers<K> + Send + Sync,
+    L: Loader<K, V> + Drop,
+    B: Books,
+> {
+    // The entries and the open loads, behind their locks.
+    pub(crate) shards: Shards<K, V, B>,
+    pub(crate) loader: L,
+    // Where loads wait for workers; without it each caller runs its own.
+    pub(crate) line: Option<JobLine<K, V>>,
+}
+
+impl<
+    K: CacheKey,
+    V: Share + Weighs + Answers<K> + Send + Sync,
+    L: Loader<K, V> + Drop,
+    B: Books,
+> Model for LoadingCache<K, V, L, B> {
+    ghost use Rattle.std.specs.Prelude.{is_some};
+    ghost use Rattle.wt_cache.specs.Cached.{Cached};
+
+    ghost Value = { Cached };
+
+    ghost view = { λ c. record { layout = c.shards; lined = is_some c.line } };
+}
+
+impl<
+    K: CacheKey,
+    V: Share + Weighs + Answers<K> + Send + Sync,
+    L: Loader<K, V> + Drop,
+    B: Books,
+> LoadingCache<K, V, L, B> {
+    /// Makes a cache over these shards, with a line if loads are to be run by workers.
+    ///
+    /// Loads that are open already stay so: their leads are to be abandoned or posted. Takes no memory.
+    pub fn new(
+        shards: Shards<K, V, B>,
+        loader: L,
+        line: Option<JobLine<K, V>>,
+    ) -> LoadingCache<K, V, L, B>
+        ensures { result ≡ record { layout = shards; lined = is_some line } }
+    {
+        LoadingCache {
+            shards,
+            loader,
+            line,
+        }
+    }
+
+    /// Makes a caller's pass, which has made no step.
+    ///
+    /// `PassesSpent` only after 65,535 of them. Takes no memory, and each shard's lock in turn.
+    pub fn pass<R: Wait>(&self, rt: &R, alloc: Global) -> Result<Pass<B>, Fault>
+        ensures ok { IfOk result (λ pass. pass ≡ new_pass self.now.layout.shards) }
+        ensures faults { IfErr result (λ f. f ≡ fault.PassesSpent) }
+    {
+        self.shards.pass(rt, alloc)
+    }
+
+    /// Returns the numbers of all shards, added up.
+    ///
+    /// Takes each shard's lock in turn, so another thread may move between two of them.
+    pub fn stats<R: Wait>(&self, rt: &R) -> Stats
+        ensures looked { result.hits + result.misses ≡ result.lookups }
+    {
+        self.shards.stats(rt)
+    }
+
+    /// Returns how many entries one shard may hold. Takes no lock. O(1).
+    pub fn entries(&self) -> u32
+        ensures { result ≡ self.now.layout.config.entries }
+    {
+        self.shards.entries()
+    }
+
+    /// Returns how many shards there are. Takes no lock. O(1).
+    pub fn shards(&self) -> usize
+        ensures { result ≡ self.now.layout.shards }
+    {
+        self.shards.shards()
+    }
+
+    /// Returns the line that was handed in, if there was one. Takes no lock. O(1).
+    pub fn line(&self) -> Option<&JobLine<K, V>>
+        ensures { is_some result ≡ self.now.lined }
+    {
+        self.line.as_ref()
+    }
+
+    /// Ends the cache, and hands its shards back, for `settle`. The loader and the line are dropped.
+    ///
+    /// A load that is in the line still is never run: its ticket then waits for good. Takes no lock.
+    pub fn finish(self) -> Shards<K, V, B>
+        ensures { result ≡ self.layout }
+    {
+        let LoadingCache {
+            shards,
+            loader: _,
+            line: _,
+        } = self;
+        shards
+    }
+}

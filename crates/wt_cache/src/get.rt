@@ -1,0 +1,152 @@
+// The get: one seek, and by its answer a hit, a wait, or a load that is run here or in a worker.
+ghost use Rattle.std.specs.Prelude.{◌≡◌, ◌*◌, ◌<◌, ◌≤◌, true, IsTrue, IfOk, IfErr, OnOk, OnErr};
+ghost use Rattle.wt_shards.specs.Faults.{is_step_fault};
+ghost use Rattle.wt_shards.specs.Passes.{steps_at};
+ghost use Rattle.wt_shards.specs.Place.{home_of, place_of};
+ghost use Rattle.wt_shards.specs.Told.{HasTold};
+ghost use Rattle.wt_cache.specs.Gets.{IsSought, is_get_fault};
+ghost use Rattle.wt_cache.specs.Moves.{LandedSome, HasRun, HasGot, HasTried};
+
+use crate::cache::LoadingCache;
+use crate::got::{Got, How};
+use crate::job_line::{Back, JobLine, Posted};
+use crate::line_pass::LinePass;
+use crate::loader::Loader;
+use crate::loads::value_of;
+use std::sync::Wait;
+use wt_core::{Notices, Weighs};
+use wt_flights::Lead;
+use wt_keys::{Answers, CacheKey, Fault, Share};
+use wt_shards::{Books, Pass, Sought};
+
+impl<
+    K: CacheKey,
+    V: Share + Weighs + Answers<K> + Send + Sync,
+    L: Loader<K, V> + Drop,
+    B: Books,
+> LoadingCache<K, V, L, B> {
+    /// Returns the value of the key: the one that is there, or the one that is loaded for all who
+    /// ask meanwhile.
+    ///
+    /// A caller whose seek opened the load runs it, or posts it to the line and waits; one whose seek
+    /// joined it waits. An entry that is due is answered as it is, and loaded anew (Guava's refresh
+    /// after write). A value that is loaded is stored as of the moment of the seek, and only if its
+    /// key was not put, removed or forgotten since then.
+    ///
+    /// `now` is in milliseconds; one before the latest moment counts as the latest. First the faults of
+    /// the seek, `StepsSpent`, `TooManyFlights`, `NoMemory`; then that of a landing of this caller;
+    /// then those of the outcome: `NoMemory` where the caller's own share of it is refused,
+    /// `LoadFailed`, `Abandoned`. After them the seek stands. A failed refresh is not told. A hit
+    /// takes memory for a share, a load for its row and its landing. Takes the lock of the key's
+    /// shard for each step, and none while it loads or waits. Not promised: that the loader, and so
+    /// the call, returns; that it is woken.
+    #[tactic(auto, using(crate::proofs::Faults::of_seek, crate::proofs::Faults::of_land))]
+    pub fn get<R: Wait>(
+        &self,
+        rt: &R,
+        pass: &mut Pass<B>,
+        key: K,
+        now: u64,
+        notices: &mut Notices<K, V>,
+    ) -> Result<Got<V>, Fault>
+        requires room { 2 * self.now.layout.config.entries ≤ notices.old.room }
+
+        ensures answers { IfOk result (λ got. IsTrue (V.answers got.value key)) }
+        ensures moved { IfOk result (λ got.
+            HasGot self.now.lined (home_of K.word key self.now.layout) got.how pass.old pass.new) }
+        ensures later { IfOk result (λ got.
+            steps_at (home_of K.word key self.now.layout) pass.old < got.step) }
+        ensures sought { IfOk result (λ got. IsSought K.eq K.word V.weight V.answers
+            (place_of (home_of K.word key self.now.layout) self.now.layout)
+            key now got.how got.value got.step notices.old notices.new) }
+
+        ensures told { HasTold (2 * self.now.layout.config.entries) notices.old notices.new }
+        ensures faults { IfErr result (λ fault. is_get_fault fault ≡ true) }
+        ensures err { OnErr result
+            (HasTried (home_of K.word key self.now.layout) pass.old pass.new) }
+    {
+        let done = self.shards.seek(rt, pass, key, now, notices)?;
+        let step = done.step;
+        match done.reply {
+            Sought::Hit(value) => {
+                let how = How::Hit;
+                Ok(Got { value, how, step })
+            }
+            Sought::HitLead(value, lead, _ticket) => {
+                // Whether the load failed isn't told: the value that was there is the answer.
+                let _ = self.hand_on(rt, pass, lead, notices);
+                let how = How::Refreshed;
+                Ok(Got { value, how, step })
+            }
+            Sought::Join(ticket) => {
+                let value = value_of(rt, ticket)?;
+                let how = How::Joined;
+                Ok(Got { value, how, step })
+            }
+            Sought::Lead(lead, ticket) => {
+                self.hand_on(rt, pass, lead, notices)?;
+                let value = value_of(rt, ticket)?;
+                let how = How::Loaded;
+                Ok(Got { value, how, step })
+            }
+        }
+    }
+
+    // Has a load run: by a worker where the line takes it, else here.
+    //
+    // What a late poster needs is made before the post, so that afterwards nothing is refused.
+    fn hand_on<R: Wait>(
+        &self,
+        rt: &R,
+        pass: &mut Pass<B>,
+        lead: Lead<K, V>,
+        notices: &mut Notices<K, V>,
+    ) -> Result<(), Fault>
+        requires room { self.now.layout.config.entries ≤ notices.old.room }
+        ensures ran { OnOk result
+            (HasRun self.now.lined (home_of K.word lead.key self.now.layout) pass.old pass.new) }
+        ensures some { LandedSome pass.old pass.new }
+        ensures told { HasTold self.now.layout.config.entries notices.old notices.new }
+        ensures faults { IfErr result (λ fault. is_step_fault fault ≡ true) }
+    {
+        let Some(line) = &self.line else {
+            return self.run(rt, pass, lead, notices).landed;
+        };
+        let Ok(mut hand) = line.pass(rt) else {
+            return self.run(rt, pass, lead, notices).landed;
+        };
+        let Ok(mut aside) = Notices::new(line.alloc(), self.shards.entries() as usize) else {
+            return self.run(rt, pass, lead, notices).landed;
+        };
+        match line.post(rt, &mut hand, lead) {
+            Err(Back { lead, fault: _ }) => self.run(rt, pass, lead, notices).landed,
+            Ok(Posted::Line) => Ok(()),
+            Ok(Posted::Late) => {
+                self.drain(rt, pass, line, &mut hand, &mut aside);
+                Ok(())
+            }
+        }
+    }
+
+    // Takes loads off the line and runs them, until there is none. What leaves the cache is dropped.
+    fn drain<R: Wait>(
+        &self,
+        rt: &R,
+        pass: &mut Pass<B>,
+        line: &JobLine<K, V>,
+        hand: &mut LinePass<K, V>,
+        aside: &mut Notices<K, V>,
+    )
+        requires room { self.now.layout.config.entries ≤ aside.old.room }
+        ensures moved { LandedSome pass.old pass.new }
+    {
+        for _ in rt.forever() {
+            let Some(lead) = line.take(rt, hand) else {
+                return;
+            };
+            let _ = self.run(rt, pass, lead, aside);
+            aside.empty();
+        }
+        unreachable!()
+    }
+}

@@ -1,0 +1,140 @@
+// The line of loads that wait for a worker.
+//
+// A caller whose seek opened a load may post its lead here and wait; a worker takes it and runs the
+// load. The line is open until it is closed, once and for good. Whoever posts reads the closing mark
+// before the push and after it: a mark that is set by then may mean that no worker comes any more, so
+// that poster runs what is in the line itself.
+ghost use Rattle.std.specs.Prelude.{◌≡◌, ◌<◌, ◌≤◌, ◌⊎◌, ◌++◌, ◌∷◌, [], ℕ, IfOk, IfErr, Err, IsOkUnless, MatchOption, MatchResult};
+ghost use Rattle.wt_keys.specs.declared.fault.Fault.TheVariants as fault;
+ghost use Rattle.wt_keys.specs.declared.fault.Field.TheVariants as field;
+ghost use Rattle.wt_cache.specs.Line.{hand, name};
+
+use crate::line_pass::{First, LinePass};
+use std::alloc::Global;
+use std::sync::atomic::{AtomicBool, Ordering};
+use std::sync::{Mutex, Wait};
+use wt_flights::Lead;
+use wt_keys::{Fault, Field, NoMemory};
+
+// The most jobs that a line may hold, as many as loads may be open in one shard.
+const MOST_JOBS: u32 = 4096;
+
+/// Whether the line was open still when a load was put into it.
+#[derive(Clone, Copy, Debug, PartialEq, Eq)]
+pub enum Posted {
+    /// It was open after the put: a worker finds the load.
+    Line,
+    /// It was closed by then: whoever posted takes loads off and runs them until there is none.
+    Late,
+}
+
+/// A load that wasn't put into the line, and why.
+#[derive(Drop)]
+pub struct Back<K, V> {
+    /// The lead that was handed in. Its holder is to run the load.
+    pub lead: Lead<K, V>,
+    /// `LineFull` or `LineClosed`.
+    pub fault: Fault,
+}
+
+/// A line of loads that are to be run by workers.
+#[derive(Drop)]
+pub struct JobLine<K, V> {
+    // The pass that the others are split off, with the queue.
+    first: Mutex<First<K, V>>,
+    // Set by `close`, for good.
+    closed: AtomicBool,
+    // For the lists of those who post.
+    alloc: Global,
+}
+
+impl<K: Copy + Drop, V: Drop> JobLine<K, V> {
+    /// Makes an open, empty line with places for so many loads, 1 to 4,096.
+    ///
+    /// `BadConfig` of the line before memory is asked for. All its memory is taken here. O(capacity).
+    pub fn new<R: Wait>(_rt: &R, alloc: Global, capacity: u32) -> Result<JobLine<K, V>, Fault>
+        ensures refusal { (capacity < 1) ⊎ (4096 < capacity)
+            → result ≡ Err (fault.BadConfig field.Line) }
+        ensures memory { 1 ≤ capacity → capacity ≤ 4096 → IsOkUnless result fault.NoMemory }
+    {
+        if capacity < 1 || MOST_JOBS < capacity {
+            return Err(Fault::BadConfig { field: Field::Line });
+        }
+        let Ok(first) = First::of_line(alloc, capacity as usize) else {
+            return Err(Fault::NoMemory);
+        };
+        Ok(JobLine {
+            first: Mutex::new(first),
+            closed: AtomicBool::new(false),
+            alloc,
+        })
+    }
+
+    /// Makes a pass of this line that has put and taken nothing.
+    ///
+    /// `NoMemory` only where a further owner of the queue is refused. Takes the lock of the line's
+    /// first pass.
+    pub fn pass<R: Wait>(&self, rt: &R) -> Result<LinePass<K, V>, NoMemory>
+        ensures { IfOk result (λ pass. pass ≡ hand [] []) }
+    {
+        self.first.lock(rt).split()
+    }
+
+    /// Puts a load at the end of the line, or hands its lead back.
+    ///
+    /// Answers `Line` where the line was open still after the put, `Late` where it was closed by then.
+    /// `LineClosed` comes before `LineFull`. The pass is to be one of this line: it goes by its own
+    /// queue. Takes no memory and no lock. That anyone takes the load is not promised.
+    pub fn post<R: Wait>(
+        &self,
+        rt: &R,
+        pass: &mut LinePass<K, V>,
+        lead: Lead<K, V>,
+    ) -> Result<Posted, Back<K, V>>
+        ensures moved { MatchResult result
+            (λ _. (n : ℕ) × (pass.new ≡ hand (pass.old.puts ++ (n, name lead) ∷ []) pass.old.takes))
+            (λ back. (back.lead ≡ lead) × (pass.new ≡ pass.old)) }
+        ensures faults { IfErr result (λ back.
+            (back.fault ≡ fault.LineFull) ⊎ (back.fault ≡ fault.LineClosed)) }
+    {
+        if self.is_closed() {
+            let fault = Fault::LineClosed;
+            return Err(Back { lead, fault });
+        }
+        if let Err(lead) = pass.push(rt, lead) {
+            let fault = Fault::LineFull;
+            return Err(Back { lead, fault });
+        }
+        if self.is_closed() {
+            return Ok(Posted::Late);
+        }
+        Ok(Posted::Line)
+    }
+
+    /// Takes the load that stands first in the line, or `None` where there is none.
+    ///
+    /// Whoever takes it is to run it. A closed line is taken from like an open one. Takes no memory
+    /// and no lock.
+    pub fn take<R: Wait>(&self, rt: &R, pass: &mut LinePass<K, V>) -> Option<Lead<K, V>>
+        ensures moved { MatchOption result (pass.new ≡ pass.old) (λ lead.
+            (n : ℕ) × (pass.new ≡ hand pass.old.puts (pass.old.takes ++ (n, name lead) ∷ []))) }
+    {
+        pass.pop(rt)
+    }
+
+    /// Closes the line, for good: a later post is handed its lead back, a worker ends once it finds
+    /// nothing more. Takes no memory and no lock.
+    pub fn close<R: Wait>(&self, _rt: &R) {
+        self.closed.store(true, Ordering::SeqCst);
+    }
+
+    /// Returns whether the line is closed. Takes no lock. What it answers may be old at once.
+    pub fn is_closed(&self) -> bool {
+        self.closed.load(Ordering::SeqCst)
+    }
+
+    // The allocator that the line was made with.
+    pub(crate) fn alloc(&self) -> Global {
+        self.alloc
+    }
+}

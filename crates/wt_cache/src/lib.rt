@@ -1,0 +1,23 @@
+//! A cache that loads what isn't there, once for all who ask for it, in the caller or in workers.
+#![tactic(auto)]
+
+mod cache;
+mod calls;
+mod get;
+mod got;
+mod hand;
+mod job_line;
+mod line_pass;
+mod loader;
+mod loads;
+mod workers;
+
+pub use cache::LoadingCache;
+pub use got::{Got, How, WorkerReport};
+pub use hand::Hand;
+pub use job_line::{Back, JobLine, Posted};
+pub use line_pass::LinePass;
+pub use loader::Loader;
+
+#[cfg(test)]
+mod tests;

@@ -1,0 +1,130 @@
+// What one caller does with the job line, and the rule that all of them keep.
+//
+// The line is a queue under a rule over the names of the loads that it holds and over the puts and
+// takes of every pass that was ever made: each put has a number of its own, each take the number and
+// the name of one put, in the order of the puts, and what was put and not taken is in the line. Every
+// push and every pop keeps the rule, so it holds at each atomic step of every schedule.
+ghost use Rattle.std.specs.Prelude.{◌≡◌, ◌<◌, ◌++◌, ◌∷◌, [], ℕ, IfOk, MatchOption, MatchResult};
+ghost use Rattle.std.specs.Arc.{arc_value};
+ghost use Rattle.crossbeam_queue.specs.Passes.{view as known_by, IsPassOf};
+ghost use Rattle.wt_flights.specs.Outcomes.{Leading};
+ghost use Rattle.wt_cache.specs.declared.hand.Hand.{Hand};
+ghost use Rattle.wt_cache.specs.Line.{hand, name, Numbered};
+
+use crate::hand::Hand;
+use crossbeam_queue::protocol::{Lesson, Outcome, Protocol, Split};
+use crossbeam_queue::{Pass, RuledArrayQueue};
+use std::alloc::Global;
+use std::marker::Model;
+use std::sync::{Arc, Wait};
+use wt_flights::Lead;
+use wt_keys::NoMemory;
+
+/// The rule of the line.
+pub struct Numbers;
+
+impl<K, V> Protocol<Lead<K, V>, Hand<K>> for Numbers {
+    ghost holds = { Numbered };
+
+    ghost first = { hand [] [] };
+}
+
+/// What a put leaves of its pass: one put more, of the load's name.
+pub struct Puts;
+
+impl<K, V> Outcome<Lead<K, V>, Hand<K>> for Puts {
+    ghost then = { λ v x w. (n : ℕ) × (w ≡ hand (v.puts ++ (n, name x) ∷ []) v.takes) };
+}
+
+impl<K, V> Lesson<Lead<K, V>, Hand<K>> for Puts {
+    ghost fact = { λ v items. Unit {0} };
+}
+
+/// What a take leaves of its pass: one take more, of the load's name.
+pub struct Takes;
+
+impl<K, V> Outcome<Lead<K, V>, Hand<K>> for Takes {
+    ghost then = { λ v x w. (n : ℕ) × (w ≡ hand v.puts (v.takes ++ (n, name x) ∷ [])) };
+}
+
+impl<K, V> Lesson<Lead<K, V>, Hand<K>> for Takes {
+    ghost fact = { λ v items. Unit {0} };
+}
+
+// The queue of a line.
+pub(crate) type Queue<K, V> = RuledArrayQueue<Lead<K, V>, Hand<K>, Numbers>;
+
+/// What one caller does with the job line. Contracts see what it put and what it took.
+///
+/// Each thread has its own; what a pass did stays in the line's rule when the pass is dropped.
+#[derive(Drop)]
+pub struct LinePass<K, V> {
+    // The line's queue, which the pass goes by.
+    queue: Arc<Queue<K, V>, Global>,
+    // What this holder put and took, in the queue's own book.
+    pass: Pass<Lead<K, V>, Hand<K>>,
+}
+
+impl<K, V> Model for LinePass<K, V> {
+    ghost Value = { Hand K };
+
+    ghost view = { λ p. known_by p.pass };
+
+    ghost invariant = { λ p. IsPassOf (arc_value p.queue) p.pass };
+}
+
+impl<K: Copy + Drop, V: Drop> LinePass<K, V> {
+    // Pushes a load to the queue's end, or hands it back where the queue is full.
+    pub(crate) fn push<R: Wait>(&mut self, rt: &R, lead: Lead<K, V>) -> Result<(), Lead<K, V>>
+        ensures moved { MatchResult result
+            (λ _. (n : ℕ) × (self.new ≡ hand (self.old.puts ++ (n, name lead) ∷ []) self.old.takes))
+            (λ back. (back ≡ lead) × (self.new ≡ self.old)) }
+    {
+        self.queue.push_as::<Puts, R>(rt, &mut self.pass, lead)
+    }
+
+    // Pops the load at the queue's front, if there is one.
+    pub(crate) fn pop<R: Wait>(&mut self, rt: &R) -> Option<Lead<K, V>>
+        ensures moved { MatchOption result (self.new ≡ self.old) (λ lead.
+            (n : ℕ) × (self.new ≡ hand self.old.puts (self.old.takes ++ (n, name lead) ∷ []))) }
+    {
+        self.queue.pop_as::<Takes, R>(rt, &mut self.pass)
+    }
+}
+
+/// Cuts a pass that has put and taken nothing off another one, which stays as it is.
+pub struct Off;
+
+impl<K> Split<Hand<K>> for Off {
+    ghost left = { λ v. v };
+
+    ghost right = { λ v. hand [] [] };
+}
+
+// The first pass of a line, which puts and takes nothing: the others are split off it.
+#[derive(Drop)]
+pub(crate) struct First<K, V> {
+    queue: Arc<Queue<K, V>, Global>,
+    pass: Pass<Lead<K, V>, Hand<K>>,
+    ghost of: { IsPassOf (arc_value queue) pass × (known_by pass ≡ hand [] []) },
+}
+
+impl<K: Copy + Drop, V: Drop> First<K, V> {
+    // Makes the queue of a line, with its first pass.
+    pub(crate) fn of_line(alloc: Global, capacity: usize) -> Result<First<K, V>, NoMemory>
+        requires { 0 < capacity }
+    {
+        let (queue, pass) = Queue::<K, V>::ruled(alloc, capacity)?;
+        let queue = Arc::new(alloc, queue)?;
+        Ok(First { queue, pass })
+    }
+
+    // Splits off a pass that has put and taken nothing.
+    pub(crate) fn split(&mut self) -> Result<LinePass<K, V>, NoMemory>
+        ensures { IfOk result (λ pass. pass ≡ hand [] []) }
+    {
+        let queue = Arc::try_clone(&self.queue)?;
+        let pass = self.queue.another::<Off>(&mut self.pass);
+        Ok(LinePass { queue, pass })
+    }
+}

@@ -1,0 +1,178 @@
+// How a load is run.
+//
+//   lead ─► load ─► land at the lead's moment ─► publish ─► ring
+//
+// One function does it, for a caller without a line, a poster that came too late and a worker. A load
+// is landed before it is published, and both for each lead once: landing borrows the lead, publishing
+// takes it away. So who is told a value finds it in the cache, unless it has left meanwhile.
+ghost use Rattle.std.specs.Prelude.{◌≡◌, ◌≤◌, false, true, IsTrue, IfOk, IfErr, OnOk, OnErr, MatchResult};
+ghost use Rattle.wt_flights.specs.Outcomes.{outcome_answers};
+ghost use Rattle.wt_shards.specs.Asked.{LandAnswers};
+ghost use Rattle.wt_shards.specs.Faults.{is_step_fault};
+ghost use Rattle.wt_shards.specs.Passes.{with_step};
+ghost use Rattle.wt_shards.specs.Place.{home_of};
+ghost use Rattle.wt_shards.specs.Told.{HasTold};
+ghost use Rattle.wt_cache.specs.Gets.{is_get_fault};
+ghost use Rattle.wt_cache.specs.Moves.{HasLanded};
+
+use crate::cache::LoadingCache;
+use crate::loader::Loader;
+use std::sync::Wait;
+use wt_core::{Land, Notices, Weighs};
+use wt_flights::{Lead, Outcome, Publish, Ticket};
+use wt_keys::{Answers, CacheKey, Fault, Share};
+use wt_shards::{Books, Pass};
+
+/// How a load ended, for whoever ran it.
+#[derive(Drop)]
+pub(crate) struct Ran {
+    /// Whether the loader answered an error.
+    pub failed: bool,
+    /// Whether the landing was made.
+    pub landed: Result<(), Fault>,
+}
+
+// Publishes the outcome, and wakes those who wait.
+fn announce<K: CacheKey, V: Share + Answers<K>, R: Wait>(
+    rt: &R,
+    lead: Lead<K, V>,
+    outcome: Outcome<V>,
+)
+    requires answers { IsTrue (outcome_answers V.answers outcome lead.key) }
+{
+    if let Publish::Published(ticket) = lead.publish(outcome) {
+        ticket.ring(rt);
+    }
+}
+
+// Waits for the outcome of a load, and returns a share of its value.
+pub(crate) fn value_of<K: CacheKey, V: Share + Answers<K>, R: Wait>(
+    rt: &R,
+    ticket: Ticket<K, V>,
+) -> Result<V, Fault>
+    ensures answers { IfOk result (λ value. IsTrue (V.answers value ticket.key)) }
+    ensures faults { IfErr result (λ fault. is_get_fault fault ≡ true) }
+{
+    let mut ticket = ticket;
+    match ticket.wait(rt)? {
+        Outcome::Value(value) => Ok(value),
+        Outcome::Failed(code) => Err(Fault::LoadFailed { code }),
+        Outcome::Abandoned => Err(Fault::Abandoned),
+    }
+}
+
+impl<
+    K: CacheKey,
+    V: Share + Weighs + Answers<K> + Send + Sync,
+    L: Loader<K, V> + Drop,
+    B: Books,
+> LoadingCache<K, V, L, B> {
+    // Lands a load at its moment.
+    fn land<R: Wait>(
+        &self,
+        rt: &R,
+        pass: &mut Pass<B>,
+        lead: &Lead<K, V>,
+        what: Land<V>,
+        notices: &mut Notices<K, V>,
+    ) -> Result<(), Fault>
+        requires room { self.now.layout.config.entries ≤ notices.old.room }
+        requires answers { LandAnswers V.answers lead.now.key what }
+        ensures moved { OnOk result
+            (pass.new ≡ with_step (home_of K.word lead.now.key self.now.layout) false pass.old) }
+        ensures told { HasTold self.now.layout.config.entries notices.old notices.new }
+        ensures faults { IfErr result (λ fault. is_step_fault fault ≡ true) }
+        ensures err { OnErr result ((pass.new ≡ pass.old) × (notices.new ≡ notices.old)) }
+    {
+        let moment = lead.moment();
+        self.shards.land(rt, pass, lead, what, moment, notices)?;
+        Ok(())
+    }
+
+    // Lands a load with its value: kept, or loose where the share or the landing found no memory.
+    fn land_value<R: Wait>(
+        &self,
+        rt: &R,
+        pass: &mut Pass<B>,
+        lead: &Lead<K, V>,
+        value: &V,
+        notices: &mut Notices<K, V>,
+    ) -> Result<(), Fault>
+        requires room { self.now.layout.config.entries ≤ notices.old.room }
+        requires answers { IsTrue (V.answers value.now lead.now.key) }
+        ensures moved { OnOk result
+            (pass.new ≡ with_step (home_of K.word lead.now.key self.now.layout) false pass.old) }
+        ensures told { HasTold self.now.layout.config.entries notices.old notices.new }
+        ensures faults { IfErr result (λ fault. is_step_fault fault ≡ true) }
+        ensures err { OnErr result ((pass.new ≡ pass.old) × (notices.new ≡ notices.old)) }
+    {
+        let Ok(kept) = value.share() else {
+            return self.land(rt, pass, lead, Land::Loose, notices);
+        };
+        match self.land(rt, pass, lead, Land::Keep(kept), notices) {
+            Ok(()) => Ok(()),
+            Err(Fault::NoMemory) => self.land(rt, pass, lead, Land::Loose, notices),
+            Err(fault) => Err(fault),
+        }
+    }
+
+    // Runs a load: loads, lands, publishes and rings, the last two whatever became of the landing.
+    pub(crate) fn run<R: Wait>(
+        &self,
+        rt: &R,
+        pass: &mut Pass<B>,
+        lead: Lead<K, V>,
+        notices: &mut Notices<K, V>,
+    ) -> Ran
+        requires room { self.now.layout.config.entries ≤ notices.old.room }
+        ensures moved { MatchResult result.landed
+            (λ _. pass.new ≡ with_step (home_of K.word lead.key self.now.layout) false pass.old)
+            (λ _. pass.new ≡ pass.old) }
+        ensures few { HasLanded 1 pass.old pass.new }
+        ensures told { HasTold self.now.layout.config.entries notices.old notices.new }
+        ensures faults { IfErr result.landed (λ fault. is_step_fault fault ≡ true) }
+    {
+        let key = lead.key();
+        match self.loader.load(&key) {
+            Ok(value) => {
+                let landed = self.land_value(rt, pass, &lead, &value, notices);
+                announce(rt, lead, Outcome::Value(value));
+                let failed = false;
+                Ran { failed, landed }
+            }
+            Err(code) => {
+                let landed = self.land(rt, pass, &lead, Land::Failed, notices);
+                announce(rt, lead, Outcome::Failed(code));
+                let failed = true;
+                Ran { failed, landed }
+            }
+        }
+    }
+
+    /// Gives up a load: whoever waits for it is told `Abandoned`, and no entry changes but the key's
+    /// own expired one, which leaves.
+    ///
+    /// For a lead that a seek of the shards gave. Where the landing is refused the outcome is published
+    /// and rung all the same; `NoMemory` and `StepsSpent` come only where the load isn't open any more.
+    /// Takes the lock of the key's shard, then that of the load's bell.
+    pub fn abandon<R: Wait>(
+        &self,
+        rt: &R,
+        pass: &mut Pass<B>,
+        lead: Lead<K, V>,
+        notices: &mut Notices<K, V>,
+    ) -> Result<(), Fault>
+        requires room { self.now.layout.config.entries ≤ notices.old.room }
+
+        ensures moved { OnOk result
+            (pass.new ≡ with_step (home_of K.word lead.key self.now.layout) false pass.old) }
+
+        ensures told { HasTold self.now.layout.config.entries notices.old notices.new }
+        ensures faults { IfErr result (λ fault. is_step_fault fault ≡ true) }
+        ensures err { OnErr result ((pass.new ≡ pass.old) × (notices.new ≡ notices.old)) }
+    {
+        let landed = self.land(rt, pass, &lead, Land::Failed, notices);
+        announce(rt, lead, Outcome::Abandoned);
+        landed
+    }
+}

@@ -1,0 +1,128 @@
+// The line alone: what comes back, in which order, to whom, and what a close does.
+ghost use Rattle.std.specs.Prelude.{◌≡◌};
+
+use crate::{Back, JobLine, LinePass, Posted};
+use std::alloc::Global;
+use std::process::Abort;
+use std::sync::Wait;
+use std::test::Fail;
+use std::thread;
+use std::thread::Threads;
+use wt_flights::{Landing, Lead};
+use wt_keys::Fault;
+
+// A line of loads of numbers.
+type Line = JobLine<u64, u64>;
+
+// The lead of a load that no table knows.
+fn lead(alloc: Global, id: u64) -> Result<Lead<u64, u64>, Fault> {
+    let (_landing, lead) = Landing::start(alloc, id, id, 0)?;
+    Ok(lead)
+}
+
+// Posts a load: the ids and faults that came back.
+fn post<R: Wait>(
+    rt: &R,
+    alloc: Global,
+    line: &Line,
+    hand: &mut LinePass<u64, u64>,
+    id: u64,
+) -> Result<Result<Posted, (u64, Fault)>, Fault> {
+    let lead = lead(alloc, id)?;
+    match line.post(rt, hand, lead) {
+        Ok(posted) => Ok(Ok(posted)),
+        Err(Back { lead, fault }) => Ok(Err((lead.id(), fault))),
+    }
+}
+
+// Takes a load: its id, or 0 where there is none.
+fn take<R: Wait>(rt: &R, line: &Line, hand: &mut LinePass<u64, u64>) -> u64 {
+    match line.take(rt, hand) {
+        Some(lead) => lead.id(),
+        None => 0,
+    }
+}
+
+#[test]
+fn loads_are_taken_in_the_order_of_the_posts(rt: HostRuntime) -> Result<(), Fail> {
+    let alloc = rt.alloc();
+    let line = Line::new(&rt, alloc, 2)?;
+    let mut hand = line.pass(&rt)?;
+    assert_eq!(rt; post(&rt, alloc, &line, &mut hand, 1)?, Ok(Posted::Line));
+    assert_eq!(rt; post(&rt, alloc, &line, &mut hand, 2)?, Ok(Posted::Line));
+    assert_eq!(rt;
+        post(&rt, alloc, &line, &mut hand, 3)?,
+        Err((3, Fault::LineFull))
+    );
+    assert_eq!(rt; take(&rt, &line, &mut hand), 1);
+    assert_eq!(rt; take(&rt, &line, &mut hand), 2);
+    assert_eq!(rt; take(&rt, &line, &mut hand), 0);
+    line.close(&rt);
+    assert_eq!(rt;
+        post(&rt, alloc, &line, &mut hand, 4)?,
+        Err((4, Fault::LineClosed))
+    );
+    Ok(())
+}
+
+#[test]
+fn a_line_has_1_to_4096_places(rt: HostRuntime) -> Result<(), Fail> {
+    let alloc = rt.alloc();
+    assert!(rt; matches!(Line::new(&rt, alloc, 0), Err(Fault::BadConfig { .. })));
+    assert!(rt; Line::new(&rt, alloc, 4096).is_ok());
+    assert!(rt; matches!(Line::new(&rt, alloc, 4097), Err(Fault::BadConfig { .. })));
+    Ok(())
+}
+
+// Posts three loads, the first of this id.
+fn post_three<R: Wait>(rt: &R, alloc: Global, line: &Line, first: u64) -> Result<bool, Fault> {
+    let mut hand = line.pass(rt)?;
+    let one = post(rt, alloc, line, &mut hand, first)?;
+    let two = post(rt, alloc, line, &mut hand, first.wrapping_add(1))?;
+    let three = post(rt, alloc, line, &mut hand, first.wrapping_add(2))?;
+    Ok(one.is_ok() && two.is_ok() && three.is_ok())
+}
+
+// Takes three loads, within 10,000,000 turns: the bits of their ids.
+fn take_three<R: Wait>(rt: &R, line: &Line) -> Result<u64, Fault> {
+    let mut hand = line.pass(rt)?;
+    let mut bits = 0u64;
+    let mut taken = 0u32;
+    for _ in 0..10_000_000u64 {
+        if taken >= 3 {
+            return Ok(bits);
+        }
+        let id = take(rt, line, &mut hand);
+        if id > 0 && id < 64 && bits & (1u64 << id) == 0 {
+            bits |= 1u64 << id;
+            taken += 1;
+        }
+        thread::yield_now();
+    }
+    Ok(0)
+}
+
+// Two threads post the loads 1 to 6, two take three each: the bits of all ids, if each came once.
+fn crossed<R: Threads + Wait + Sync>(rt: &R, alloc: Global) -> Result<u64, Fault> {
+    let line = Line::new(rt, alloc, 8)?;
+    let shared = &line;
+    let (posted, taken) = thread::join(
+        rt,
+        || thread::join(
+            rt,
+            || post_three(rt, alloc, shared, 1),
+            || post_three(rt, alloc, shared, 4),
+        ),
+        || thread::join(rt, || take_three(rt, shared), || take_three(rt, shared)),
+    );
+    let (one, two) = taken;
+    let (one, two) = (one?, two?);
+    let all = posted.0? && posted.1?;
+    Ok(if all && one & two == 0 { one | two } else { 0 })
+}
+
+#[test]
+fn each_load_is_taken_once(rt: HostRuntime) -> Result<(), Fail> {
+    assert_eq!(rt; crossed(&rt, rt.alloc())?, 0b111_1110);
+    Ok(())
+}

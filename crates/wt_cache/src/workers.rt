@@ -1,0 +1,99 @@
+// Workers, who run the loads that callers posted.
+ghost use Rattle.std.specs.Prelude.{◌≡◌, ◌+◌, ◌^◌, ◌<◌, ◌≤◌, []};
+ghost use Rattle.wt_regions.specs.Notices.{emptied};
+ghost use Rattle.wt_cache.specs.Moves.{HasLanded, HasTaken};
+
+use crate::cache::LoadingCache;
+use crate::got::WorkerReport;
+use crate::line_pass::LinePass;
+use crate::loader::Loader;
+use std::sync::Wait;
+use std::thread;
+use wt_core::{Notices, Weighs};
+use wt_flights::Lead;
+use wt_keys::{Answers, CacheKey, Share};
+use wt_shards::{Books, Pass};
+
+// A worker ends after so many jobs, so that its counts can't wrap. Ours.
+const MOST_JOBS: u64 = 1 << 40;
+
+impl<
+    K: CacheKey,
+    V: Share + Weighs + Answers<K> + Send + Sync,
+    L: Loader<K, V> + Drop,
+    B: Books,
+> LoadingCache<K, V, L, B> {
+    /// Takes loads off the line and runs them, and reports how many there were.
+    ///
+    /// Ends where it read that the line is closed and a take after that found none; after 2^40 loads;
+    /// or at once where the cache has no line. While the line is open and empty it gives way to other
+    /// threads and asks again. A load whose landing is refused is published and rung all the same.
+    /// What leaves the cache is counted and dropped, and so is what the list held before. Any number of
+    /// workers may run at once, each with passes of its own. The pass of the line is to be one of this
+    /// cache's line. Takes the lock of a key's shard for each landing. Not promised: that it returns.
+    pub fn run_worker<R: Wait>(
+        &self,
+        rt: &R,
+        pass: &mut Pass<B>,
+        hand: &mut LinePass<K, V>,
+        notices: &mut Notices<K, V>,
+    ) -> WorkerReport
+        requires room { self.now.layout.config.entries ≤ notices.old.room }
+        ensures landed { HasLanded result.jobs pass.old pass.new }
+        ensures taken { HasTaken result.jobs hand.old hand.new }
+        ensures failed { result.failed ≤ result.jobs }
+        ensures jobs { result.jobs ≤ 2 ^ 40 }
+        ensures notices { notices.new ≡ emptied notices.old }
+    {
+        notices.empty();
+        let mut report = WorkerReport {
+            jobs: 0,
+            failed: 0,
+            removed: 0,
+        };
+        let Some(line) = &self.line else {
+            return report;
+        };
+        for _ in rt.forever() {
+            if report.jobs >= MOST_JOBS {
+                return report;
+            }
+            // Read before the take: a load that is posted after the mark is run by its poster.
+            let closed = line.is_closed();
+            let Some(lead) = line.take(rt, hand) else {
+                if closed {
+                    return report;
+                }
+                thread::yield_now();
+                continue;
+            };
+            self.work(rt, pass, lead, notices, &mut report);
+        }
+        unreachable!()
+    }
+
+    // Runs one load of a worker: what leaves the cache is counted and dropped.
+    fn work<R: Wait>(
+        &self,
+        rt: &R,
+        pass: &mut Pass<B>,
+        lead: Lead<K, V>,
+        notices: &mut Notices<K, V>,
+        report: &mut WorkerReport,
+    )
+        requires room { self.now.layout.config.entries ≤ notices.old.room }
+        requires none { notices.old.list ≡ [] }
+        requires jobs { report.old.jobs < 2 ^ 40 }
+        requires failed { report.old.failed ≤ report.old.jobs }
+        ensures landed { HasLanded 1 pass.old pass.new }
+        ensures notices { notices.new ≡ notices.old }
+        ensures jobs { report.new.jobs ≡ report.old.jobs + 1 }
+        ensures failed { report.new.failed ≤ report.new.jobs }
+    {
+        let ran = self.run(rt, pass, lead, notices);
+        report.jobs += 1;
+        report.failed += u64::from(ran.failed);
+        report.removed = report.removed.saturating_add(notices.list().len() as u64);
+        notices.empty();
+    }
+}
