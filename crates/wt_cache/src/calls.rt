@@ -119,7 +119,7 @@ impl<
     }
 
     /// Makes the key's open load one that nobody joins any more and whose value is not stored, and
-    /// returns whether there was one. The entry stays: a get of a key that isn't there loads anew.
+    /// returns whether there was one. The key's entry stays, unless it has expired: then it leaves.
     ///
     /// `now` is in milliseconds. Takes no memory of its own, and the lock of the key's shard for one
     /// step. Expected O(1).

@@ -1,0 +1,75 @@
+// A line that is closed while loads are posted.
+ghost use Rattle.std.specs.Prelude.{◌≡◌};
+
+use crate::{Back, JobLine, Posted};
+use std::alloc::Global;
+use std::process::Abort;
+use std::sync::Wait;
+use std::test::Fail;
+use std::thread;
+use std::thread::Threads;
+use wt_flights::Landing;
+use wt_keys::Fault;
+
+// A line of loads of numbers.
+type Line = JobLine<u64, u64>;
+
+// Posts and takes one load after the other until the line is closed: whether the last post was late,
+// and found its load in the line still.
+fn posts<R: Wait>(rt: &R, alloc: Global, line: &Line) -> Result<bool, Fault> {
+    let mut hand = line.pass(rt)?;
+    for _ in 0..10_000_000u64 {
+        let (_landing, lead) = Landing::start(alloc, 1, 1, 0)?;
+        match line.post(rt, &mut hand, lead) {
+            Ok(Posted::Late) => return Ok(line.take(rt, &mut hand).is_some()),
+            Ok(Posted::Line) => {
+                let _taken = line.take(rt, &mut hand);
+            }
+            Err(Back { fault, .. }) => {
+                return if fault == Fault::LineClosed {
+                    Ok(false)
+                } else {
+                    Err(fault)
+                };
+            }
+        }
+    }
+    Err(Fault::Mixed)
+}
+
+// Closes the line after a while.
+fn closes<R: Wait>(rt: &R, line: &Line, turns: u64) {
+    for _ in 0..turns {
+        thread::yield_now();
+    }
+    line.close(rt);
+}
+
+// Whether the poster beside the close is told Late.
+fn meets<R: Threads + Wait + Sync>(rt: &R, alloc: Global, turns: u64) -> Result<bool, Fault> {
+    let line = Line::new(rt, alloc, 1)?;
+    let shared = &line;
+    let (late, ()) = thread::join(
+        rt,
+        || posts(rt, alloc, shared),
+        || closes(rt, shared, turns),
+    );
+    late
+}
+
+// The first of so many lines at which a poster is told Late, if one is.
+fn first_late<R: Threads + Wait + Sync>(rt: &R, alloc: Global) -> Result<Option<u64>, Fault> {
+    for round in 0..20_000u64 {
+        if meets(rt, alloc, round % 64)? {
+            return Ok(Some(round));
+        }
+    }
+    Ok(None)
+}
+
+#[test]
+fn a_post_beside_the_close_is_late(rt: HostRuntime) -> Result<(), Fail> {
+    let met = first_late(&rt, rt.alloc())?;
+    assert!(rt; met.is_some());
+    Ok(())
+}

@@ -1,0 +1,219 @@
+// Many calls of many threads, bounded by their number.
+ghost use Rattle.std.specs.Prelude.{◌≡◌};
+ghost use Rattle.wt_shards.specs.Opening.{AreBlanksOf};
+
+use crate::tests::stage::{Cache, Rules, Version, Way, config, get, new_marks, put};
+use crate::{How, JobLine, LoadingCache};
+use std::alloc::Global;
+use std::marker::Brand;
+use std::process::Abort;
+use std::sync::atomic::Ordering;
+use std::sync::{Arc, Wait};
+use std::test::Fail;
+use std::thread;
+use std::thread::Threads;
+use wt_core::{Config, Notices};
+use wt_keys::Fault;
+use wt_shards::{Blanks, Names, Of, Pass, Shards, Sought};
+
+// How many threads call, and how many calls each makes.
+const CALLERS: usize = 8;
+const CALLS: u64 = 500;
+
+// Whether a version of this line may have been put for the key.
+fn is_put(key: u64, line: u64) -> bool {
+    1 <= line && line <= 8 && key.wrapping_add(line) % 3 == 0
+}
+
+// 1 where a get answers a value that was never loaded or put for its key, else 0.
+fn strange(got: Result<(How, u64, u64), Fault>, key: u64) -> Result<u64, Fault> {
+    match got {
+        Ok((_how, line, _step)) => Ok(if line == 0 || is_put(key, line) { 0 } else { 1 }),
+        Err(Fault::LoadFailed { code: 7 }) => Ok(0),
+        Err(Fault::TooManyFlights { .. }) => Ok(0),
+        Err(fault) => Err(fault),
+    }
+}
+
+// One call: what a draw says, on one of fifty keys.
+fn call<N: Names, R: Wait>(
+    rt: &R,
+    alloc: Global,
+    cache: &Cache<N>,
+    pass: &mut Pass<Of<N>>,
+    line: u64,
+    draw: u64,
+    now: u64,
+) -> Result<u64, Fault> {
+    let key = (draw >> 33) % 50;
+    let mut notices = Notices::new(alloc, cache.entries() as usize)?;
+    match (draw >> 20) % 10 {
+        0 if is_put(key, line) => {
+            put(rt, alloc, cache, pass, Version { key, line }, now)?;
+            Ok(0)
+        }
+        1 => {
+            cache.invalidate(rt, pass, key, now, &mut notices)?;
+            Ok(0)
+        }
+        2 => {
+            cache.forget(rt, pass, key, now, &mut notices)?;
+            Ok(0)
+        }
+        _ => strange(get(rt, alloc, cache, pass, key, now), key),
+    }
+}
+
+// All calls of one caller: how many values were strange.
+fn calls<N: Names, R: Wait>(
+    rt: &R,
+    alloc: Global,
+    cache: &Cache<N>,
+    pass: &mut Pass<Of<N>>,
+    line: u64,
+) -> Result<u64, Fault> {
+    let mut draw = line;
+    let mut found = 0u64;
+    for turn in 0..CALLS {
+        draw = draw
+            .wrapping_mul(6364136223846793005)
+            .wrapping_add(1442695040888963407);
+        found = found.wrapping_add(call(rt, alloc, cache, pass, line, draw, turn / 8)?);
+    }
+    Ok(found)
+}
+
+// What a thread hands back: its pass, and how many values were strange.
+type Ran<N> = Result<(Pass<Of<N>>, u64), Fault>;
+
+// A caller with a pass of its own.
+fn caller<N: Names, R: Wait>(rt: &R, alloc: Global, cache: &Cache<N>, number: usize) -> Ran<N> {
+    let mut pass = cache.pass(rt, alloc)?;
+    let line = (number as u64).wrapping_add(1);
+    let found = calls(rt, alloc, cache, &mut pass, line)?;
+    Ok((pass, found))
+}
+
+// All callers; then the line is closed.
+fn call_all<N: Names + Send + Sync, R: Threads + Wait + Sync>(
+    rt: &R,
+    alloc: Global,
+    cache: &Cache<N>,
+) -> Result<Vec<Ran<N>>, Fault> {
+    let ran = thread::map_indices(rt, alloc, CALLERS, &|number: usize| -> Ran<N> {
+        caller(rt, alloc, cache, number)
+    });
+    if let Some(line) = cache.line() {
+        line.close(rt);
+    }
+    Ok(ran?)
+}
+
+// A worker with passes of its own.
+fn worker<N: Names, R: Wait>(rt: &R, alloc: Global, cache: &Cache<N>) -> Ran<N> {
+    let mut pass = cache.pass(rt, alloc)?;
+    let Some(line) = cache.line() else {
+        return Ok((pass, 0));
+    };
+    let mut hand = line.pass(rt)?;
+    let mut notices = Notices::new(alloc, cache.entries() as usize)?;
+    let _report = cache.run_worker(rt, &mut pass, &mut hand, &mut notices);
+    Ok((pass, 0))
+}
+
+// Two workers.
+fn work_all<N: Names + Send + Sync, R: Threads + Wait + Sync>(
+    rt: &R,
+    alloc: Global,
+    cache: &Cache<N>,
+) -> Result<Vec<Ran<N>>, Fault> {
+    let ran = thread::map_indices(rt, alloc, 2, &|_number: usize| -> Ran<N> {
+        worker(rt, alloc, cache)
+    })?;
+    Ok(ran)
+}
+
+// Adds what threads handed back to the passes: how many values were strange.
+fn gather<N: Names>(
+    ran: Vec<Ran<N>>,
+    passes: &mut Vec<Pass<Of<N>>>,
+) -> Result<u64, Fault> {
+    let mut found = 0u64;
+    for one in ran {
+        let (pass, strange) = one?;
+        passes.push(pass)?;
+        found = found.wrapping_add(strange);
+    }
+    Ok(found)
+}
+
+// How many loads of keys that were never asked for can be opened.
+fn leads<N: Names, R: Wait>(
+    rt: &R,
+    alloc: Global,
+    shards: &Shards<u64, Version, Of<N>>,
+    pass: &mut Pass<Of<N>>,
+) -> Result<u64, Fault> {
+    let mut opened = 0u64;
+    for key in 1000..1064u64 {
+        let mut notices = Notices::new(alloc, shards.entries() as usize)?;
+        match shards.seek(rt, pass, key, 100, &mut notices) {
+            Ok(done) => {
+                if matches!(done.reply, Sought::Lead(_, _)) {
+                    opened = opened.wrapping_add(1);
+                }
+            }
+            Err(Fault::TooManyFlights { .. }) => {}
+            Err(fault) => return Err(fault),
+        }
+    }
+    Ok(opened)
+}
+
+// Callers beside workers: the strange values, the loads that were begun and not landed, and how many
+// loads can be opened then. That no pass is missing is asked by `settle`.
+fn soak<N: Names + Send + Sync, R: Threads + Wait + Sync>(
+    rt: &R,
+    alloc: Global,
+    blanks: Blanks,
+    config: &Config,
+    count: usize,
+) -> Result<(u64, u64, u64), Fault>
+    requires layout { N.layout ≡ record { shards = count; config = config.now } }
+    requires blanks { AreBlanksOf N.name blanks }
+{
+    let shards: Shards<u64, Version, Of<N>> = Shards::new(rt, alloc, blanks, config, count)?;
+    let marks = new_marks(alloc)?;
+    let rules = Rules {
+        way: Way::FailsFifth,
+        marks: Arc::try_clone(&marks)?,
+    };
+    let line = JobLine::new(rt, alloc, 4)?;
+    let cache: Cache<N> = LoadingCache::new(shards, rules, Some(line));
+    let shared = &cache;
+    let (called, worked) = thread::join(
+        rt,
+        || call_all(rt, alloc, shared),
+        || work_all(rt, alloc, shared),
+    );
+    let mut passes = Vec::new(alloc);
+    let found = gather(called?, &mut passes)?;
+    gather(worked?, &mut passes)?;
+    let stats = cache.stats(rt);
+    let landed = stats.loads.wrapping_add(stats.failed);
+    let begun = marks.begun.load(Ordering::SeqCst);
+    let mut pass = cache.pass(rt, alloc)?;
+    let shards = cache.finish();
+    let opened = leads(rt, alloc, &shards, &mut pass)?;
+    passes.push(pass)?;
+    shards.settle(rt, alloc, passes)?;
+    Ok((found, begun.wrapping_sub(landed), opened))
+}
+
+#[test]
+fn a_soak_leaves_no_load_open_and_no_pass_missing(rt: HostRuntime) -> Result<(), Fail> {
+    let config = config(8, 4, Some(40));
+    let seen = soak::<Brand, _>(&rt, rt.alloc(), Blanks::new(), &config, 4)?;
+    assert_eq!(rt; seen, (0, 0, 16));
+    Ok(())
+}

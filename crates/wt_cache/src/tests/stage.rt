@@ -1,0 +1,167 @@
+// What the tests share: values, a loader of several ways, and the ways to make shards.
+ghost use Rattle.std.specs.Prelude.{◌≡◌};
+
+use crate::{How, Loader, LoadingCache};
+use std::alloc::Global;
+use std::sync::atomic::{AtomicU64, Ordering};
+use std::sync::{Arc, Wait};
+use std::thread;
+use wt_core::{Cause, Config, Notices, Weighs};
+use wt_keys::{Answers, Fault, NoMemory, Share};
+use wt_shards::{Names, Of, Pass};
+
+/// A value that knows its key. The loader's are of line 0.
+#[derive(Clone, Copy, Debug, PartialEq, Eq)]
+pub struct Version {
+    pub key: u64,
+    pub line: u64,
+}
+
+impl Share for Version {
+    fn share(&self) -> Result<Version, NoMemory> {
+        Ok(*self)
+    }
+}
+
+impl Weighs for Version {
+    ghost weight = { λ v. 1 };
+
+    fn weight(&self) -> u32 {
+        1
+    }
+}
+
+impl Answers<u64> for Version {
+    ghost use Rattle.std.specs.Prelude.{◌==◌};
+
+    ghost answers = { λ v key. v.key == key };
+
+    fn answers(&self, key: &u64) -> bool {
+        self.key == *key
+    }
+}
+
+/// What threads tell each other.
+#[derive(Drop)]
+pub struct Marks {
+    /// How many loads were begun.
+    pub begun: AtomicU64,
+    /// Above 0 once held loads may end.
+    pub released: AtomicU64,
+}
+
+/// How a loader answers.
+#[derive(Clone, Copy, Debug, PartialEq, Eq)]
+pub enum Way {
+    /// Each key at once.
+    Plain,
+    /// The key 1 by an error of code 7, the others at once.
+    FailsOne,
+    /// The key 1 once it is released, the others at once.
+    HoldsOne,
+    /// Each key once two loads have begun.
+    InPairs,
+    /// Every fifth load by an error of code 7, the others at once.
+    FailsFifth,
+}
+
+/// A loader of versions.
+#[derive(Drop)]
+pub struct Rules {
+    pub way: Way,
+    pub marks: Arc<Marks, Global>,
+}
+
+/// Returns whether the mark rises to so many within 10,000,000 turns.
+pub fn rises(mark: &AtomicU64, many: u64) -> bool {
+    for _ in 0..10_000_000u64 {
+        if mark.load(Ordering::SeqCst) >= many {
+            return true;
+        }
+        thread::yield_now();
+    }
+    false
+}
+
+impl Loader<u64, Version> for Rules {
+    fn load(&self, key: &u64) -> Result<Version, u32> {
+        let before = self.marks.begun.fetch_add(1, Ordering::SeqCst);
+        let ends = match self.way {
+            Way::Plain => true,
+            Way::FailsOne if *key == 1 => return Err(7),
+            Way::FailsFifth if before % 5 == 4 => return Err(7),
+            Way::HoldsOne if *key == 1 => rises(&self.marks.released, 1),
+            Way::InPairs => rises(&self.marks.begun, 2),
+            _ => true,
+        };
+        if !ends {
+            return Err(99);
+        }
+        let key = *key;
+        Ok(Version { key, line: 0 })
+    }
+}
+
+/// Makes marks that say nothing yet.
+pub fn new_marks(alloc: Global) -> Result<Arc<Marks, Global>, NoMemory> {
+    let begun = AtomicU64::new(0);
+    let released = AtomicU64::new(0);
+    Ok(Arc::new(alloc, Marks { begun, released })?)
+}
+
+/// A cache of versions, by the names of its ledgers.
+pub type Cache<N> = LoadingCache<u64, Version, Rules, Of<N>>;
+
+/// What each shard is made for: refresh after 50 ms.
+pub fn config(entries: u32, flights: u32, after_write: Option<u64>) -> Config {
+    Config {
+        entries,
+        window: 1,
+        bound: 1000,
+        after_write,
+        after_access: None,
+        refresh: Some(50),
+        flights,
+        ring: 4097,
+    }
+}
+
+/// Gets a key: how, the line of the version, and the step.
+pub fn get<N: Names, R: Wait>(
+    rt: &R,
+    alloc: Global,
+    cache: &Cache<N>,
+    pass: &mut Pass<Of<N>>,
+    key: u64,
+    now: u64,
+) -> Result<(How, u64, u64), Fault> {
+    let mut notices = Notices::new(alloc, 2 * cache.entries() as usize)?;
+    let got = cache.get(rt, pass, key, now, &mut notices)?;
+    Ok((got.how, got.value.line, got.step))
+}
+
+/// Puts a version under its key: the step.
+pub fn put<N: Names, R: Wait>(
+    rt: &R,
+    alloc: Global,
+    cache: &Cache<N>,
+    pass: &mut Pass<Of<N>>,
+    version: Version,
+    now: u64,
+) -> Result<u64, Fault> {
+    let mut notices = Notices::new(alloc, cache.entries() as usize)?;
+    let done = cache.put(rt, pass, version.key, version, now, &mut notices)?;
+    Ok(done.step)
+}
+
+/// What a call told: how many notices, and the key and the cause of the first.
+pub type Told = (usize, u64, Option<Cause>);
+
+/// Returns what stands in a list of notices.
+pub fn told_in(notices: &Notices<u64, Version>) -> Told {
+    let list = notices.list();
+    match list.first() {
+        Some(first) => (list.len(), first.key, Some(first.cause)),
+        None => (0, 0, None),
+    }
+}
