@@ -1,0 +1,81 @@
+-- What C is told of a call.
+use Rattle.std.specs.Prelude.{IsSome, ℕ, ◌==◌, nat_eq, Bool, if◌then◌else◌, length}
+use Rattle.wt_keys.specs.Faults.{fault_number}
+use Rattle.wt_regions.specs.Notices.{appended, emptied}
+use Rattle.wt_core.specs.declared.kinds.Call.{Call}
+use Rattle.wt_core.specs.declared.kinds.Reply.{Reply}
+use Rattle.wt_core.specs.declared.kinds.Reply.TheVariants.{Hit, Absent, HitLead, Join, Lead, Kept, Loose, Failed, Gone, Stored, Dropped, Cleared, Forgot, Cleaned, Refused}
+use Rattle.wt_core.specs.State.{Made}
+use Rattle.wt_core.specs.Run.{taken}
+use Rattle.wt_core.specs.Step.{refusal_of}
+use Rattle.wt_core.specs.Landings.{TakesNone}
+use Rattle.wt_ffi.specs.declared.token.Token.{Token}
+use Rattle.wt_ffi.specs.declared.answer.Answer.{Answer}
+use Rattle.wt_ffi.specs.Open.{Open}
+
+-- 1 for true
+abbrev pub bit : Bool → ℕ
+bit b = if b then 1 else 0
+
+-- an answer with no token
+abbrev pub plain : ℕ → ℕ → ℕ → Answer
+plain kind number notices = record { kind = kind; weight = 0; token = 0; number = number; notices = notices }
+
+-- an answer with a token
+abbrev pub hit : ℕ → Token → ℕ → ℕ → Answer
+hit kind v number notices = record { kind = kind; weight = v.weight; token = v.token; number = number; notices = notices }
+
+-- the answer that tells a reply
+abbrev pub answer_of : Reply Token → ℕ → Answer
+answer_of (Hit v) n = hit 1 v 0 n
+answer_of Absent n = plain 2 0 n
+answer_of (HitLead v id) n = hit 3 v id n
+answer_of (Join id) n = plain 4 id n
+answer_of (Lead id) n = plain 5 id n
+answer_of (Kept sharers) n = plain 6 sharers n
+answer_of (Loose sharers) n = plain 7 sharers n
+answer_of (Failed sharers) n = plain 8 sharers n
+answer_of Gone n = plain 9 0 n
+answer_of Stored n = plain 10 0 n
+answer_of (Dropped was) n = plain 11 (bit was) n
+answer_of Cleared n = plain 12 0 n
+answer_of (Forgot was) n = plain 13 (bit was) n
+answer_of Cleaned n = plain 14 0 n
+answer_of (Refused f) n = plain 15 (fault_number f) n
+
+-- the number that a call returns
+abbrev pub number_of : Reply Token → ℕ
+number_of (Refused f) = fault_number f
+number_of _ = 0
+
+-- what the definition makes of a call
+abbrev pub made_of : Call ℕ Token → Open → Made ℕ Token
+made_of call c = taken nat_eq (λ k. k) (λ v. v.weight) c.core call
+
+-- with the notices of no call
+abbrev pub quiet : Open → Open
+quiet c = record { core = c.core; notices = emptied c.notices }
+
+-- after the call: the definition's state, with the notices of this call alone
+abbrev pub called : Call ℕ Token → Open → Open
+called call c = let made = made_of call c in record { core = made.state; notices = appended made.notices (emptied c.notices) }
+
+-- where memory was refused nothing has changed, but that the notices are gone
+abbrev pub after : ℕ → Call ℕ Token → Open → Open
+after kind call c = if kind == 0 then quiet c else called call c
+
+-- the number that is returned
+abbrev pub number_after : ℕ → Call ℕ Token → Open → ℕ
+number_after kind call c = if kind == 0 then 1 else number_of (made_of call c).reply
+
+-- the answer that is told
+abbrev pub answer_after : ℕ → Call ℕ Token → Open → Answer
+answer_after kind call c = if kind == 0 then plain 0 1 0 else answer_of (made_of call c).reply (length (made_of call c).notices)
+
+-- the state refuses the call
+abbrev pub IsRefused : Call ℕ Token → Open → Type 0
+IsRefused call c = IsSome (refusal_of nat_eq (λ k. k) (λ v. v.weight) c.core call)
+
+-- the call takes no memory
+abbrev pub IsFree : Call ℕ Token → Open → Type 0
+IsFree call c = TakesNone nat_eq (λ v. v.weight) c.core call

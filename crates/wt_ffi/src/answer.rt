@@ -1,0 +1,96 @@
+// What a call tells C.
+ghost use Rattle.std.specs.Prelude.{◌≡◌};
+ghost use Rattle.wt_ffi.specs.Calls.{answer_of, number_of};
+
+use crate::token::Token;
+use wt_core::Reply;
+
+/// What a call answered: `rd_answer` of the header.
+#[repr(C)]
+#[derive(Clone, Copy, PartialEq, Eq)]
+pub struct Answer {
+    /// Which answer it is, from 1; 0 where memory was refused.
+    pub kind: u32,
+    /// The weight of the token of a hit.
+    pub weight: u32,
+    /// The token of a hit.
+    pub token: u64,
+    /// The id of a load, the number of its sharers, whether there was something, or the fault's number.
+    pub number: u64,
+    /// How many notices the call told.
+    pub notices: u64,
+}
+
+// The answer, as it is told to C.
+pub(crate) fn answer_of(reply: &Reply<Token>, notices: u64) -> Answer
+    ensures { result ≡ answer_of reply.now notices }
+{
+    let mut answer = Answer {
+        kind: 0,
+        weight: 0,
+        token: 0,
+        number: 0,
+        notices,
+    };
+    match reply {
+        Reply::Hit(value) => {
+            answer.kind = 1;
+            answer.weight = value.weight;
+            answer.token = value.token;
+        }
+        Reply::Absent => answer.kind = 2,
+        Reply::HitLead(value, id) => {
+            answer.kind = 3;
+            answer.weight = value.weight;
+            answer.token = value.token;
+            answer.number = *id;
+        }
+        Reply::Join(id) => {
+            answer.kind = 4;
+            answer.number = *id;
+        }
+        Reply::Lead(id) => {
+            answer.kind = 5;
+            answer.number = *id;
+        }
+        Reply::Kept(sharers) => {
+            answer.kind = 6;
+            answer.number = *sharers;
+        }
+        Reply::Loose(sharers) => {
+            answer.kind = 7;
+            answer.number = *sharers;
+        }
+        Reply::Failed(sharers) => {
+            answer.kind = 8;
+            answer.number = *sharers;
+        }
+        Reply::Gone => answer.kind = 9,
+        Reply::Stored => answer.kind = 10,
+        Reply::Dropped(was) => {
+            answer.kind = 11;
+            answer.number = *was as u64;
+        }
+        Reply::Cleared => answer.kind = 12,
+        Reply::Forgot(was) => {
+            answer.kind = 13;
+            answer.number = *was as u64;
+        }
+        Reply::Cleaned => answer.kind = 14,
+        Reply::Refused(fault) => {
+            answer.kind = 15;
+            answer.number = fault.number();
+        }
+    }
+    answer
+}
+
+// The number that a call returns: the fault's, or 0.
+pub(crate) fn number_of(reply: &Reply<Token>) -> u64
+    ensures { result ≡ number_of reply.now }
+{
+    match reply {
+        Reply::Refused(fault) => fault.number(),
+        _ => 0,
+    }
+}

@@ -1,0 +1,95 @@
+// Looking up and storing, each one step of the definition.
+ghost use Rattle.std.specs.Prelude.{◌≡◌, ◌<◌, Some, IfSome, IsNone, None};
+ghost use Rattle.wt_core.specs.declared.kinds.Call.TheVariants as call;
+ghost use Rattle.wt_ffi.specs.Calls.{after, number_after, answer_after, IsRefused, IsFree};
+
+use crate::answer::Answer;
+use crate::handle::Handle;
+use crate::make::make;
+use crate::token::Token;
+use std::alloc::Global;
+use wt_core::Call;
+
+/// Looks the key up: `RD_HIT` with the token where it is there, and else `RD_ABSENT`.
+///
+/// A hit counts as a use. An expired entry leaves by a notice. Only a hit takes memory. Expected O(1).
+#[unsafe(no_mangle)]
+pub extern "C" fn rd_look(
+    alloc: Global,
+    handle: &mut Handle,
+    key: u64,
+    now: u64,
+    answer: &mut Answer,
+) -> u64
+    ensures state { IfSome handle.old.pointer.cache (λ c. handle.new.pointer.cache
+        ≡ Some (after answer.new.kind (call.Look key now) c)) }
+    ensures number { IfSome handle.old.pointer.cache (λ c. result
+        ≡ number_after answer.new.kind (call.Look key now) c) }
+    ensures answer { IfSome handle.old.pointer.cache (λ c. answer.new
+        ≡ answer_after answer.new.kind (call.Look key now) c) }
+    ensures refusal { IfSome handle.old.pointer.cache (λ c. IsRefused (call.Look key now) c
+        → 0 < answer.new.kind) }
+    ensures memory { IfSome handle.old.pointer.cache (λ c. IsFree (call.Look key now) c
+        → 0 < answer.new.kind) }
+    ensures closed { IsNone handle.old.pointer.cache
+        → (result ≡ 100) × (handle.new.pointer.cache ≡ None) × (answer.new ≡ answer.old) }
+{
+    make(alloc, handle, Call::Look(key, now), answer)
+}
+
+/// Looks the key up; where it isn't there, joins its current load, or opens one for the caller to make.
+///
+/// `RD_HIT`, `RD_HIT_LEAD` where a refresh is due, which the caller is to make, `RD_JOIN` or `RD_LEAD`, each
+/// with the load's id. Only a call that opens no load is let through at the limit of loads. Expected O(1).
+#[unsafe(no_mangle)]
+pub extern "C" fn rd_seek(
+    alloc: Global,
+    handle: &mut Handle,
+    key: u64,
+    now: u64,
+    answer: &mut Answer,
+) -> u64
+    ensures state { IfSome handle.old.pointer.cache (λ c. handle.new.pointer.cache
+        ≡ Some (after answer.new.kind (call.Seek key now) c)) }
+    ensures number { IfSome handle.old.pointer.cache (λ c. result
+        ≡ number_after answer.new.kind (call.Seek key now) c) }
+    ensures answer { IfSome handle.old.pointer.cache (λ c. answer.new
+        ≡ answer_after answer.new.kind (call.Seek key now) c) }
+    ensures refusal { IfSome handle.old.pointer.cache (λ c. IsRefused (call.Seek key now) c
+        → 0 < answer.new.kind) }
+    ensures memory { IfSome handle.old.pointer.cache (λ c. IsFree (call.Seek key now) c
+        → 0 < answer.new.kind) }
+    ensures closed { IsNone handle.old.pointer.cache
+        → (result ≡ 100) × (handle.new.pointer.cache ≡ None) × (answer.new ≡ answer.old) }
+{
+    make(alloc, handle, Call::Seek(key, now), answer)
+}
+
+/// Stores the value under the key, in place of one that is there: `RD_STORED`.
+///
+/// What is replaced, has expired or is evicted leaves by notices; the new entry itself may be among them.
+/// A value heavier than the bound is refused before memory is asked for. Expected O(1), O(entries) in a trim.
+#[unsafe(no_mangle)]
+pub extern "C" fn rd_put(
+    alloc: Global,
+    handle: &mut Handle,
+    key: u64,
+    value: Token,
+    now: u64,
+    answer: &mut Answer,
+) -> u64
+    ensures state { IfSome handle.old.pointer.cache (λ c. handle.new.pointer.cache
+        ≡ Some (after answer.new.kind (call.Put key value now) c)) }
+    ensures number { IfSome handle.old.pointer.cache (λ c. result
+        ≡ number_after answer.new.kind (call.Put key value now) c) }
+    ensures answer { IfSome handle.old.pointer.cache (λ c. answer.new
+        ≡ answer_after answer.new.kind (call.Put key value now) c) }
+    ensures refusal { IfSome handle.old.pointer.cache (λ c. IsRefused (call.Put key value now) c
+        → 0 < answer.new.kind) }
+    ensures memory { IfSome handle.old.pointer.cache (λ c. IsFree (call.Put key value now) c
+        → 0 < answer.new.kind) }
+    ensures closed { IsNone handle.old.pointer.cache
+        → (result ≡ 100) × (handle.new.pointer.cache ≡ None) × (answer.new ≡ answer.old) }
+{
+    make(alloc, handle, Call::Put(key, value, now), answer)
+}

@@ -1,0 +1,108 @@
+// Closing a load, each call one step of the definition.
+ghost use Rattle.std.specs.Prelude.{◌≡◌, ◌<◌, Some, IfSome, IsNone, None};
+ghost use Rattle.wt_core.specs.declared.kinds.Call.TheVariants as call;
+ghost use Rattle.wt_core.specs.declared.kinds.Land.TheVariants as land;
+ghost use Rattle.wt_ffi.specs.Calls.{after, number_after, answer_after, IsRefused, IsFree};
+
+use crate::answer::Answer;
+use crate::handle::Handle;
+use crate::make::make;
+use crate::token::Token;
+use std::alloc::Global;
+use wt_core::{Call, Land};
+
+/// Closes a load with a value, which is stored where the load is still current.
+///
+/// `RD_KEPT` where it was stored and `RD_LOOSE` where it wasn't, both with the number of sharers, or `RD_GONE`
+/// where no such load of the key is open. Only a landing that stores takes memory. Expected O(1).
+#[unsafe(no_mangle)]
+pub extern "C" fn rd_land_keep(
+    alloc: Global,
+    handle: &mut Handle,
+    id: u64,
+    key: u64,
+    value: Token,
+    now: u64,
+    answer: &mut Answer,
+) -> u64
+    ensures state { IfSome handle.old.pointer.cache (λ c. handle.new.pointer.cache
+        ≡ Some (after answer.new.kind (call.Land id key (land.Keep value) now) c)) }
+    ensures number { IfSome handle.old.pointer.cache (λ c. result
+        ≡ number_after answer.new.kind (call.Land id key (land.Keep value) now) c) }
+    ensures answer { IfSome handle.old.pointer.cache (λ c. answer.new
+        ≡ answer_after answer.new.kind (call.Land id key (land.Keep value) now) c) }
+    ensures refusal { IfSome handle.old.pointer.cache (λ c. IsRefused (call.Land id key (land.Keep value) now) c
+        → 0 < answer.new.kind) }
+    ensures memory { IfSome handle.old.pointer.cache (λ c. IsFree (call.Land id key (land.Keep value) now) c
+        → 0 < answer.new.kind) }
+    ensures closed { IsNone handle.old.pointer.cache
+        → (result ≡ 100) × (handle.new.pointer.cache ≡ None) × (answer.new ≡ answer.old) }
+{
+    make(
+        alloc,
+        handle,
+        Call::Land(id, key, Land::Keep(value), now),
+        answer,
+    )
+}
+
+/// Closes a load with a value that isn't to be stored: `RD_LOOSE` with the number of sharers, or `RD_GONE`.
+///
+/// Takes no memory. Expected O(1).
+#[unsafe(no_mangle)]
+pub extern "C" fn rd_land_loose(
+    alloc: Global,
+    handle: &mut Handle,
+    id: u64,
+    key: u64,
+    now: u64,
+    answer: &mut Answer,
+) -> u64
+    ensures state { IfSome handle.old.pointer.cache (λ c. handle.new.pointer.cache
+        ≡ Some (after answer.new.kind (call.Land id key land.Loose now) c)) }
+    ensures number { IfSome handle.old.pointer.cache (λ c. result
+        ≡ number_after answer.new.kind (call.Land id key land.Loose now) c) }
+    ensures answer { IfSome handle.old.pointer.cache (λ c. answer.new
+        ≡ answer_after answer.new.kind (call.Land id key land.Loose now) c) }
+    ensures refusal { IfSome handle.old.pointer.cache (λ c. IsRefused (call.Land id key land.Loose now) c
+        → 0 < answer.new.kind) }
+    ensures memory { IfSome handle.old.pointer.cache (λ c. IsFree (call.Land id key land.Loose now) c
+        → 0 < answer.new.kind) }
+    ensures closed { IsNone handle.old.pointer.cache
+        → (result ≡ 100) × (handle.new.pointer.cache ≡ None) × (answer.new ≡ answer.old) }
+{
+    make(alloc, handle, Call::Land(id, key, Land::Loose, now), answer)
+}
+
+/// Closes a load that failed: `RD_FAILED` with the number of sharers, or `RD_GONE`. An entry of the key stays.
+///
+/// Takes no memory. Expected O(1).
+#[unsafe(no_mangle)]
+pub extern "C" fn rd_land_failed(
+    alloc: Global,
+    handle: &mut Handle,
+    id: u64,
+    key: u64,
+    now: u64,
+    answer: &mut Answer,
+) -> u64
+    ensures state { IfSome handle.old.pointer.cache (λ c. handle.new.pointer.cache
+        ≡ Some (after answer.new.kind (call.Land id key land.Failed now) c)) }
+    ensures number { IfSome handle.old.pointer.cache (λ c. result
+        ≡ number_after answer.new.kind (call.Land id key land.Failed now) c) }
+    ensures answer { IfSome handle.old.pointer.cache (λ c. answer.new
+        ≡ answer_after answer.new.kind (call.Land id key land.Failed now) c) }
+    ensures refusal { IfSome handle.old.pointer.cache (λ c. IsRefused (call.Land id key land.Failed now) c
+        → 0 < answer.new.kind) }
+    ensures memory { IfSome handle.old.pointer.cache (λ c. IsFree (call.Land id key land.Failed now) c
+        → 0 < answer.new.kind) }
+    ensures closed { IsNone handle.old.pointer.cache
+        → (result ≡ 100) × (handle.new.pointer.cache ≡ None) × (answer.new ≡ answer.old) }
+{
+    make(
+        alloc,
+        handle,
+        Call::Land(id, key, Land::Failed, now),
+        answer,
+    )
+}

@@ -1,0 +1,106 @@
+// Taking entries out and letting loads go, each call one step of the definition.
+ghost use Rattle.std.specs.Prelude.{◌≡◌, ◌<◌, Some, IfSome, IsNone, None};
+ghost use Rattle.wt_core.specs.declared.kinds.Call.TheVariants as call;
+ghost use Rattle.wt_ffi.specs.Calls.{after, number_after, answer_after, IsRefused, IsFree};
+
+use crate::answer::Answer;
+use crate::handle::Handle;
+use crate::make::make;
+use std::alloc::Global;
+use wt_core::Call;
+
+/// Takes the key's entry out, and lets its open loads store nothing: `RD_DROPPED`.
+///
+/// Its number is 1 where an entry left as Explicit, and 0 else. Takes no memory. Expected O(1).
+#[unsafe(no_mangle)]
+pub extern "C" fn rd_drop_key(
+    alloc: Global,
+    handle: &mut Handle,
+    key: u64,
+    now: u64,
+    answer: &mut Answer,
+) -> u64
+    ensures state { IfSome handle.old.pointer.cache (λ c. handle.new.pointer.cache
+        ≡ Some (after answer.new.kind (call.DropKey key now) c)) }
+    ensures number { IfSome handle.old.pointer.cache (λ c. result
+        ≡ number_after answer.new.kind (call.DropKey key now) c) }
+    ensures answer { IfSome handle.old.pointer.cache (λ c. answer.new
+        ≡ answer_after answer.new.kind (call.DropKey key now) c) }
+    ensures refusal { IfSome handle.old.pointer.cache (λ c. IsRefused (call.DropKey key now) c
+        → 0 < answer.new.kind) }
+    ensures memory { IfSome handle.old.pointer.cache (λ c. IsFree (call.DropKey key now) c
+        → 0 < answer.new.kind) }
+    ensures closed { IsNone handle.old.pointer.cache
+        → (result ≡ 100) × (handle.new.pointer.cache ≡ None) × (answer.new ≡ answer.old) }
+{
+    make(alloc, handle, Call::DropKey(key, now), answer)
+}
+
+/// Lets no further caller join the key's current load, and that load store nothing: `RD_FORGOT`.
+///
+/// Its number is 1 where there was such a load, and 0 else. Takes no memory. Expected O(1).
+#[unsafe(no_mangle)]
+pub extern "C" fn rd_forget(
+    alloc: Global,
+    handle: &mut Handle,
+    key: u64,
+    now: u64,
+    answer: &mut Answer,
+) -> u64
+    ensures state { IfSome handle.old.pointer.cache (λ c. handle.new.pointer.cache
+        ≡ Some (after answer.new.kind (call.Forget key now) c)) }
+    ensures number { IfSome handle.old.pointer.cache (λ c. result
+        ≡ number_after answer.new.kind (call.Forget key now) c) }
+    ensures answer { IfSome handle.old.pointer.cache (λ c. answer.new
+        ≡ answer_after answer.new.kind (call.Forget key now) c) }
+    ensures refusal { IfSome handle.old.pointer.cache (λ c. IsRefused (call.Forget key now) c
+        → 0 < answer.new.kind) }
+    ensures memory { IfSome handle.old.pointer.cache (λ c. IsFree (call.Forget key now) c
+        → 0 < answer.new.kind) }
+    ensures closed { IsNone handle.old.pointer.cache
+        → (result ≡ 100) × (handle.new.pointer.cache ≡ None) × (answer.new ≡ answer.old) }
+{
+    make(alloc, handle, Call::Forget(key, now), answer)
+}
+
+/// Takes every entry out, by a notice each, and lets the open loads store nothing: `RD_CLEARED`.
+///
+/// Takes no memory. O(entries).
+#[unsafe(no_mangle)]
+pub extern "C" fn rd_clear(alloc: Global, handle: &mut Handle, now: u64, answer: &mut Answer) -> u64
+    ensures state { IfSome handle.old.pointer.cache (λ c. handle.new.pointer.cache
+        ≡ Some (after answer.new.kind (call.Clear now) c)) }
+    ensures number { IfSome handle.old.pointer.cache (λ c. result
+        ≡ number_after answer.new.kind (call.Clear now) c) }
+    ensures answer { IfSome handle.old.pointer.cache (λ c. answer.new
+        ≡ answer_after answer.new.kind (call.Clear now) c) }
+    ensures refusal { IfSome handle.old.pointer.cache (λ c. IsRefused (call.Clear now) c
+        → 0 < answer.new.kind) }
+    ensures memory { IfSome handle.old.pointer.cache (λ c. IsFree (call.Clear now) c
+        → 0 < answer.new.kind) }
+    ensures closed { IsNone handle.old.pointer.cache
+        → (result ≡ 100) × (handle.new.pointer.cache ≡ None) × (answer.new ≡ answer.old) }
+{
+    make(alloc, handle, Call::Clear(now), answer)
+}
+
+/// Takes every expired entry out, by a notice each: `RD_CLEANED`.
+///
+/// Takes no memory. O(entries).
+#[unsafe(no_mangle)]
+pub extern "C" fn rd_clean(alloc: Global, handle: &mut Handle, now: u64, answer: &mut Answer) -> u64
+    ensures state { IfSome handle.old.pointer.cache (λ c. handle.new.pointer.cache
+        ≡ Some (after answer.new.kind (call.Clean now) c)) }
+    ensures number { IfSome handle.old.pointer.cache (λ c. result
+        ≡ number_after answer.new.kind (call.Clean now) c) }
+    ensures answer { IfSome handle.old.pointer.cache (λ c. answer.new
+        ≡ answer_after answer.new.kind (call.Clean now) c) }
+    ensures refusal { IfSome handle.old.pointer.cache (λ c. IsRefused (call.Clean now) c
+        → 0 < answer.new.kind) }
+    ensures memory { IfSome handle.old.pointer.cache (λ c. IsFree (call.Clean now) c
+        → 0 < answer.new.kind) }
+    ensures closed { IsNone handle.old.pointer.cache
+        → (result ≡ 100) × (handle.new.pointer.cache ≡ None) × (answer.new ≡ answer.old) }
+{
+    make(alloc, handle, Call::Clean(now), answer)
+}

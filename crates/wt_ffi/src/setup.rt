@@ -1,0 +1,139 @@
+// Opening and closing.
+ghost use Rattle.std.specs.Prelude.{◌≡◌, ◌<◌, None, Some, IfOk, IsOk, IfSome, IsNone, IsSome, IsOkUnless, Err, MatchOption};
+ghost use Rattle.wt_keys.specs.declared.fault.Fault.TheVariants as fault;
+ghost use Rattle.wt_core.specs.State.{config_fault, opening};
+ghost use Rattle.wt_regions.specs.Notices.{no_notices};
+ghost use Rattle.wt_ffi.specs.Setups.{config_of, duration, field_number, opened_by, Opens};
+
+use crate::handle::{CLOSED, Handle, OPEN};
+use crate::opened::Opened;
+use std::alloc::Global;
+use wt_core::{Config, Core};
+use wt_keys::{Fault, Field};
+use wt_regions::Notices;
+
+/// What a cache is opened for: `rd_setup` of the header.
+#[repr(C)]
+#[derive(Clone, Copy, PartialEq, Eq)]
+pub struct Setup {
+    /// How many entries it may hold: 1 to 65,536.
+    pub entries: u32,
+    /// How many of them the window may hold: 1 to `entries`.
+    pub window: u32,
+    /// How many loads may be open: 1 to 4,096.
+    pub flights: u32,
+    /// How much the entries may weigh together: 1 to 2^48.
+    pub bound: u64,
+    /// An entry expires so many milliseconds after it was written; 0: never.
+    pub after_write: u64,
+    /// An entry expires so many milliseconds after it was used; 0: never.
+    pub after_access: u64,
+    /// An entry is due for a further load so many milliseconds after it was written; 0: never.
+    pub refresh: u64,
+}
+
+fn duration(milliseconds: u64) -> Option<u64>
+    ensures { result ≡ duration milliseconds }
+{
+    if milliseconds == 0 {
+        None
+    } else {
+        Some(milliseconds)
+    }
+}
+
+fn config_of(setup: &Setup) -> Config
+    ensures { result ≡ config_of setup.now }
+{
+    Config {
+        entries: setup.entries,
+        window: setup.window,
+        bound: setup.bound,
+        after_write: duration(setup.after_write),
+        after_access: duration(setup.after_access),
+        refresh: duration(setup.refresh),
+        flights: setup.flights,
+        // Of a sharded cache alone; this one has no shards.
+        ring: 65536,
+    }
+}
+
+fn opened(alloc: Global, config: &Config) -> Result<Opened, Fault>
+    ensures ok { IfOk result (λ o. o ≡ opened_by config.now) }
+    ensures lawful { IsOk result → config_fault config.now ≡ None }
+    ensures refusal { MatchOption (config_fault config.now)
+        (IsOkUnless result fault.NoMemory) (λ field. result ≡ Err (fault.BadConfig field)) }
+{
+    match Core::new(alloc, config) {
+        Ok(core) => match Notices::new(alloc, config.entries as usize) {
+            Ok(notices) => Ok(Opened { core, notices }),
+            Err(_refused) => Err(Fault::NoMemory),
+        },
+        Err(fault) => Err(fault),
+    }
+}
+
+/// Opens an empty cache, and returns 0.
+///
+/// 101 where the handle is open already, 2 where the setup is out of its ranges, 1 where memory is refused.
+#[unsafe(no_mangle)]
+pub extern "C" fn rd_open(alloc: Global, setup: &Setup, handle: &mut Handle) -> u64
+    ensures state { result ≡ 0 → handle.new.pointer.cache ≡ Some (opened_by (config_of setup.now)) }
+    ensures refusal { IsNone handle.old.pointer.cache → Opens (config_fault (config_of setup.now)) result }
+    ensures already { IsSome handle.old.pointer.cache → result ≡ 101 }
+    ensures err { 0 < result → handle.new.pointer.cache ≡ handle.old.pointer.cache }
+{
+    if handle.is_open {
+        return OPEN;
+    }
+    let config = config_of(setup);
+    match opened(alloc, &config) {
+        Ok(opened) => match Box::new(alloc, opened) {
+            Ok(opened) => {
+                handle.give(opened);
+                0
+            }
+            Err(_refused) => 1,
+        },
+        Err(fault) => fault.number(),
+    }
+}
+
+/// Closes the cache and frees its memory, and returns 0; 100 where it is closed already.
+#[unsafe(no_mangle)]
+pub extern "C" fn rd_close(alloc: Global, handle: &mut Handle) -> u64
+    ensures state { handle.new.pointer.cache ≡ None }
+    ensures ok { IsSome handle.old.pointer.cache → result ≡ 0 }
+    ensures closed { IsNone handle.old.pointer.cache → result ≡ 100 }
+{
+    match handle.take(alloc) {
+        Some(_opened) => 0,
+        None => CLOSED,
+    }
+}
+
+/// Returns the number of the first setting that is out of its range, as the header has them; 0 where none is.
+#[unsafe(no_mangle)]
+pub extern "C" fn rd_check(setup: &Setup) -> u64
+    ensures { MatchOption (config_fault (config_of setup.now)) (result ≡ 0) (λ field. result ≡ field_number field) }
+{
+    match config_of(setup).check() {
+        Err(Fault::BadConfig { field }) => field_number(field),
+        _ => 0,
+    }
+}
+
+fn field_number(field: Field) -> u64
+    ensures { result ≡ field_number field }
+{
+    match field {
+        Field::Entries => 1,
+        Field::Window => 2,
+        Field::Flights => 3,
+        Field::Bound => 4,
+        Field::AfterWrite => 5,
+        Field::AfterAccess => 6,
+        Field::Refresh => 7,
+        _ => 8,
+    }
+}

@@ -1,0 +1,70 @@
+/* The first rows: put 1, look 1, and each fault. */
+#include "rookdresser.h"
+#include <stdio.h>
+#include <stdlib.h>
+#define CHECK(x)                                                                                             \
+    do {                                                                                                     \
+        if (!(x)) {                                                                                          \
+            printf("line %d: %s\n", __LINE__, #x);                                                           \
+            return 1;                                                                                        \
+        }                                                                                                    \
+    } while (0)
+
+int main(void) {
+    rd_setup setup = {
+        .entries = 4, .window = 1, .flights = 2, .bound = 100, .after_write = 100, .refresh = 50};
+    rd_cache cache = RD_CACHE_INIT;
+    rd_answer a;
+    rd_notice n;
+    CHECK(rd_look(&cache, 1, 0, &a) == RD_CLOSED);
+    CHECK(rd_close(&cache) == RD_CLOSED);
+    CHECK(rd_check(&setup) == 0);
+    CHECK(rd_open(&setup, &cache) == 0 && cache.is_open);
+    CHECK(rd_open(&setup, &cache) == RD_OPEN_ALREADY);
+    /* 0 P 1, 0 L 1 */
+    CHECK(rd_put(&cache, 1, (rd_token){7, 2}, 0, &a) == 0 && a.kind == RD_STORED && a.notices == 0);
+    CHECK(rd_look(&cache, 1, 0, &a) == 0 && a.kind == RD_HIT && a.token == 7 && a.weight == 2);
+    CHECK(rd_look(&cache, 2, 0, &a) == 0 && a.kind == RD_ABSENT);
+    /* a load that two share */
+    CHECK(rd_seek(&cache, 3, 1, &a) == 0 && a.kind == RD_LEAD && a.number == 1);
+    CHECK(rd_seek(&cache, 3, 2, &a) == 0 && a.kind == RD_JOIN && a.number == 1);
+    CHECK(rd_land_keep(&cache, 1, 3, (rd_token){9, 3}, 9, &a) == 0 && a.kind == RD_KEPT && a.number == 2);
+    CHECK(rd_land_keep(&cache, 1, 3, (rd_token){9, 3}, 9, &a) == 0 && a.kind == RD_GONE);
+    CHECK(rd_look(&cache, 3, 10, &a) == 0 && a.kind == RD_HIT && a.token == 9);
+    /* too heavy, replaced, refreshed, expired */
+    CHECK(rd_put(&cache, 3, (rd_token){10, 101}, 20, &a) == RD_TOO_HEAVY && a.kind == RD_REFUSED &&
+          a.number == 3);
+    CHECK(rd_put(&cache, 3, (rd_token){10, 4}, 20, &a) == 0 && a.notices == 1);
+    CHECK(rd_get_notice(&cache, 0, &n) == 0 && n.key == 3 && n.token == 9 && n.weight == 3 &&
+          n.cause == RD_REPLACED);
+    CHECK(rd_get_notice(&cache, 1, &n) == RD_NO_SUCH_NOTICE && n.token == 9);
+    CHECK(rd_seek(&cache, 3, 71, &a) == 0 && a.kind == RD_HIT_LEAD && a.token == 10 && a.number == 2);
+    CHECK(rd_land_failed(&cache, 2, 3, 72, &a) == 0 && a.kind == RD_FAILED && a.number == 1);
+    CHECK(rd_seek(&cache, 50, 72, &a) == 0 && a.kind == RD_LEAD);
+    CHECK(rd_seek(&cache, 51, 72, &a) == 0 && a.kind == RD_LEAD);
+    CHECK(rd_seek(&cache, 52, 72, &a) == RD_TOO_MANY_FLIGHTS && a.kind == RD_REFUSED && a.number == 4);
+    CHECK(rd_forget(&cache, 50, 72, &a) == 0 && a.kind == RD_FORGOT && a.number == 1);
+    CHECK(rd_land_loose(&cache, 3, 50, 72, &a) == 0 && a.kind == RD_LOOSE);
+    CHECK(rd_land_loose(&cache, 4, 51, 72, &a) == 0 && a.kind == RD_LOOSE);
+    CHECK(rd_clean(&cache, 200, &a) == 0 && a.kind == RD_CLEANED && a.notices == 2);
+    CHECK(rd_get_notice(&cache, 1, &n) == 0 && n.cause == RD_EXPIRED);
+    CHECK(rd_put(&cache, 1, (rd_token){1, 1}, 200, &a) == 0);
+    CHECK(rd_drop_key(&cache, 1, 200, &a) == 0 && a.kind == RD_DROPPED && a.number == 1 && a.notices == 1);
+    CHECK(rd_clear(&cache, 200, &a) == 0 && a.kind == RD_CLEARED && a.notices == 0);
+    rd_numbers t;
+    CHECK(rd_get_numbers(&cache, &t) == 0);
+    printf("lookups %llu hits %llu misses %llu loads %llu failed %llu evicted %llu entries %llu weight %llu "
+           "step %llu latest %llu flights %llu\n",
+           (unsigned long long)t.lookups, (unsigned long long)t.hits, (unsigned long long)t.misses,
+           (unsigned long long)t.loads, (unsigned long long)t.failed, (unsigned long long)t.evicted,
+           (unsigned long long)t.entries, (unsigned long long)t.weight, (unsigned long long)t.step,
+           (unsigned long long)t.latest, (unsigned long long)t.flights);
+    CHECK(rd_close(&cache) == 0 && !cache.is_open);
+    setup.window = 5;
+    CHECK(rd_check(&setup) == 2 && rd_open(&setup, &cache) == RD_BAD_SETUP && !cache.is_open);
+    setup.window = 1;
+    setup.flights = 0xffffffffu;
+    CHECK(rd_check(&setup) == 3 && rd_open(&setup, &cache) == RD_BAD_SETUP);
+    puts("first rows: ok");
+    return 0;
+}

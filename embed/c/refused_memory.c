@@ -1,0 +1,103 @@
+/* Each allocation fails in turn: link with -Wl,--wrap=malloc,--wrap=realloc. A refused call returns 1, has
+ * kind 0 and changes nothing: the numbers are the same, and the call made again succeeds and answers what the
+ * twin answers. */
+#include "rookdresser.h"
+#include <stdio.h>
+#include <stdlib.h>
+#include <string.h>
+#define CHECK(x)                                                                                             \
+    do {                                                                                                     \
+        if (!(x)) {                                                                                          \
+            printf("op %ld line %d: %s\n", i, __LINE__, #x);                                                 \
+            return 1;                                                                                        \
+        }                                                                                                    \
+    } while (0)
+void *__real_malloc(size_t n);
+void *__real_realloc(void *p, size_t n);
+static long fail_in = -1;
+static long failed;
+void *__wrap_malloc(size_t n) {
+    if (fail_in >= 0 && fail_in-- == 0) {
+        failed++;
+        return 0;
+    }
+    return __real_malloc(n);
+}
+void *__wrap_realloc(void *p, size_t n) {
+    if (fail_in >= 0 && fail_in-- == 0) {
+        failed++;
+        return 0;
+    }
+    return __real_realloc(p, n);
+}
+static uint64_t rng = 1234567;
+static uint64_t next(void) {
+    rng ^= rng << 13;
+    rng ^= rng >> 7;
+    rng ^= rng << 17;
+    return rng;
+}
+static uint64_t op(rd_cache *c, unsigned what, uint64_t k, uint64_t id, rd_token v, uint64_t now,
+                   rd_answer *a) {
+    if (what < 30) return rd_look(c, k, now, a);
+    if (what < 60) return rd_seek(c, k, now, a);
+    if (what < 75) return rd_land_keep(c, id, k, v, now, a);
+    if (what < 95) return rd_put(c, k, v, now, a);
+    if (what < 98) return rd_drop_key(c, k, now, a);
+    return rd_clean(c, now, a);
+}
+int main(void) {
+    rd_setup setup = {
+        .entries = 32, .window = 4, .flights = 8, .bound = 300, .after_write = 2000, .refresh = 500};
+    rd_cache c = RD_CACHE_INIT, twin = RD_CACHE_INIT;
+    long i = -1, refused = 0;
+    for (fail_in = 0;;) {
+        long at = fail_in;
+        uint64_t f = rd_open(&setup, &c);
+        if (f == 0) {
+            fail_in = -1;
+            break;
+        }
+        CHECK(f == 1 && !c.is_open);
+        fail_in = at + 1;
+    }
+    CHECK(rd_open(&setup, &twin) == 0);
+    long opens = failed;
+    uint64_t now = 0, id = 1;
+    for (i = 0; i < 300000; i++) {
+        now += next() % 3;
+        unsigned what = next() % 100;
+        uint64_t k = next() % 60;
+        rd_token v = {i, next() % 30};
+        uint64_t l = id > 8 ? id - next() % 8 : id;
+        rd_answer a, b;
+        rd_numbers s, t;
+        memset(&a, 0, sizeof a);
+        memset(&b, 0, sizeof b);
+        rd_get_numbers(&c, &s);
+        for (long at = 0;; at++) {
+            fail_in = at;
+            uint64_t f = op(&c, what, k, l, v, now, &a);
+            bool hit = fail_in < 0;
+            fail_in = -1;
+            if (a.kind != RD_NO_MEMORY) {
+                (void)hit;
+                uint64_t g = op(&twin, what, k, l, v, now, &b);
+                CHECK(f == g && !memcmp(&a, &b, sizeof a));
+                break;
+            }
+            refused++;
+            CHECK(what < 95); /* the last two take no memory */
+            CHECK(f == 1 && a.number == 1 && a.notices == 0);
+            rd_get_numbers(&c, &t);
+            CHECK(!memcmp(&s, &t, sizeof s));
+        }
+        if (a.kind == RD_LEAD || a.kind == RD_HIT_LEAD) id = a.number;
+        rd_get_numbers(&c, &s);
+        rd_get_numbers(&twin, &t);
+        CHECK(!memcmp(&s, &t, sizeof s));
+    }
+    printf("%ld operations, %ld allocations refused (%ld at opening), %ld calls refused\n", i, failed, opens,
+           refused);
+    return rd_close(&c) || rd_close(&twin);
+}

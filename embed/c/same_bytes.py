@@ -1,0 +1,46 @@
+#!/usr/bin/env python3
+"""same_bytes.py TRACES WT_REPLAY REPLAY: random traces with random options, replayed by the proved program and through the
+header. Both must write the same bytes and end with the same status."""
+import random
+import subprocess
+import sys
+
+
+def trace_of(r, lines):
+    """So many lines, by letters as FORMATS has them, with moments that sometimes go back."""
+    keys, now, text = r.choice([6, 30, 200]), 0, []
+    for _ in range(lines):
+        now += r.choice([0, 0, 1, 3, 20])
+        letter = r.choices("LSGEPDFCX", [10, 20, 15, 15, 15, 4, 3, 2, 0.3])[0]
+        key = "" if letter in "CX" else " %d" % min(r.randrange(keys), r.randrange(keys))
+        text.append("%d %s%s\n" % (max(0, now - r.choice([0, 0, 0, 7])), letter, key))
+    return "".join(text).encode()
+
+
+def options_of(r):
+    entries = r.choice([1, 2, 4, 16, 64, 100])
+    options = ["--entries", entries, "--window", r.randint(1, entries), "--mod", r.choice([1, 5, 40])]
+    options += ["--flights", r.choice([1, 3, 32])]
+    if r.random() < 0.7:
+        options += ["--weight", r.randint(1, 60) * r.choice([1, 5, 20])]
+    for option in ("--write", "--access", "--refresh", "--fail-mod"):
+        if r.random() < 0.5:
+            options += [option, r.choice([3, 20, 60, 300])]
+    return [str(option) for option in options]
+
+
+def main():
+    traces, proved, tried = int(sys.argv[1]), sys.argv[2], sys.argv[3]
+    total = 0
+    for seed in range(traces):
+        r = random.Random(seed)
+        lines = r.choice([50, 300, 2000])
+        trace, options = trace_of(r, lines), options_of(r)
+        one, two = (subprocess.run([program] + options, input=trace, capture_output=True) for program in (proved, tried))
+        if (one.stdout, one.returncode) != (two.stdout, two.returncode):
+            sys.exit("seed %d, %s: they differ" % (seed, " ".join(options)))
+        total += lines
+    print("%d traces, %d lines: the same bytes" % (traces, total))
+
+
+main()

@@ -1,0 +1,3 @@
+module rookdresser
+
+go 1.19
