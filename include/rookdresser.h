@@ -82,7 +82,7 @@ enum rd_kind {
     RD_FAILED = 8,    /* number: how many shared the load */
     RD_GONE = 9,      /* no load of this id and key is open */
     RD_STORED = 10,
-    RD_DROPPED = 11,  /* number: 1 where an entry left, else 0 */
+    RD_DROPPED = 11,  /* number: 1 where an unexpired entry left, else 0 */
     RD_CLEARED = 12,
     RD_FORGOT = 13,   /* number: 1 where there was a load, else 0 */
     RD_CLEANED = 14,
@@ -113,8 +113,8 @@ typedef struct rd_notice {
     uint32_t cause; /* an rd_cause */
 } rd_notice;
 
-/* The numbers of a cache. At all times hits and misses together are the look-ups, none is above 2^61, entries and
- * weight are within the setup's entries and bound, and flights within its flights. */
+/* The numbers of a cache. At all times hits and misses together are the look-ups, entries and weight are within the
+ * setup's entries and bound, flights is within its flights, and no number wraps. */
 typedef struct rd_numbers {
     uint64_t lookups; /* rd_look and rd_seek */
     uint64_t hits;    /* those that found the key */
@@ -166,7 +166,7 @@ uint64_t rd_land_failed(rd_cache *cache, uint64_t id, uint64_t key, uint64_t now
  * notices. RD_TOO_HEAVY. */
 uint64_t rd_put(rd_cache *cache, uint64_t key, rd_token value, uint64_t now, rd_answer *answer);
 
-/* Takes the key's entry out: RD_DROPPED. Its open loads will store nothing. Takes no memory. */
+/* Takes the key's entry out: RD_DROPPED. The key's current load will store nothing. Takes no memory. */
 uint64_t rd_drop_key(rd_cache *cache, uint64_t key, uint64_t now, rd_answer *answer);
 
 /* Lets nobody further join the key's current load, which will store nothing: RD_FORGOT. Takes no memory. */

@@ -1,7 +1,7 @@
 """What the checkers of the pages read of a crate: its calls with their clauses, its ghost members, and the words of its specs/."""
 import re
 
-FN = re.compile(r"^\s*(pub(?:\([a-z]+\))?\s+)?(?:const\s+)?(?:unsafe\s+)?(?:final\s+)?fn\s+(\w+)")
+FN = re.compile(r"^\s*(pub(?:\([a-z]+\))?\s+)?(?:const\s+)?(?:unsafe\s+)?(?:final\s+)?(?:extern\s+\S+\s+)?fn\s+(\w+)")
 IMPL = re.compile(r"^impl\b(.*)$")
 TRAIT = re.compile(r"^pub\s+trait\s+(\w+)")
 CLAUSE = re.compile(r"^\s*(requires|ensures)\*?\s+(?:(\w+)\s+)?\{")

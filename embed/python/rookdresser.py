@@ -95,30 +95,28 @@ class Cache:
         Where an entry is due for a refresh, its first asker loads it and is given the new value; if that load fails, the old
         one. What load raises is raised in each who shared it.
         """
-        while True:
-            with self._lock:
-                now, number, answer = self._clock(), self._number(key), _Answer()
-                try:
-                    left = self._call(self._library.rd_seek, number, now, answer)
-                except Refused:
-                    self._let_go(number)
-                    raise
-                old, mine = (self._values[answer.token][1], False) if answer.kind in (_HIT, _HIT_LEAD) else (None, False)
-                if answer.kind in (_LEAD, _HIT_LEAD):
-                    mine, flight = True, self._loads.setdefault(answer.number, _Load())
-                elif answer.kind == _JOIN:
-                    flight = self._loads[answer.number]
-                if not mine:
-                    self._let_go(number)
-            self._tell(left)
-            if answer.kind == _HIT:
-                return old
-            if mine:
-                return self._lead(key, number, answer.number, flight, load, old, answer.kind == _HIT_LEAD)
-            flight.done.wait()
-            if flight.error is None:
-                return flight.value
-            raise flight.error
+        with self._lock:
+            number, answer = self._number(key), _Answer()
+            try:
+                left = self._call(self._library.rd_seek, number, self._clock(), answer)
+            except Refused:
+                self._let_go(number)
+                raise
+            old = self._values[answer.token][1] if answer.kind in (_HIT, _HIT_LEAD) else None
+            if answer.kind in (_LEAD, _HIT_LEAD):
+                flight = self._loads[answer.number] = _Load()
+            else:
+                flight = self._loads.get(answer.number)
+                self._let_go(number)
+        self._tell(left)
+        if answer.kind == _HIT:
+            return old
+        if answer.kind != _JOIN:
+            return self._lead(key, number, answer.number, flight, load, old, answer.kind == _HIT_LEAD)
+        flight.done.wait()
+        if flight.error is None:
+            return flight.value
+        raise flight.error
 
     def put(self, key, value):
         """Stores the value under the key."""

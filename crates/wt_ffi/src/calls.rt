@@ -10,9 +10,9 @@ use crate::token::Token;
 use std::alloc::Global;
 use wt_core::Call;
 
-/// Looks the key up: `RD_HIT` with the token where it is there, and else `RD_ABSENT`.
+/// Looks the key up at the moment `now`: `RD_HIT` with its token, which is a use, or `RD_ABSENT`.
 ///
-/// A hit counts as a use. An expired entry leaves by a notice. Only a hit takes memory. Expected O(1).
+/// Takes memory only for a hit. Expected O(1).
 #[unsafe(no_mangle)]
 pub extern "C" fn rd_look(
     alloc: Global,
@@ -27,20 +27,20 @@ pub extern "C" fn rd_look(
         ≡ number_after answer.new.kind (call.Look key now) c) }
     ensures answer { IfSome handle.old.pointer.cache (λ c. answer.new
         ≡ answer_after answer.new.kind (call.Look key now) c) }
-    ensures refusal { IfSome handle.old.pointer.cache (λ c. IsRefused (call.Look key now) c
-        → 0 < answer.new.kind) }
-    ensures memory { IfSome handle.old.pointer.cache (λ c. IsFree (call.Look key now) c
-        → 0 < answer.new.kind) }
+    ensures refusal { IfSome handle.old.pointer.cache (λ c.
+        IsRefused (call.Look key now) c → 0 < answer.new.kind) }
+    ensures memory { IfSome handle.old.pointer.cache (λ c.
+        IsFree (call.Look key now) c → 0 < answer.new.kind) }
     ensures closed { IsNone handle.old.pointer.cache
         → (result ≡ 100) × (handle.new.pointer.cache ≡ None) × (answer.new ≡ answer.old) }
 {
     make(alloc, handle, Call::Look(key, now), answer)
 }
 
-/// Looks the key up; where it isn't there, joins its current load, or opens one for the caller to make.
+/// Looks the key up, and where it isn't there joins its current load or opens one.
 ///
-/// `RD_HIT`, `RD_HIT_LEAD` where a refresh is due, which the caller is to make, `RD_JOIN` or `RD_LEAD`, each
-/// with the load's id. Only a call that opens no load is let through at the limit of loads. Expected O(1).
+/// `RD_HIT`, `RD_JOIN` or `RD_LEAD`, or `RD_HIT_LEAD` where the entry is due for a further load, the
+/// last three with the load's id: who leads makes the load and lands it. Expected O(1).
 #[unsafe(no_mangle)]
 pub extern "C" fn rd_seek(
     alloc: Global,
@@ -55,10 +55,10 @@ pub extern "C" fn rd_seek(
         ≡ number_after answer.new.kind (call.Seek key now) c) }
     ensures answer { IfSome handle.old.pointer.cache (λ c. answer.new
         ≡ answer_after answer.new.kind (call.Seek key now) c) }
-    ensures refusal { IfSome handle.old.pointer.cache (λ c. IsRefused (call.Seek key now) c
-        → 0 < answer.new.kind) }
-    ensures memory { IfSome handle.old.pointer.cache (λ c. IsFree (call.Seek key now) c
-        → 0 < answer.new.kind) }
+    ensures refusal { IfSome handle.old.pointer.cache (λ c.
+        IsRefused (call.Seek key now) c → 0 < answer.new.kind) }
+    ensures memory { IfSome handle.old.pointer.cache (λ c.
+        IsFree (call.Seek key now) c → 0 < answer.new.kind) }
     ensures closed { IsNone handle.old.pointer.cache
         → (result ≡ 100) × (handle.new.pointer.cache ≡ None) × (answer.new ≡ answer.old) }
 {
@@ -67,8 +67,8 @@ pub extern "C" fn rd_seek(
 
 /// Stores the value under the key, in place of one that is there: `RD_STORED`.
 ///
-/// What is replaced, has expired or is evicted leaves by notices; the new entry itself may be among them.
-/// A value heavier than the bound is refused before memory is asked for. Expected O(1), O(entries) in a trim.
+/// What leaves is told, the new value itself perhaps. The key's current load stores nothing. A value that is
+/// too heavy is refused before memory is asked for. Expected O(1), O(entries) in a trim.
 #[unsafe(no_mangle)]
 pub extern "C" fn rd_put(
     alloc: Global,
@@ -84,10 +84,10 @@ pub extern "C" fn rd_put(
         ≡ number_after answer.new.kind (call.Put key value now) c) }
     ensures answer { IfSome handle.old.pointer.cache (λ c. answer.new
         ≡ answer_after answer.new.kind (call.Put key value now) c) }
-    ensures refusal { IfSome handle.old.pointer.cache (λ c. IsRefused (call.Put key value now) c
-        → 0 < answer.new.kind) }
-    ensures memory { IfSome handle.old.pointer.cache (λ c. IsFree (call.Put key value now) c
-        → 0 < answer.new.kind) }
+    ensures refusal { IfSome handle.old.pointer.cache (λ c.
+        IsRefused (call.Put key value now) c → 0 < answer.new.kind) }
+    ensures memory { IfSome handle.old.pointer.cache (λ c.
+        IsFree (call.Put key value now) c → 0 < answer.new.kind) }
     ensures closed { IsNone handle.old.pointer.cache
         → (result ≡ 100) × (handle.new.pointer.cache ≡ None) × (answer.new ≡ answer.old) }
 {

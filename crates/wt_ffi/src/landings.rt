@@ -11,10 +11,10 @@ use crate::token::Token;
 use std::alloc::Global;
 use wt_core::{Call, Land};
 
-/// Closes a load with a value, which is stored where the load is still current.
+/// Closes a load with a value, which is stored where the load is current and the value not too heavy.
 ///
-/// `RD_KEPT` where it was stored and `RD_LOOSE` where it wasn't, both with the number of sharers, or `RD_GONE`
-/// where no such load of the key is open. Only a landing that stores takes memory. Expected O(1).
+/// `RD_KEPT` where it was stored, else `RD_LOOSE`, both with the number of sharers; `RD_GONE` where no such
+/// load of the key is open. Takes memory only where it stores. Expected O(1), O(entries) in a trim.
 #[unsafe(no_mangle)]
 pub extern "C" fn rd_land_keep(
     alloc: Global,
@@ -31,10 +31,10 @@ pub extern "C" fn rd_land_keep(
         ≡ number_after answer.new.kind (call.Land id key (land.Keep value) now) c) }
     ensures answer { IfSome handle.old.pointer.cache (λ c. answer.new
         ≡ answer_after answer.new.kind (call.Land id key (land.Keep value) now) c) }
-    ensures refusal { IfSome handle.old.pointer.cache (λ c. IsRefused (call.Land id key (land.Keep value) now) c
-        → 0 < answer.new.kind) }
-    ensures memory { IfSome handle.old.pointer.cache (λ c. IsFree (call.Land id key (land.Keep value) now) c
-        → 0 < answer.new.kind) }
+    ensures refusal { IfSome handle.old.pointer.cache (λ c.
+        IsRefused (call.Land id key (land.Keep value) now) c → 0 < answer.new.kind) }
+    ensures memory { IfSome handle.old.pointer.cache (λ c.
+        IsFree (call.Land id key (land.Keep value) now) c → 0 < answer.new.kind) }
     ensures closed { IsNone handle.old.pointer.cache
         → (result ≡ 100) × (handle.new.pointer.cache ≡ None) × (answer.new ≡ answer.old) }
 {
@@ -64,17 +64,17 @@ pub extern "C" fn rd_land_loose(
         ≡ number_after answer.new.kind (call.Land id key land.Loose now) c) }
     ensures answer { IfSome handle.old.pointer.cache (λ c. answer.new
         ≡ answer_after answer.new.kind (call.Land id key land.Loose now) c) }
-    ensures refusal { IfSome handle.old.pointer.cache (λ c. IsRefused (call.Land id key land.Loose now) c
-        → 0 < answer.new.kind) }
-    ensures memory { IfSome handle.old.pointer.cache (λ c. IsFree (call.Land id key land.Loose now) c
-        → 0 < answer.new.kind) }
+    ensures refusal { IfSome handle.old.pointer.cache (λ c.
+        IsRefused (call.Land id key land.Loose now) c → 0 < answer.new.kind) }
+    ensures memory { IfSome handle.old.pointer.cache (λ c.
+        IsFree (call.Land id key land.Loose now) c → 0 < answer.new.kind) }
     ensures closed { IsNone handle.old.pointer.cache
         → (result ≡ 100) × (handle.new.pointer.cache ≡ None) × (answer.new ≡ answer.old) }
 {
     make(alloc, handle, Call::Land(id, key, Land::Loose, now), answer)
 }
 
-/// Closes a load that failed: `RD_FAILED` with the number of sharers, or `RD_GONE`. An entry of the key stays.
+/// Closes a load that failed: `RD_FAILED` with the number of sharers, or `RD_GONE`.
 ///
 /// Takes no memory. Expected O(1).
 #[unsafe(no_mangle)]
@@ -92,10 +92,10 @@ pub extern "C" fn rd_land_failed(
         ≡ number_after answer.new.kind (call.Land id key land.Failed now) c) }
     ensures answer { IfSome handle.old.pointer.cache (λ c. answer.new
         ≡ answer_after answer.new.kind (call.Land id key land.Failed now) c) }
-    ensures refusal { IfSome handle.old.pointer.cache (λ c. IsRefused (call.Land id key land.Failed now) c
-        → 0 < answer.new.kind) }
-    ensures memory { IfSome handle.old.pointer.cache (λ c. IsFree (call.Land id key land.Failed now) c
-        → 0 < answer.new.kind) }
+    ensures refusal { IfSome handle.old.pointer.cache (λ c.
+        IsRefused (call.Land id key land.Failed now) c → 0 < answer.new.kind) }
+    ensures memory { IfSome handle.old.pointer.cache (λ c.
+        IsFree (call.Land id key land.Failed now) c → 0 < answer.new.kind) }
     ensures closed { IsNone handle.old.pointer.cache
         → (result ≡ 100) × (handle.new.pointer.cache ≡ None) × (answer.new ≡ answer.old) }
 {

@@ -21,10 +21,10 @@ pub(crate) fn make(
         ≡ number_after answer.new.kind call c) }
     ensures answer { IfSome handle.old.pointer.cache (λ c. answer.new
         ≡ answer_after answer.new.kind call c) }
-    ensures refusal { IfSome handle.old.pointer.cache (λ c. IsRefused call c
-        → 0 < answer.new.kind) }
-    ensures memory { IfSome handle.old.pointer.cache (λ c. IsFree call c
-        → 0 < answer.new.kind) }
+    ensures refusal { IfSome handle.old.pointer.cache (λ c.
+        IsRefused call c → 0 < answer.new.kind) }
+    ensures memory { IfSome handle.old.pointer.cache (λ c.
+        IsFree call c → 0 < answer.new.kind) }
     ensures closed { IsNone handle.old.pointer.cache
         → (result ≡ 100) × (handle.new.pointer.cache ≡ None) × (answer.new ≡ answer.old) }
 {

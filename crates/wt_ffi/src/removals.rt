@@ -9,9 +9,9 @@ use crate::make::make;
 use std::alloc::Global;
 use wt_core::Call;
 
-/// Takes the key's entry out, and lets its open loads store nothing: `RD_DROPPED`.
+/// Takes the key's entry out: `RD_DROPPED`, with 1 where an unexpired entry left, else 0.
 ///
-/// Its number is 1 where an entry left as Explicit, and 0 else. Takes no memory. Expected O(1).
+/// The key's current load stores nothing. Takes no memory. Expected O(1).
 #[unsafe(no_mangle)]
 pub extern "C" fn rd_drop_key(
     alloc: Global,
@@ -26,19 +26,19 @@ pub extern "C" fn rd_drop_key(
         ≡ number_after answer.new.kind (call.DropKey key now) c) }
     ensures answer { IfSome handle.old.pointer.cache (λ c. answer.new
         ≡ answer_after answer.new.kind (call.DropKey key now) c) }
-    ensures refusal { IfSome handle.old.pointer.cache (λ c. IsRefused (call.DropKey key now) c
-        → 0 < answer.new.kind) }
-    ensures memory { IfSome handle.old.pointer.cache (λ c. IsFree (call.DropKey key now) c
-        → 0 < answer.new.kind) }
+    ensures refusal { IfSome handle.old.pointer.cache (λ c.
+        IsRefused (call.DropKey key now) c → 0 < answer.new.kind) }
+    ensures memory { IfSome handle.old.pointer.cache (λ c.
+        IsFree (call.DropKey key now) c → 0 < answer.new.kind) }
     ensures closed { IsNone handle.old.pointer.cache
         → (result ≡ 100) × (handle.new.pointer.cache ≡ None) × (answer.new ≡ answer.old) }
 {
     make(alloc, handle, Call::DropKey(key, now), answer)
 }
 
-/// Lets no further caller join the key's current load, and that load store nothing: `RD_FORGOT`.
+/// Lets no further caller join the key's current load: `RD_FORGOT`, with 1 where there was one, else 0.
 ///
-/// Its number is 1 where there was such a load, and 0 else. Takes no memory. Expected O(1).
+/// That load stores nothing. Takes no memory. Expected O(1).
 #[unsafe(no_mangle)]
 pub extern "C" fn rd_forget(
     alloc: Global,
@@ -53,17 +53,17 @@ pub extern "C" fn rd_forget(
         ≡ number_after answer.new.kind (call.Forget key now) c) }
     ensures answer { IfSome handle.old.pointer.cache (λ c. answer.new
         ≡ answer_after answer.new.kind (call.Forget key now) c) }
-    ensures refusal { IfSome handle.old.pointer.cache (λ c. IsRefused (call.Forget key now) c
-        → 0 < answer.new.kind) }
-    ensures memory { IfSome handle.old.pointer.cache (λ c. IsFree (call.Forget key now) c
-        → 0 < answer.new.kind) }
+    ensures refusal { IfSome handle.old.pointer.cache (λ c.
+        IsRefused (call.Forget key now) c → 0 < answer.new.kind) }
+    ensures memory { IfSome handle.old.pointer.cache (λ c.
+        IsFree (call.Forget key now) c → 0 < answer.new.kind) }
     ensures closed { IsNone handle.old.pointer.cache
         → (result ≡ 100) × (handle.new.pointer.cache ≡ None) × (answer.new ≡ answer.old) }
 {
     make(alloc, handle, Call::Forget(key, now), answer)
 }
 
-/// Takes every entry out, by a notice each, and lets the open loads store nothing: `RD_CLEARED`.
+/// Takes every entry out: `RD_CLEARED`. The loads that are open store nothing.
 ///
 /// Takes no memory. O(entries).
 #[unsafe(no_mangle)]
@@ -74,17 +74,17 @@ pub extern "C" fn rd_clear(alloc: Global, handle: &mut Handle, now: u64, answer:
         ≡ number_after answer.new.kind (call.Clear now) c) }
     ensures answer { IfSome handle.old.pointer.cache (λ c. answer.new
         ≡ answer_after answer.new.kind (call.Clear now) c) }
-    ensures refusal { IfSome handle.old.pointer.cache (λ c. IsRefused (call.Clear now) c
-        → 0 < answer.new.kind) }
-    ensures memory { IfSome handle.old.pointer.cache (λ c. IsFree (call.Clear now) c
-        → 0 < answer.new.kind) }
+    ensures refusal { IfSome handle.old.pointer.cache (λ c.
+        IsRefused (call.Clear now) c → 0 < answer.new.kind) }
+    ensures memory { IfSome handle.old.pointer.cache (λ c.
+        IsFree (call.Clear now) c → 0 < answer.new.kind) }
     ensures closed { IsNone handle.old.pointer.cache
         → (result ≡ 100) × (handle.new.pointer.cache ≡ None) × (answer.new ≡ answer.old) }
 {
     make(alloc, handle, Call::Clear(now), answer)
 }
 
-/// Takes every expired entry out, by a notice each: `RD_CLEANED`.
+/// Takes every expired entry out: `RD_CLEANED`.
 ///
 /// Takes no memory. O(entries).
 #[unsafe(no_mangle)]
@@ -95,10 +95,10 @@ pub extern "C" fn rd_clean(alloc: Global, handle: &mut Handle, now: u64, answer:
         ≡ number_after answer.new.kind (call.Clean now) c) }
     ensures answer { IfSome handle.old.pointer.cache (λ c. answer.new
         ≡ answer_after answer.new.kind (call.Clean now) c) }
-    ensures refusal { IfSome handle.old.pointer.cache (λ c. IsRefused (call.Clean now) c
-        → 0 < answer.new.kind) }
-    ensures memory { IfSome handle.old.pointer.cache (λ c. IsFree (call.Clean now) c
-        → 0 < answer.new.kind) }
+    ensures refusal { IfSome handle.old.pointer.cache (λ c.
+        IsRefused (call.Clean now) c → 0 < answer.new.kind) }
+    ensures memory { IfSome handle.old.pointer.cache (λ c.
+        IsFree (call.Clean now) c → 0 < answer.new.kind) }
     ensures closed { IsNone handle.old.pointer.cache
         → (result ≡ 100) × (handle.new.pointer.cache ≡ None) × (answer.new ≡ answer.old) }
 {

@@ -1,5 +1,6 @@
 // Opening and closing.
-ghost use Rattle.std.specs.Prelude.{◌≡◌, ◌<◌, None, Some, IfOk, IsOk, IfSome, IsNone, IsSome, IsOkUnless, Err, MatchOption};
+ghost use Rattle.std.specs.Prelude.{◌≡◌, ◌<◌, None, Some, IfOk, IsOk, IsNone, IsSome, IsOkUnless};
+ghost use Rattle.std.specs.Prelude.{Err, MatchOption};
 ghost use Rattle.wt_keys.specs.declared.fault.Fault.TheVariants as fault;
 ghost use Rattle.wt_core.specs.State.{config_fault, opening};
 ghost use Rattle.wt_regions.specs.Notices.{no_notices};
@@ -75,11 +76,14 @@ fn opened(alloc: Global, config: &Config) -> Result<Opened, Fault>
 
 /// Opens an empty cache, and returns 0.
 ///
-/// 101 where the handle is open already, 2 where the setup is out of its ranges, 1 where memory is refused.
+/// 101 where the handle is open already, 2 where the setup is out of its ranges, 1 where memory is refused, in
+/// this order; the handle is then as it was. Takes memory for all the entries.
 #[unsafe(no_mangle)]
 pub extern "C" fn rd_open(alloc: Global, setup: &Setup, handle: &mut Handle) -> u64
-    ensures state { result ≡ 0 → handle.new.pointer.cache ≡ Some (opened_by (config_of setup.now)) }
-    ensures refusal { IsNone handle.old.pointer.cache → Opens (config_fault (config_of setup.now)) result }
+    ensures state { result ≡ 0
+        → handle.new.pointer.cache ≡ Some (opened_by (config_of setup.now)) }
+    ensures refusal { IsNone handle.old.pointer.cache
+        → Opens (config_fault (config_of setup.now)) result }
     ensures already { IsSome handle.old.pointer.cache → result ≡ 101 }
     ensures err { 0 < result → handle.new.pointer.cache ≡ handle.old.pointer.cache }
 {
@@ -99,7 +103,9 @@ pub extern "C" fn rd_open(alloc: Global, setup: &Setup, handle: &mut Handle) -> 
     }
 }
 
-/// Closes the cache and frees its memory, and returns 0; 100 where it is closed already.
+/// Closes the cache and returns 0; 100 where it is closed already. No notice tells of what it held.
+///
+/// That its memory is freed is in no clause.
 #[unsafe(no_mangle)]
 pub extern "C" fn rd_close(alloc: Global, handle: &mut Handle) -> u64
     ensures state { handle.new.pointer.cache ≡ None }
@@ -112,10 +118,12 @@ pub extern "C" fn rd_close(alloc: Global, handle: &mut Handle) -> u64
     }
 }
 
-/// Returns the number of the first setting that is out of its range, as the header has them; 0 where none is.
+/// Returns the number of the first setting that is out of its range: 1 entries, 2 window, 3 flights, 4 bound,
+/// 5 after_write, 6 after_access, 7 refresh; 0 where none is. Takes no memory.
 #[unsafe(no_mangle)]
 pub extern "C" fn rd_check(setup: &Setup) -> u64
-    ensures { MatchOption (config_fault (config_of setup.now)) (result ≡ 0) (λ field. result ≡ field_number field) }
+    ensures { MatchOption (config_fault (config_of setup.now))
+        (result ≡ 0) (λ field. result ≡ field_number field) }
 {
     match config_of(setup).check() {
         Err(Fault::BadConfig { field }) => field_number(field),

@@ -1,6 +1,6 @@
 // What C may read of a cache.
 ghost use Rattle.std.specs.Prelude.{◌≡◌, None, Some, IfSome, IsNone};
-ghost use Rattle.wt_ffi.specs.Shows.{numbers_of, left_of, left_at, Reads};
+ghost use Rattle.wt_ffi.specs.Shows.{numbers_of, left_of, left_at, IsLawfulOpen, Reads};
 
 use crate::handle::{CLOSED, Handle, NONE};
 use crate::opened::Opened;
@@ -70,7 +70,8 @@ fn left_of(notice: &Notice<u64, Token>) -> Left
 impl Opened {
     // All numbers at once.
     fn numbers(&self) -> Numbers
-        ensures { result ≡ numbers_of self.now.core }
+        ensures answer { result ≡ numbers_of self.now.core }
+        ensures lawful { IsLawfulOpen self.now }
     {
         let stats = self.core.stats();
         Numbers {
@@ -97,10 +98,16 @@ impl Opened {
     }
 }
 
-/// Tells the numbers of the cache.
+/// Tells the numbers of the cache, and returns 0; 100 where it is closed.
+///
+/// At all times hits and misses together are the look-ups, the entries and their weight are within the setup's
+/// limits, and no number wraps. Takes no memory. O(1).
 #[unsafe(no_mangle)]
 pub extern "C" fn rd_get_numbers(alloc: Global, handle: &mut Handle, numbers: &mut Numbers) -> u64
-    ensures answer { IfSome handle.old.pointer.cache (λ c. (result ≡ 0) × (numbers.new ≡ numbers_of c.core)) }
+    ensures answer { IfSome handle.old.pointer.cache (λ c.
+        (result ≡ 0) × (numbers.new ≡ numbers_of c.core)) }
+    // What holds of a cache at all times.
+    ensures lawful { IfSome handle.old.pointer.cache IsLawfulOpen }
     ensures closed { IsNone handle.old.pointer.cache → (result ≡ 100) × (numbers.new ≡ numbers.old) }
     ensures same { handle.new.pointer.cache ≡ handle.old.pointer.cache }
 {
@@ -112,10 +119,13 @@ pub extern "C" fn rd_get_numbers(alloc: Global, handle: &mut Handle, numbers: &m
     0
 }
 
-/// Tells one of the notices of the latest call, by its place from 0; 102 where there is none.
+/// Tells a notice of the latest of the ten calls, by its place from 0, and returns 0.
+///
+/// 100 where the cache is closed, 102 where there is no such notice. Takes no memory. O(1).
 #[unsafe(no_mangle)]
 pub extern "C" fn rd_get_notice(alloc: Global, handle: &mut Handle, i: u64, left: &mut Left) -> u64
-    ensures answer { IfSome handle.old.pointer.cache (λ c. Reads (left_at i c.notices.list) result left.old left.new) }
+    ensures answer { IfSome handle.old.pointer.cache (λ c.
+        Reads (left_at i c.notices.list) result left.old left.new) }
     ensures closed { IsNone handle.old.pointer.cache → (result ≡ 100) × (left.new ≡ left.old) }
     ensures same { handle.new.pointer.cache ≡ handle.old.pointer.cache }
 {

@@ -1,140 +1,217 @@
-//! A cache of tokens: safe calls over `rookdresser.h`.
-use crate::sys::{self, Answer, Handle, Notice, Numbers, Setup, Token};
+//! A cache of keys and values of any type: they lie in a table of this side's, by their tokens.
+use crate::{Fault, Found, Landed, Notice, Numbers, Setup, Token, Tokens};
+use std::collections::HashMap;
+use std::hash::Hash;
 
-/// Why a call was refused: the number that it returned.
+/// Why an entry left.
 #[derive(Clone, Copy, Debug, PartialEq, Eq)]
-pub struct Fault(pub u64);
-
-pub const NO_MEMORY: Fault = Fault(1);
-pub const TOO_HEAVY: Fault = Fault(3);
-pub const TOO_MANY_FLIGHTS: Fault = Fault(4);
-
-/// What a look-up met.
-#[derive(Clone, Copy, Debug, PartialEq, Eq)]
-pub enum Found {
-    Hit(Token),
-    Absent,
-    HitLead(Token, u64),
-    Join(u64),
-    Lead(u64),
+pub enum Cause {
+    /// It was dropped or cleared.
+    Explicit,
+    /// Another value was stored under its key.
+    Replaced,
+    Expired,
+    /// It was evicted.
+    Size,
 }
 
-/// How a load landed, with the number of its sharers.
-#[derive(Clone, Copy, Debug, PartialEq, Eq)]
-pub enum Landed {
-    Kept(u64),
-    Loose(u64),
-    Failed(u64),
-    Gone,
+/// An entry that left: the removal listener as data.
+#[derive(Debug, PartialEq, Eq)]
+pub struct Left<K, V> {
+    pub key: K,
+    pub value: V,
+    pub cause: Cause,
 }
 
-/// One cache, and the notices of its latest call.
-pub struct Cache {
-    handle: Handle,
-    told: u64,
+/// A cache for one owner. Each call that changes it answers what left, too.
+pub struct Cache<K, V> {
+    tokens: Tokens,
+    kept: Slots<(K, V)>,
+    // A key's number, and how many entries and loads use it.
+    numbers: HashMap<K, (u64, u32)>,
+    keys: HashMap<u64, K>,
+    last: u64,
 }
 
-// SAFETY: `Box<Opened>`, to which the handle leads, is proved `Send` (`cache_is_sendable` of wt_ffi), and each call
-// takes `&mut self`, so that one call at a time is made, and moving the value orders them.
-unsafe impl Send for Cache {}
+// Values by their places, which are the tokens.
+struct Slots<T> {
+    slots: Vec<Option<T>>,
+    free: Vec<u64>,
+}
 
-impl Cache {
-    pub fn open(setup: &Setup) -> Result<Cache, Fault> {
-        let mut handle = Handle { at: std::ptr::null_mut(), is_open: false };
-        // SAFETY: both lead to whole values that are borrowed for the call, and the handle is closed: all bytes are zero.
-        match unsafe { sys::rd_open(setup, &mut handle) } {
-            0 => Ok(Cache { handle, told: 0 }),
-            fault => Err(Fault(fault)),
+impl<T> Slots<T> {
+    fn keep(&mut self, value: T) -> u64 {
+        if let Some(place) = self.free.pop() {
+            self.slots[place as usize] = Some(value);
+            return place;
         }
+        self.slots.push(Some(value));
+        self.slots.len() as u64 - 1
     }
 
-    // SAFETY of each call below: the handle was made by `rd_open`, is ours alone, and is lent for the call beside an
-    // answer of this function's own.
-    fn made(&mut self, call: impl FnOnce(&mut Handle, &mut Answer) -> u64) -> Result<Answer, Fault> {
-        let mut answer = Answer::default();
-        let fault = call(&mut self.handle, &mut answer);
-        self.told = answer.notices;
-        if fault == 0 { Ok(answer) } else { Err(Fault(fault)) }
+    fn take(&mut self, place: u64) -> T {
+        self.free.push(place);
+        self.slots[place as usize].take().expect("a token that is held has its value")
     }
 
-    pub fn look(&mut self, key: u64, now: u64) -> Result<Found, Fault> {
-        self.made(|h, a| unsafe { sys::rd_look(h, key, now, a) }).map(found)
+    fn get(&self, place: u64) -> &T {
+        self.slots[place as usize].as_ref().expect("a token that is held has its value")
     }
+}
 
-    pub fn seek(&mut self, key: u64, now: u64) -> Result<Found, Fault> {
-        self.made(|h, a| unsafe { sys::rd_seek(h, key, now, a) }).map(found)
-    }
-
-    pub fn put(&mut self, key: u64, value: Token, now: u64) -> Result<(), Fault> {
-        self.made(|h, a| unsafe { sys::rd_put(h, key, value, now, a) }).map(drop)
-    }
-
-    pub fn land_keep(&mut self, id: u64, key: u64, value: Token, now: u64) -> Result<Landed, Fault> {
-        self.made(|h, a| unsafe { sys::rd_land_keep(h, id, key, value, now, a) }).map(landed)
-    }
-
-    pub fn land_loose(&mut self, id: u64, key: u64, now: u64) -> Result<Landed, Fault> {
-        self.made(|h, a| unsafe { sys::rd_land_loose(h, id, key, now, a) }).map(landed)
-    }
-
-    pub fn land_failed(&mut self, id: u64, key: u64, now: u64) -> Result<Landed, Fault> {
-        self.made(|h, a| unsafe { sys::rd_land_failed(h, id, key, now, a) }).map(landed)
-    }
-
-    pub fn drop_key(&mut self, key: u64, now: u64) -> Result<bool, Fault> {
-        self.made(|h, a| unsafe { sys::rd_drop_key(h, key, now, a) }).map(|a| a.number != 0)
-    }
-
-    pub fn forget(&mut self, key: u64, now: u64) -> Result<bool, Fault> {
-        self.made(|h, a| unsafe { sys::rd_forget(h, key, now, a) }).map(|a| a.number != 0)
-    }
-
-    pub fn clear(&mut self, now: u64) -> Result<(), Fault> {
-        self.made(|h, a| unsafe { sys::rd_clear(h, now, a) }).map(drop)
-    }
-
-    pub fn clean(&mut self, now: u64) -> Result<(), Fault> {
-        self.made(|h, a| unsafe { sys::rd_clean(h, now, a) }).map(drop)
-    }
-
-    /// The notices of the latest call.
-    pub fn notices(&mut self) -> impl Iterator<Item = Notice> + '_ {
-        (0..self.told).map(|i| {
-            let mut notice = Notice::default();
-            unsafe { sys::rd_get_notice(&mut self.handle, i, &mut notice) };
-            notice
+impl<K: Hash + Eq + Clone, V> Cache<K, V> {
+    pub fn open(setup: &Setup) -> Result<Self, Fault> {
+        Ok(Cache {
+            tokens: Tokens::open(setup)?,
+            kept: Slots { slots: Vec::new(), free: Vec::new() },
+            numbers: HashMap::new(),
+            keys: HashMap::new(),
+            last: 0,
         })
     }
 
+    /// The key's value, if it is there, with what left.
+    pub fn look(&mut self, key: &K, now: u64) -> Result<(Option<&V>, Vec<Left<K, V>>), Fault> {
+        let number = self.hold(key);
+        let found = self.tokens.look(number, now);
+        let left = self.left();
+        self.let_go(number);
+        match found? {
+            Found::Hit(token) => Ok((Some(self.value(token)), left)),
+            _ => Ok((None, left)),
+        }
+    }
+
+    /// Joins or opens a load where the key isn't there or due. Who leads calls one of the three landings.
+    pub fn seek(&mut self, key: &K, now: u64) -> Result<(Found, Vec<Left<K, V>>), Fault> {
+        let number = self.hold(key);
+        let found = self.tokens.seek(number, now);
+        let left = self.left();
+        if !matches!(found, Ok(Found::Lead(_) | Found::HitLead(..))) {
+            self.let_go(number);
+        }
+        Ok((found?, left))
+    }
+
+    /// The value of a token that the cache holds.
+    pub fn value(&self, token: Token) -> &V {
+        &self.kept.get(token.token).1
+    }
+
+    pub fn put(&mut self, key: &K, value: V, weight: u32, now: u64) -> Result<Vec<Left<K, V>>, Fault> {
+        let number = self.hold(key);
+        let token = self.kept.keep((key.clone(), value));
+        let put = self.tokens.put(number, Token { token, weight }, now);
+        if put.is_err() {
+            self.kept.take(token);
+            self.let_go(number);
+        }
+        put?;
+        Ok(self.left())
+    }
+
+    /// Closes a load that this caller leads with a value. Where memory is refused it is closed without storing.
+    pub fn land(&mut self, id: u64, key: &K, value: V, weight: u32, now: u64) -> (Landed, Vec<Left<K, V>>) {
+        let number = self.hold(key);
+        let token = self.kept.keep((key.clone(), value));
+        let landed = self.tokens.land_keep(id, number, Token { token, weight }, now);
+        let left = self.left();
+        if !matches!(landed, Ok(Landed::Kept(_))) {
+            self.kept.take(token);
+            self.let_go(number);
+        }
+        let landed = landed.unwrap_or_else(|_| self.tokens.land_loose(id, number, now).unwrap_or(Landed::Gone));
+        self.landed(number, landed);
+        (landed, left)
+    }
+
+    /// Closes a load that this caller leads and that failed.
+    pub fn fail(&mut self, id: u64, key: &K, now: u64) -> Landed {
+        let number = self.hold(key);
+        let landed = self.tokens.land_failed(id, number, now).unwrap_or(Landed::Gone);
+        self.let_go(number);
+        self.landed(number, landed);
+        landed
+    }
+
+    /// Takes the key's entry out.
+    pub fn drop_key(&mut self, key: &K, now: u64) -> Result<Vec<Left<K, V>>, Fault> {
+        let number = self.hold(key);
+        let dropped = self.tokens.drop_key(number, now);
+        let left = self.left();
+        self.let_go(number);
+        dropped?;
+        Ok(left)
+    }
+
+    /// Takes every entry out.
+    pub fn clear(&mut self, now: u64) -> Result<Vec<Left<K, V>>, Fault> {
+        self.tokens.clear(now)?;
+        Ok(self.left())
+    }
+
+    /// Takes every expired entry out.
+    pub fn clean(&mut self, now: u64) -> Result<Vec<Left<K, V>>, Fault> {
+        self.tokens.clean(now)?;
+        Ok(self.left())
+    }
+
     pub fn numbers(&mut self) -> Numbers {
-        let mut numbers = Numbers::default();
-        unsafe { sys::rd_get_numbers(&mut self.handle, &mut numbers) };
-        numbers
+        self.tokens.numbers()
+    }
+
+    /// How many values and how many keys this side keeps.
+    pub fn kept(&self) -> (usize, usize) {
+        (self.kept.slots.iter().flatten().count(), self.keys.len())
+    }
+
+    // The key's number, which stays its own while an entry, a load or a call uses it.
+    fn hold(&mut self, key: &K) -> u64 {
+        if let Some((number, uses)) = self.numbers.get_mut(key) {
+            *uses += 1;
+            return *number;
+        }
+        self.last += 1;
+        self.numbers.insert(key.clone(), (self.last, 1));
+        self.keys.insert(self.last, key.clone());
+        self.last
+    }
+
+    fn let_go(&mut self, number: u64) {
+        let uses = &mut self.numbers.get_mut(&self.keys[&number]).expect("a number that is held has its key").1;
+        *uses -= 1;
+        if *uses == 0 {
+            let key = self.keys.remove(&number).expect("a number that is held has its key");
+            self.numbers.remove(&key);
+        }
+    }
+
+    // A load that was open held its key's number.
+    fn landed(&mut self, number: u64, landed: Landed) {
+        if landed != Landed::Gone {
+            self.let_go(number);
+        }
+    }
+
+    // What the latest call told to have left.
+    fn left(&mut self) -> Vec<Left<K, V>> {
+        let notices: Vec<Notice> = self.tokens.notices().collect();
+        notices
+            .into_iter()
+            .map(|notice| {
+                let (key, value) = self.kept.take(notice.token);
+                self.let_go(notice.key);
+                Left { key, value, cause: cause(notice.cause) }
+            })
+            .collect()
     }
 }
 
-impl Drop for Cache {
-    fn drop(&mut self) {
-        unsafe { sys::rd_close(&mut self.handle) };
-    }
-}
-
-fn found(a: Answer) -> Found {
-    let token = Token { token: a.token, weight: a.weight };
-    match a.kind {
-        1 => Found::Hit(token),
-        3 => Found::HitLead(token, a.number),
-        4 => Found::Join(a.number),
-        5 => Found::Lead(a.number),
-        _ => Found::Absent,
-    }
-}
-
-fn landed(a: Answer) -> Landed {
-    match a.kind {
-        6 => Landed::Kept(a.number),
-        7 => Landed::Loose(a.number),
-        8 => Landed::Failed(a.number),
-        _ => Landed::Gone,
+fn cause(number: u32) -> Cause {
+    match number {
+        1 => Cause::Explicit,
+        2 => Cause::Replaced,
+        3 => Cause::Expired,
+        _ => Cause::Size,
     }
 }

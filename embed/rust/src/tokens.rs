@@ -1,0 +1,171 @@
+//! A cache of tokens: safe calls over `rookdresser.h`.
+use crate::sys::{self, Answer, Handle, Notice, Numbers, Setup, Token};
+
+/// Why a call was refused. Nothing has changed then.
+#[derive(Clone, Copy, Debug, PartialEq, Eq)]
+pub enum Fault {
+    OutOfMemory,
+    BadSetup,
+    TooHeavy,
+    TooManyFlights,
+    StepsSpent,
+}
+
+impl std::fmt::Display for Fault {
+    fn fmt(&self, f: &mut std::fmt::Formatter<'_>) -> std::fmt::Result {
+        f.write_str(match self {
+            Fault::OutOfMemory => "out of memory",
+            Fault::BadSetup => "a setting is out of its range",
+            Fault::TooHeavy => "the value is heavier than the bound",
+            Fault::TooManyFlights => "too many loads are open",
+            Fault::StepsSpent => "2^60 steps were made",
+        })
+    }
+}
+
+impl std::error::Error for Fault {}
+
+// An open cache answers 0 to 5 alone.
+fn fault(number: u64) -> Fault {
+    match number {
+        1 => Fault::OutOfMemory,
+        2 => Fault::BadSetup,
+        3 => Fault::TooHeavy,
+        4 => Fault::TooManyFlights,
+        _ => Fault::StepsSpent,
+    }
+}
+
+/// What a look-up met.
+#[derive(Clone, Copy, Debug, PartialEq, Eq)]
+pub enum Found {
+    Hit(Token),
+    Absent,
+    HitLead(Token, u64),
+    Join(u64),
+    Lead(u64),
+}
+
+/// How a load landed, with the number of its sharers.
+#[derive(Clone, Copy, Debug, PartialEq, Eq)]
+pub enum Landed {
+    Kept(u64),
+    Loose(u64),
+    Failed(u64),
+    Gone,
+}
+
+/// One cache, and the notices of its latest call.
+pub struct Tokens {
+    handle: Handle,
+    told: u64,
+}
+
+// SAFETY: `Box<Opened>`, to which the handle leads, is proved `Send` (`cache_is_sendable` of wt_ffi), and each call
+// takes `&mut self`, so that one call at a time is made, and moving the value orders them.
+unsafe impl Send for Tokens {}
+
+impl Tokens {
+    pub fn open(setup: &Setup) -> Result<Tokens, Fault> {
+        let mut handle = Handle { at: std::ptr::null_mut(), is_open: false };
+        // SAFETY: both lead to whole values that are borrowed for the call, and the handle is closed: all bytes are zero.
+        match unsafe { sys::rd_open(setup, &mut handle) } {
+            0 => Ok(Tokens { handle, told: 0 }),
+            number => Err(fault(number)),
+        }
+    }
+
+    // SAFETY of each call below: the handle was made by `rd_open`, is ours alone, and is lent for the call beside an
+    // answer of this function's own.
+    fn made(&mut self, call: impl FnOnce(&mut Handle, &mut Answer) -> u64) -> Result<Answer, Fault> {
+        let mut answer = Answer::default();
+        let number = call(&mut self.handle, &mut answer);
+        self.told = answer.notices;
+        if number == 0 {
+            Ok(answer)
+        } else {
+            Err(fault(number))
+        }
+    }
+
+    pub fn look(&mut self, key: u64, now: u64) -> Result<Found, Fault> {
+        self.made(|h, a| unsafe { sys::rd_look(h, key, now, a) }).map(found)
+    }
+
+    pub fn seek(&mut self, key: u64, now: u64) -> Result<Found, Fault> {
+        self.made(|h, a| unsafe { sys::rd_seek(h, key, now, a) }).map(found)
+    }
+
+    pub fn put(&mut self, key: u64, value: Token, now: u64) -> Result<(), Fault> {
+        self.made(|h, a| unsafe { sys::rd_put(h, key, value, now, a) }).map(drop)
+    }
+
+    pub fn land_keep(&mut self, id: u64, key: u64, value: Token, now: u64) -> Result<Landed, Fault> {
+        self.made(|h, a| unsafe { sys::rd_land_keep(h, id, key, value, now, a) }).map(landed)
+    }
+
+    pub fn land_loose(&mut self, id: u64, key: u64, now: u64) -> Result<Landed, Fault> {
+        self.made(|h, a| unsafe { sys::rd_land_loose(h, id, key, now, a) }).map(landed)
+    }
+
+    pub fn land_failed(&mut self, id: u64, key: u64, now: u64) -> Result<Landed, Fault> {
+        self.made(|h, a| unsafe { sys::rd_land_failed(h, id, key, now, a) }).map(landed)
+    }
+
+    pub fn drop_key(&mut self, key: u64, now: u64) -> Result<bool, Fault> {
+        self.made(|h, a| unsafe { sys::rd_drop_key(h, key, now, a) }).map(|a| a.number != 0)
+    }
+
+    pub fn forget(&mut self, key: u64, now: u64) -> Result<bool, Fault> {
+        self.made(|h, a| unsafe { sys::rd_forget(h, key, now, a) }).map(|a| a.number != 0)
+    }
+
+    pub fn clear(&mut self, now: u64) -> Result<(), Fault> {
+        self.made(|h, a| unsafe { sys::rd_clear(h, now, a) }).map(drop)
+    }
+
+    pub fn clean(&mut self, now: u64) -> Result<(), Fault> {
+        self.made(|h, a| unsafe { sys::rd_clean(h, now, a) }).map(drop)
+    }
+
+    /// The notices of the latest call.
+    pub fn notices(&mut self) -> impl Iterator<Item = Notice> + '_ {
+        (0..self.told).map(|i| {
+            let mut notice = Notice::default();
+            unsafe { sys::rd_get_notice(&mut self.handle, i, &mut notice) };
+            notice
+        })
+    }
+
+    pub fn numbers(&mut self) -> Numbers {
+        let mut numbers = Numbers::default();
+        unsafe { sys::rd_get_numbers(&mut self.handle, &mut numbers) };
+        numbers
+    }
+}
+
+impl Drop for Tokens {
+    fn drop(&mut self) {
+        unsafe { sys::rd_close(&mut self.handle) };
+    }
+}
+
+fn found(a: Answer) -> Found {
+    let token = Token { token: a.token, weight: a.weight };
+    match a.kind {
+        1 => Found::Hit(token),
+        3 => Found::HitLead(token, a.number),
+        4 => Found::Join(a.number),
+        5 => Found::Lead(a.number),
+        _ => Found::Absent,
+    }
+}
+
+fn landed(a: Answer) -> Landed {
+    match a.kind {
+        6 => Landed::Kept(a.number),
+        7 => Landed::Loose(a.number),
+        8 => Landed::Failed(a.number),
+        _ => Landed::Gone,
+    }
+}
