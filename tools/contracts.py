@@ -1,7 +1,7 @@
 """What the checkers of the pages read of a crate: its calls with their clauses, its ghost members, and the words of its specs/."""
 import re
 
-FN = re.compile(r"^\s*(pub(?:\([a-z]+\))?\s+)?(?:const\s+)?(?:unsafe\s+)?(?:final\s+)?(?:extern\s+\S+\s+)?fn\s+(\w+)")
+FN = re.compile(r"^\s*(pub(?:\([a-z]+\))?\s+)?(?:const\s+)?(?:unsafe\s+)?(?:final\s+)?(extern\s+\"C\"\s+)?fn\s+(\w+)")
 IMPL = re.compile(r"^impl\b(.*)$")
 TRAIT = re.compile(r"^pub\s+trait\s+(\w+)")
 CLAUSE = re.compile(r"^\s*(requires|ensures)\*?\s+(?:(\w+)\s+)?\{")
@@ -45,6 +45,7 @@ class Crate:
     def __init__(self, folder):
         self.name, self.folder = folder.name, folder
         self.clauses, self.public, self.tests, self.ghosts = {}, set(), set(), {}
+        self.for_c = set()
         self.words, self.links = set(), {}
         for path in sorted((folder / "src").rglob("*.rt")):
             self.read_source(path)
@@ -74,12 +75,14 @@ class Crate:
                 self.links.setdefault(new, set()).add(old)
             m = FN.match(line)
             if m:
-                name = (owner + "::" if owner else "") + m.group(2)
+                name = (owner + "::" if owner else "") + m.group(3)
                 current = self.clauses.setdefault(name, {})
                 if test:
-                    self.tests.add(m.group(2))
+                    self.tests.add(m.group(3))
                 elif in_trait or (m.group(1) or "").strip() == "pub":
                     self.public.add(name)
+                if m.group(2):
+                    self.for_c.add(name)
                 test = False
             m = CLAUSE.match(line)
             if m and current is not None:
@@ -118,7 +121,7 @@ class Crate:
                 self.links.setdefault(current, set()).update(TOKEN.findall(line))
 
     def exported(self):
-        """Of the public calls those whose type or name the crate's root shows."""
+        """Of the public calls those whose type or name the crate's root shows, and those that C calls."""
         root = self.folder / "src" / "lib.rt"
         if not root.exists():
             return self.public
@@ -126,7 +129,7 @@ class Crate:
         for m in re.finditer(r"pub use ([\w:]+)(?:::\{([^}]*)\})?;", root.read_text()):
             listed = m.group(2).split(",") if m.group(2) else [m.group(1).split("::")[-1]]
             names |= {x.strip() for x in listed}
-        return {c for c in self.public if c.split("::")[0] in names}
+        return {c for c in self.public if c.split("::")[0] in names} | self.for_c
 
 
 def stands_on(path):

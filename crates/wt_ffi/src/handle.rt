@@ -2,9 +2,9 @@
 ghost use Rattle.std.specs.Prelude.{◌≡◌, Some, None, IsNone, is_some};
 ghost use Rattle.std.specs.Option.{option_map};
 
-use crate::raw_box::RawBox;
 use crate::opened::Opened;
 use crate::pointer::Pointer;
+use crate::raw_box::RawBox;
 use std::alloc::Global;
 use std::{mem, ptr};
 

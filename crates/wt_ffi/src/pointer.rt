@@ -3,8 +3,8 @@ ghost use Rattle.std.specs.Prelude.{◌≡◌, Option, Some, None, IsSome};
 ghost use Rattle.wt_ffi.specs.Open.{Open};
 ghost use Rattle.wt_ffi.specs.Pointer.{pointer_owns};
 
-use crate::raw_box::RawBox;
 use crate::opened::Opened;
+use crate::raw_box::RawBox;
 use std::alloc::Global;
 use std::marker::Model;
 

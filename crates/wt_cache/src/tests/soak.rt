@@ -18,6 +18,7 @@ use wt_shards::{Blanks, Names, Of, Pass, Shards, Sought};
 
 // How many threads call, and how many calls each makes.
 const CALLERS: usize = 8;
+
 const CALLS: u64 = 500;
 
 // Whether a version of this line may have been put for the key.
@@ -100,9 +101,12 @@ fn call_all<N: Names + Send + Sync, R: Threads + Wait + Sync>(
     alloc: Global,
     cache: &Cache<N>,
 ) -> Result<Vec<Ran<N>>, Fault> {
-    let ran = thread::map_indices(rt, alloc, CALLERS, &|number: usize| -> Ran<N> {
-        caller(rt, alloc, cache, number)
-    });
+    let ran = thread::map_indices(
+        rt,
+        alloc,
+        CALLERS,
+        &|number: usize| -> Ran<N> { caller(rt, alloc, cache, number) },
+    );
     if let Some(line) = cache.line() {
         line.close(rt);
     }
@@ -127,17 +131,17 @@ fn work_all<N: Names + Send + Sync, R: Threads + Wait + Sync>(
     alloc: Global,
     cache: &Cache<N>,
 ) -> Result<Vec<Ran<N>>, Fault> {
-    let ran = thread::map_indices(rt, alloc, 2, &|_number: usize| -> Ran<N> {
-        worker(rt, alloc, cache)
-    })?;
+    let ran = thread::map_indices(
+        rt,
+        alloc,
+        2,
+        &|_number: usize| -> Ran<N> { worker(rt, alloc, cache) },
+    )?;
     Ok(ran)
 }
 
 // Adds what threads handed back to the passes: how many values were strange.
-fn gather<N: Names>(
-    ran: Vec<Ran<N>>,
-    passes: &mut Vec<Pass<Of<N>>>,
-) -> Result<u64, Fault> {
+fn gather<N: Names>(ran: Vec<Ran<N>>, passes: &mut Vec<Pass<Of<N>>>) -> Result<u64, Fault> {
     let mut found = 0u64;
     for one in ran {
         let (pass, strange) = one?;
