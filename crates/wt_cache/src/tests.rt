@@ -1,10 +1,3 @@
-// Tests of what no clause says: that calls succeed, how many loads are made, and what threads meet.
+// Tests of what no clause says: that calls of the line succeed, and in which order.
 
-mod callers;
-mod late;
 mod lines;
-mod shares;
-mod soak;
-mod stage;
-mod threads;
-mod workers;
