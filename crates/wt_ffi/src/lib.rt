@@ -15,7 +15,7 @@ mod shows;
 mod token;
 
 pub use answer::Answer;
-pub use handle::{Handle, cache_is_sendable};
+pub use handle::Handle;
 pub use setup::Setup;
 pub use shows::{Left, Numbers};
 pub use token::Token;
