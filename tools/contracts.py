@@ -51,7 +51,7 @@ class Crate:
             self.read_source(path)
         for path in sorted((folder / "specs").rglob("*.antt")):
             self.read_words(path)
-        self.edits = {p.name for p in (folder / "must-fail").glob("*.edit")} if (folder / "must-fail").is_dir() else set()
+        self.edits = {path.name for path in (folder / "must-fail").rglob("*.edit")}
 
     def read_source(self, path):
         """Adds what one source file has."""
