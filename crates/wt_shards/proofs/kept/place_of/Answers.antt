@@ -1,4 +1,4 @@
-use Rattle.std.proofs.Common.{arith, rules, ltb, ℕ, ◌<◌, ◌≤◌, length, get_or, sym, subst}
+use Rattle.std.proofs.Common.{arith, rules, ltb, ◌<◌, ◌≤◌, length, get_or, sym, subst}
 use Rattle.std.proofs.lemmas.Bool.{ltb-true, ltb-false}
 use Rattle.std.proofs.lemmas.List.Sorted.{IsPartitionPoint-from_clause, IsPartitionedBy-ltb}
 use Rattle.wt_flights.specs.Outcomes.{Leading}
