@@ -10,8 +10,6 @@ mod place;
 mod regions;
 mod settle;
 mod sweep;
-#[cfg(test)]
-mod tests;
 mod touch;
 mod trim;
 mod weighs;

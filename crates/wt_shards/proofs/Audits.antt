@@ -1,5 +1,5 @@
 -- What keeps the audit.
-use Rattle.std.proofs.Common.{◌≡◌, ℕ, zero, suc, ◌+◌, ◌-◌, ◌<◌, ◌≤◌, Bool, true, false, cond, List, [], ◌∷◌, ◌++◌, map, length, take, drop, Option, Some, None, refl, sym, ap, ◌∙◌, arith, subst, length-append}
+use Rattle.std.proofs.Common.{◌≡◌, ℕ, ◌+◌, ◌-◌, ◌<◌, ◌≤◌, Bool, true, false, cond, List, [], ◌∷◌, ◌++◌, map, length, take, drop, Option, Some, None, refl, sym, ap, ◌∙◌, arith, subst, length-append}
 use Rattle.std.proofs.lemmas.List.{length-map, take-append-drop, length-take-le, length-drop}
 use Rattle.circular_buffer.specs.Buffer.{keep_last}
 use Rattle.wt_flights.specs.Outcomes.{Leading}
@@ -7,7 +7,7 @@ use Rattle.wt_core.specs.declared.kinds.Call.{Call}
 use Rattle.wt_core.specs.declared.kinds.Call.TheVariants.{Look, Seek, Land, Put, DropKey, Clear, Forget, Clean}
 use Rattle.wt_core.specs.declared.kinds.Land.TheVariants as land
 use Rattle.wt_core.specs.declared.kinds.Config.{Config}
-use Rattle.wt_core.specs.State.{State, Made, opening, caps_of}
+use Rattle.wt_core.specs.State.{State, Made, opening}
 use Rattle.wt_core.specs.Step.{refusal_of, step}
 use Rattle.wt_core.specs.Run.{run, taken}
 use Rattle.wt_shards.specs.declared.shade.Shade.{Shade}

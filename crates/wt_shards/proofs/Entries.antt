@@ -1,12 +1,12 @@
 -- What holds of each key with its value is kept by every step.
-use Rattle.std.proofs.Common.{◌≡◌, ℕ, zero, suc, ◌-◌, Bool, true, false, cond, List, [], ◌∷◌, ◌++◌, length, take, Option, Some, None, nat_le, nat_lt, slice_get, refl, sym, subst, ◌∙◌}
+use Rattle.std.proofs.Common.{◌≡◌, ℕ, zero, suc, ◌-◌, Bool, true, false, cond, List, [], ◌∷◌, ◌++◌, length, Option, Some, None, nat_le, nat_lt, slice_get, refl, sym, subst}
 use Rattle.std.specs.Prelude.{IfSome}
 use Rattle.std.specs.List.{All}
 use Rattle.std.specs.Option.{option_map_or}
 use Rattle.std.specs.Map.{lookup, lookup_entry, remove_entry}
 use Rattle.std.proofs.lemmas.List.Elements.{All-nil, All-cons, All-head, All-tail, All-append, All-take}
 use Rattle.wt_regions.specs.declared.kinds.Caps.{Caps}
-use Rattle.wt_regions.specs.declared.kinds.Cause.TheVariants.{Expired, Explicit, Replaced, Size}
+use Rattle.wt_regions.specs.declared.kinds.Cause.TheVariants.{Expired, Replaced, Size}
 use Rattle.wt_regions.specs.declared.kinds.Fate.{Fate}
 use Rattle.wt_regions.specs.declared.kinds.Fate.TheVariants.{Leaves, Enters, Ousts}
 use Rattle.wt_regions.specs.declared.kinds.Found.{Found}
@@ -15,18 +15,18 @@ use Rattle.wt_regions.specs.declared.kinds.Held.{Held}
 use Rattle.wt_regions.specs.declared.kinds.Notice.{Notice}
 use Rattle.wt_regions.specs.Lists.{Entry, Lists, Told, all_entries, cut, front, held_for, found_at, is_expired, notice, protected_cap, used, weight_of}
 use Rattle.wt_regions.specs.Touch.{promoted, touched}
-use Rattle.wt_regions.specs.Settle.{by_fate, fate, holds_other, last_told, overflowed, settled, trimmed, trimmed_once, trimmed_within}
-use Rattle.wt_regions.specs.Steps.{cleaned, cleared, live_of, placed, removed, stored, without_stale}
+use Rattle.wt_regions.specs.Settle.{by_fate, fate, holds_other, last_told, overflowed, settled, trimmed_once, trimmed_within}
+use Rattle.wt_regions.specs.Steps.{live_of, placed, stored, without_stale}
 use Rattle.wt_flights.specs.declared.row.Row.{Row}
-use Rattle.wt_flights.specs.Rows.{current_of, landed, row_of}
+use Rattle.wt_flights.specs.Rows.{landed, row_of}
 use Rattle.wt_core.specs.declared.kinds.Call.{Call}
 use Rattle.wt_core.specs.declared.kinds.Call.TheVariants.{Look, Seek, Land, Put, DropKey, Clear, Forget, Clean}
 use Rattle.wt_core.specs.declared.kinds.Land.{Land as Landing}
 use Rattle.wt_core.specs.declared.kinds.Land.TheVariants as land
 use Rattle.wt_core.specs.declared.kinds.Reply.{Reply}
-use Rattle.wt_core.specs.declared.kinds.Reply.TheVariants.{Hit, Absent, HitLead, Join, Lead, Kept, Loose, Gone}
-use Rattle.wt_core.specs.State.{State, Made, estimate_in, found as found_in, made, new_entry, stepped, with_flights, with_load, with_failure}
-use Rattle.wt_core.specs.Seek.{met, refreshes, seek_reply}
+use Rattle.wt_core.specs.declared.kinds.Reply.TheVariants.{Hit, HitLead, Join, Kept, Loose, Gone}
+use Rattle.wt_core.specs.State.{State, estimate_in, found as found_in, made, new_entry, stepped, with_flights, with_load}
+use Rattle.wt_core.specs.Seek.{seek_reply}
 use Rattle.wt_core.specs.Step.{aired, is_kept, landing, looked, sought, step, storing}
 
 abbrev last_of : {K V : Type 0} → List (Entry K V) → Option (Entry K V)

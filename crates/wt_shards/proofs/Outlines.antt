@@ -1,15 +1,14 @@
 -- The outline of a step is the step of the outlines.
-use Rattle.std.proofs.Common.{◌≡◌, ℕ, ◌+◌, ◌^◌, Bool, true, false, cond, List, [], ◌∷◌, ◌++◌, map, Option, Some, None, nat_lt, nat_le, refl, sym, ap, ◌∙◌}
+use Rattle.std.proofs.Common.{◌≡◌, ℕ, ◌+◌, Bool, List, [], map, Option, Some, None, refl, ap, ◌∙◌}
 use Rattle.std.specs.Prelude.{if◌then◌else◌, is_some, is_none, not, ◌&&◌}
-use Rattle.std.specs.Option.{option_map, option_map_or, option_or}
+use Rattle.std.specs.Option.{option_map_or, option_or}
 use Rattle.std.proofs.lemmas.List.Folds.{fold-map}
-use Rattle.wt_keys.specs.declared.fault.Fault.{Fault}
 use Rattle.wt_regions.specs.declared.kinds.Found.{Found}
 use Rattle.wt_regions.specs.declared.kinds.Found.TheVariants as found
 use Rattle.wt_regions.specs.declared.kinds.Notice.{Notice}
 use Rattle.wt_regions.specs.Lists.{Told, used}
 use Rattle.wt_regions.specs.Touch.{touched}
-use Rattle.wt_regions.specs.Steps.{without_stale, removed, stored, cleaned, cleared}
+use Rattle.wt_regions.specs.Steps.{removed, cleaned, cleared}
 use Rattle.wt_shards.specs.Outline.{found_by, notice_by, lists_by, told_by}
 use Rattle.wt_shards.proofs.Values.{cond-ap, touched-by, found_at-by, has_at-by, due_at-by, without_stale-by, removed-by, stored-by, cleaned-by, cleared-by}
 use Rattle.wt_flights.specs.declared.row.Row.{Row}
@@ -19,12 +18,11 @@ use Rattle.wt_core.specs.declared.kinds.Call.TheVariants.{Look, Seek, Land, Put,
 use Rattle.wt_core.specs.declared.kinds.Land.{Land as Landing}
 use Rattle.wt_core.specs.declared.kinds.Land.TheVariants as land
 use Rattle.wt_core.specs.declared.kinds.Reply.{Reply}
-use Rattle.wt_core.specs.declared.kinds.Reply.TheVariants.{Hit, Absent, HitLead, Join, Lead, Kept, Loose, Failed, Gone, Stored, Dropped, Cleared, Forgot, Cleaned, Refused}
-use Rattle.wt_core.specs.State.{State, Made, made, evictions, found as found_in, has, stepped, estimate_in, new_entry, with_count, with_hit, with_miss, with_load, with_failure, with_flights}
+use Rattle.wt_core.specs.declared.kinds.Reply.TheVariants.{Hit, Absent, HitLead, Join, Lead, Kept, Loose, Failed, Gone, Stored, Dropped, Cleared, Forgot, Cleaned}
+use Rattle.wt_core.specs.State.{State, made, evictions, found as found_in, has, stepped, estimate_in, new_entry, with_count, with_hit, with_miss, with_load, with_failure, with_flights}
 use Rattle.wt_core.specs.Seek.{refreshes, met, seek_reply}
-use Rattle.wt_core.specs.Step.{aired, hit, missed, opened, forgot, looked, look_step, sought, seek_step, drop_step, forget_step, clear_step, clean_step, storing, is_kept, landing, land_step, put_step, step, spent, full_for, refusal_of}
-use Rattle.wt_shards.specs.declared.shade.Shade.{Shade}
-use Rattle.wt_shards.specs.Outline.{shade, shade_weight, outline_value, outline_landing, outline_reply, outline_call, outline, outline_made, OutlinesStep}
+use Rattle.wt_core.specs.Step.{aired, hit, missed, opened, forgot, looked, look_step, sought, seek_step, drop_step, forget_step, clear_step, clean_step, storing, is_kept, landing, land_step, step, spent, full_for, refusal_of}
+use Rattle.wt_shards.specs.Outline.{shade_weight, outline_value, outline_landing, outline_reply, outline_call, outline, outline_made, OutlinesStep}
 
 abbrev told : {K V : Type 0} → Rattle.wt_regions.specs.Lists.Lists K V → List (Notice K V) → Told K V
 told r ns = (r, ns)

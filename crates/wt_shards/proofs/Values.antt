@@ -1,7 +1,7 @@
 -- What the regions do doesn't depend on the values.
-use Rattle.std.proofs.Common.{◌≡◌, ℕ, zero, suc, ◌+◌, ◌-◌, Bool, true, false, cond, not, ◌&&◌, ◌||◌, List, [], ◌∷◌, ◌++◌, length, take, map, reverse, filter, Option, Some, None, nat_lt, nat_le, nat_eq, slice_get, refl, sym, ap, ◌∙◌}
-use Rattle.std.specs.Prelude.{sum_by, if◌then◌else◌}
-use Rattle.std.specs.List.{list_any, take-map, fold}
+use Rattle.std.proofs.Common.{◌≡◌, ℕ, zero, suc, ◌+◌, ◌-◌, Bool, true, false, cond, not, ◌&&◌, ◌||◌, List, [], ◌∷◌, ◌++◌, length, map, Option, Some, None, nat_lt, nat_le, nat_eq, slice_get, refl, sym, ap, ◌∙◌}
+use Rattle.std.specs.Prelude.{if◌then◌else◌}
+use Rattle.std.specs.List.{take-map}
 use Rattle.std.specs.Option.{option_map, option_map_or}
 use Rattle.std.specs.Map.{lookup, lookup_entry, remove_entry}
 use Rattle.std.proofs.lemmas.Option.{slice_get-map}

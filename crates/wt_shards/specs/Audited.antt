@@ -1,5 +1,6 @@
 -- The audited shard: a cache, its lagging copy, and the recorded steps between the two.
 use Rattle.std.specs.Prelude.{◌≡◌, ℕ, ◌+◌, ◌-◌, ◌≤◌, ◌<◌, ◌==◌, Bool, not, ◌&&◌, List, [], ◌∷◌, ◌++◌, map, filter, length, take, drop, All, IsTrue}
+use Rattle.std.specs.List.{AllPairs}
 use Rattle.wt_keys.specs.Hash.{shard_of}
 use Rattle.wt_regions.specs.Lists.{Entry, all_entries}
 use Rattle.wt_flights.specs.declared.row.Row.{Row}
@@ -56,6 +57,10 @@ module _ {K : Type 0} where
   -- the load of a landing
   abbrev pub load_at : Leading K → ℕ × K
   load_at l = (l.id, l.key)
+
+  -- their ids rise
+  abbrev pub AreRising : List (Leading K) → Type 0
+  AreRising ls = AllPairs (λ (l m : Leading K). l.id < m.id) ls
 
   -- the landings that stay open
   abbrev pub still_open : {V : Type 0} → (K → K → Bool) → Call K V

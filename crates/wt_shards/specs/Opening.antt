@@ -1,5 +1,5 @@
 -- What shards are made of.
-use Rattle.std.specs.Prelude.{◌≡◌, ℕ, ◌==◌, Bool, ◌||◌, if◌then◌else◌, Option, Some, [], ◌∷◌, slice_index_or}
+use Rattle.std.specs.Prelude.{ℕ, ◌==◌, ◌||◌, if◌then◌else◌, Option, Some, [], ◌∷◌, slice_index_or}
 use Rattle.std.specs.declared.sync.ledger.Blank.{Blank}
 use Rattle.wt_keys.specs.declared.fault.Field.{Field}
 use Rattle.wt_keys.specs.declared.fault.Field.TheVariants.{Shards}

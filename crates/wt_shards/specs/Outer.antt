@@ -1,5 +1,5 @@
 -- What a step of the shards shows.
-use Rattle.std.specs.Prelude.{◌≡◌, ℕ, zero, suc, ◌+◌, Bool, None}
+use Rattle.std.specs.Prelude.{◌≡◌, ℕ, ◌+◌, Bool, None}
 use Rattle.wt_regions.specs.Notices.{NoticeList, appended}
 use Rattle.wt_core.specs.declared.kinds.Call.{Call}
 use Rattle.wt_core.specs.declared.kinds.Reply.{Reply}

@@ -1,5 +1,5 @@
 -- The outline of a cache: each value replaced by its shade, which is its weight.
-use Rattle.std.specs.Prelude.{◌≡◌, ℕ, Bool, List, map}
+use Rattle.std.specs.Prelude.{◌≡◌, ℕ, Bool, map}
 use Rattle.wt_regions.specs.declared.kinds.Found.{Found}
 use Rattle.wt_regions.specs.declared.kinds.Found.TheVariants as found
 use Rattle.wt_regions.specs.declared.kinds.Held.{Held}

@@ -1,6 +1,5 @@
 -- What the shards end with.
 use Rattle.std.specs.Prelude.{◌≡◌, ◌≢◌, ◌⊎◌, ℕ, zero, suc, ◌+◌, ◌≤◌, Bool, List, [], ◌∷◌, Option, None, sum_by, IfSome, slice_index_or}
-use Rattle.wt_core.specs.declared.kinds.Stats.{Stats}
 use Rattle.wt_core.specs.State.{State, stats_of}
 use Rattle.wt_core.specs.Lawful.{AreSmall}
 use Rattle.wt_shards.specs.declared.total.Total.{Total}

@@ -1,10 +1,11 @@
 // The landing of an open load, as a shard keeps it.
-ghost use Rattle.std.specs.Prelude.{◌≡◌, ◌+◌, ◌≤◌, ◌++◌, ◌==◌, Some, None, option_copied, IfOk, IfSome, length, vec_capacity, filter, not, ◌&&◌};
+ghost use Rattle.std.specs.Prelude.{◌≡◌, ℕ, ◌+◌, ◌<◌, ◌≤◌, ◌++◌, get_or, ◌==◌, Some, None, option_copied, IfOk, IfSome, length, vec_capacity, filter, not, ◌&&◌};
 ghost use Rattle.std.specs.List.{find};
 ghost use Rattle.std.specs.Option.{option_to_list};
 ghost use Rattle.std.specs.Arc.{arc_value};
 ghost use Rattle.wt_flights.specs.Outcomes.{ticket_of};
-ghost use Rattle.wt_shards.specs.Audited.{still_open};
+ghost use Rattle.wt_flights.specs.Outcomes.{Leading};
+ghost use Rattle.wt_shards.specs.Audited.{AreRising, still_open};
 
 use crate::shade::Shade;
 use std::alloc::Global;
@@ -74,20 +75,31 @@ impl<K: CacheKey, V: Drop> Kept<K, V> {
     }
 }
 
+// The place of the landing with an id, or where it would be: their ids rise. O(log(landings)).
+fn place_of<K: Copy, V: Drop>(landings: &Vec<Kept<K, V>>, id: u64) -> usize
+    requires rising { AreRising landings.now.items }
+    ensures below { (i : ℕ) (d : Leading K) → i < result
+        → (get_or landings.now.items i d).id < id }
+    ensures above { (i : ℕ) (d : Leading K) → result ≤ i → i < length landings.now.items
+        → id ≤ (get_or landings.now.items i d).id }
+{
+    landings.as_slice().partition_point(|kept| kept.id < id)
+}
+
 // The landing of the load with an id.
 pub(crate) fn find_kept<K: Copy, V: Drop>(
     landings: &Vec<Kept<K, V>>,
     id: u64,
 ) -> Option<&Kept<K, V>>
+    requires rising { AreRising landings.now.items }
     ensures { option_copied result ≡ find (λ l. l.id == id) landings.now.items }
 {
-    for i in 0..landings.len() {
-        let kept = &landings[i];
-        if kept.is_of(id) {
-            return Some(kept);
-        }
+    let place = place_of(landings, id);
+    if place >= landings.len() {
+        return None;
     }
-    None
+    let kept = &landings[place];
+    if kept.is_of(id) { Some(kept) } else { None }
 }
 
 // Takes the landing out that the call closes, and adds the one that it opens.
@@ -96,7 +108,8 @@ pub(crate) fn change<K: CacheKey, V: Drop>(
     call: &Call<K, Shade>,
     opened: Option<Kept<K, V>>,
 )
-    requires { length (still_open K.eq call.now landings.old.items ++ option_to_list opened)
+    requires rising { AreRising landings.old.items }
+    requires room { length (still_open K.eq call.now landings.old.items ++ option_to_list opened)
         ≤ vec_capacity landings.old }
     ensures items { landings.new.items
         ≡ still_open K.eq call.now landings.old.items ++ option_to_list opened }
@@ -110,11 +123,15 @@ pub(crate) fn change<K: CacheKey, V: Drop>(
 
 // Takes the landing out that the call closes.
 fn close<K: CacheKey, V: Drop>(landings: &mut Vec<Kept<K, V>>, call: &Call<K, Shade>)
+    requires rising { AreRising landings.old.items }
     ensures items { landings.new.items ≡ still_open K.eq call.now landings.old.items }
     ensures capacity { vec_capacity landings.new ≡ vec_capacity landings.old }
 {
     if let Call::Land(id, key, _, _) = call {
         let (id, key) = (*id, *key);
-        landings.retain(|kept| kept.is_other(id, key));
+        let place = place_of(landings, id);
+        if place < landings.len() && !landings[place].is_other(id, key) {
+            landings.remove(place);
+        }
     }
 }

@@ -74,8 +74,8 @@ impl<K: CacheKey, V: Share + Weighs + Answers<K>, S: ShardLedger, H: Ledger> Sha
     /// Answers `Hit`, a `Join` with a ticket, or a `Lead` with the right to load and a ticket; or
     /// `HitLead`, where the entry is due. Leads and tickets are of the landing that the shard keeps
     /// for the load; the lead's moment is `now`, in milliseconds. `StepsSpent` comes before
-    /// `TooManyFlights`, and both before memory is asked for. Expected O(open loads), and what the
-    /// dropped records cost.
+    /// `TooManyFlights`, and both before memory is asked for. Expected O(1), O(log(open loads)) on a
+    /// join, and what the dropped records cost.
     pub fn seek(
         &mut self,
         mine: &mut Shares<S, H>,

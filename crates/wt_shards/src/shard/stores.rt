@@ -72,7 +72,8 @@ impl<K: CacheKey, V: Share + Weighs + Answers<K>, S: ShardLedger, H: Ledger> Sha
     ///
     /// `now` is in milliseconds. An open load has its place in the ring, and drops no record.
     /// `StepsSpent` comes only where the answer would be `Gone`. Only a value that is stored takes
-    /// memory. Expected O(open loads), O(entries) where many leave.
+    /// memory. Expected O(log(open loads)) and a move of the landings behind it, O(entries) where
+    /// many leave.
     pub fn land(
         &mut self,
         mine: &mut Shares<S, H>,

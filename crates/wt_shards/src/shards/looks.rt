@@ -68,7 +68,7 @@ impl<K: CacheKey, V: Share + Weighs + Answers<K> + Send + Sync, B: Books> Shards
     /// Answers `Hit`, a `Join` with a ticket, or a `Lead` with the right to load and a ticket; or
     /// `HitLead`, where the entry is due. `now` is in milliseconds. `StepsSpent` comes before
     /// `TooManyFlights`, and both before memory is asked for. Takes that shard's lock, for one
-    /// step. Expected O(1), O(open loads) on a join. Not promised: that it returns.
+    /// step. Expected O(1), O(log(open loads)) on a join. Not promised: that it returns.
     pub fn seek<R: Wait>(
         &self,
         rt: &R,

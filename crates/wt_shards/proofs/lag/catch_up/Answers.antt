@@ -1,6 +1,6 @@
-use Rattle.std.proofs.Common.{◌≡◌, ◌+◌, take, drop, length, Some, slice_get, refl, sym, ap, ◌∙◌, add-one, arith}
+use Rattle.std.proofs.Common.{◌≡◌, drop, length, Some, slice_get, sym, ap, ◌∙◌, add-one, arith}
 use Rattle.circular_buffer.specs.Buffer.{Buffer, buffer}
-use Rattle.wt_core.specs.Run.{run, taken}
+use Rattle.wt_core.specs.Run.{taken}
 use Rattle.wt_core.specs.declared.kinds.Call.{Call}
 use Rattle.wt_core.specs.State.{State}
 use Rattle.wt_regions.specs.Notices.{NoticeList}

@@ -1,4 +1,4 @@
-use Rattle.std.proofs.Common.{rules, arith, ◌≡◌, ◌+◌, ◌-◌, ◌≤◌, ◌++◌, ◌∷◌, [], map, length, None, refl, sym, ap, ◌∙◌, subst}
+use Rattle.std.proofs.Common.{arith, ◌≡◌, ◌+◌, ◌≤◌, ◌++◌, ◌∷◌, [], map, length, None, refl, sym, ap, ◌∙◌, subst}
 use Rattle.std.specs.Prelude.{if◌then◌else◌, is_ok}
 use Rattle.std.specs.Option.{option_to_list}
 use Rattle.circular_buffer.specs.Buffer.{Buffer, keep_last}
@@ -10,6 +10,7 @@ use Rattle.wt_shards.specs.declared.shade.Shade.{Shade}
 use Rattle.wt_shards.specs.Asked.{AnswersAsked}
 use Rattle.wt_shards.specs.Audited.{Audited, IsAudited, load_at, load_of, moved, need, places, recorded, still_open}
 use Rattle.wt_shards.specs.Counts.{is_hit}
+use Rattle.wt_shards.proofs.Finds.{rising-landings}
 use Rattle.wt_shards.proofs.Loads.{empty-landing, landing-place, limit-step}
 use Rattle.wt_regions.specs.declared.kinds.Caps.{Caps}
 use Rattle.wt_core.specs.declared.kinds.Config.{Config}
@@ -36,8 +37,14 @@ make_room-requires-clause-rows g c κs within =
     let fit = rows-fit eq same word weight answers shards index s1 call (c.steps_keep_counts.ensures s1.core call) c.self.invariant.0 allowed1 in
     omega (arith, fit, c.open_after-rows.ensures, ap (λ (x : Audited K V). x.config.flights) c.self.view_is)
 
-pub change-requires-after_bounds : goal.change-requires-after_bounds
-change-requires-after_bounds g c κs within =
+pub change-requires-clause-rising : goal.change-requires-clause-rising
+change-requires-clause-rising g c κs within =
+    let b = c.self-2.inside in
+    let whole = c.self-2.invariant.0 in
+    rising-landings b.landings.items b.core.flights.rows whole.landed whole.state.lawful.flights.rising
+
+pub change-requires-clause-room : goal.change-requires-clause-room
+change-requires-clause-room g c κs within =
     let K = g.row.K.Denot in
     let V = g.row.V.Denot in
     let eq = g.K.PartialEq.eq in

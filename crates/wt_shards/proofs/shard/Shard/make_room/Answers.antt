@@ -1,4 +1,4 @@
-use Rattle.std.proofs.Common.{rules, arith, ◌≡◌, ◌+◌, ◌≤◌, length, refl, sym, ap, ◌∙◌}
+use Rattle.std.proofs.Common.{arith, ◌≤◌, length, refl, ap, ◌∙◌}
 use Rattle.circular_buffer.specs.Buffer.{Buffer}
 use Rattle.wt_core.specs.declared.kinds.Call.{Call}
 use Rattle.wt_shards.specs.declared.shade.Shade.{Shade}

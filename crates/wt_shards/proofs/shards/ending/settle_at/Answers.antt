@@ -1,5 +1,4 @@
-use Rattle.std.proofs.Common.{rules, ◌≡◌}
-use Rattle.wt_shards.specs.Totals.{IsMissing}
+use Rattle.std.proofs.Common.{rules}
 use Rattle.wt_shards.proofs.shards.ending.settle_at.Goals as goal
 
 pub returns-in-Err-clause-missing : goal.returns-in-Err-clause-missing

@@ -1,5 +1,4 @@
-use Rattle.std.proofs.Common.{rules, ◌≡◌, ◌+◌}
-use Rattle.wt_shards.specs.Outer.{IsSomeStep}
+use Rattle.std.proofs.Common.{rules}
 use Rattle.wt_shards.proofs.shards.locked.seek_at.Goals as goal
 
 pub returns-clause-step : goal.returns-clause-step

@@ -1,12 +1,12 @@
 // Refused memory and refused shares: what is refused changes nothing, and goes well when it is tried again.
 use super::{Run, caps};
-use crate::{Caps, Cause, Found, Region, Weighs};
 use std::alloc::Global;
 use std::cell::Cell;
 use std::marker::Model;
 use std::rc::Rc;
 use std::test::Fail;
 use wt_keys::{Fault, NoMemory, Share};
+use wt_regions::{Caps, Cause, Found, Region, Weighs};
 
 // A value that counts down with each share of it and of its like: the share that comes to 0 is refused.
 #[derive(Drop)]

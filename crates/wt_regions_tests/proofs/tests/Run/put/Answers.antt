@@ -1,6 +1,6 @@
 use Rattle.std.proofs.Common.{◌≤◌, ◌+◌, length, arith}
 use Rattle.wt_regions.proofs.Room.{whole-appended}
-use Rattle.wt_regions.proofs.tests.Run.put.Goals as goal
+use Rattle.wt_regions_tests.proofs.tests.Run.put.Goals as goal
 
 pub invariant_of-self-2 : goal.invariant_of-self-2
 invariant_of-self-2 g c =

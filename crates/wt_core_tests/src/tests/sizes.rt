@@ -1,7 +1,7 @@
 // The greatest sizes: as many entries as may be held, as many loads as may be open.
 use super::{Do, Loaded, Run, Said, config, light, told};
-use crate::Config;
 use std::test::Fail;
+use wt_core::Config;
 use wt_keys::Fault;
 
 #[test]

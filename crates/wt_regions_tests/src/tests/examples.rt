@@ -1,9 +1,9 @@
 // Worked examples, with values worked out by hand.
 use super::{Loaded, Run, caps};
-use crate::{Caps, Cause, Found, Region, Regions, Weighs};
 use std::process::Abort;
 use std::test::Fail;
 use wt_keys::{Fault, Field, Shared};
+use wt_regions::{Caps, Cause, Found, Region, Regions, Weighs};
 
 impl Run<Loaded> {
     // Puts a value of weight 1, whose version is the number of the put.

@@ -3,10 +3,10 @@ mod beside_lists;
 mod examples;
 mod refusals;
 
-use crate::{Caps, Cause, Found, Notices, Regions, Weighs};
 use std::alloc::Global;
 use std::marker::Model;
 use wt_keys::{Fault, NoMemory, Share};
+use wt_regions::{Caps, Cause, Found, Notices, Regions, Weighs};
 use wt_sketch::Sketch;
 
 // A value that tells its versions apart, with a weight.

@@ -1,12 +1,12 @@
 // The regions beside a program of plain lists: the rules again, written from their text with no thought of
 // speed, and run on the same calls.
 use super::{Loaded, Run, caps};
-use crate::{Caps, Cause, Found, Region};
 use std::alloc::{AllocError, Global};
 use std::collections::VecDeque;
 use std::process::Abort;
 use std::test::Fail;
 use wt_keys::{Fault, places};
+use wt_regions::{Caps, Cause, Found, Region};
 
 #[derive(Clone, Copy)]
 struct Row {
