@@ -4,6 +4,7 @@
 
 mod page;
 mod session;
+mod writer;
 
 use session::session;
 use std::alloc::Global;

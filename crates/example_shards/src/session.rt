@@ -3,31 +3,14 @@ ghost use Rattle.std.specs.Prelude.{◌≡◌};
 ghost use Rattle.wt_shards.specs.Opening.{AreBlanksOf};
 
 use crate::page::Page;
+use crate::writer::put_ten;
 use std::alloc::Global;
 use std::sync::Wait;
 use std::thread;
 use std::thread::Threads;
-use wt_core::{Config, Notices};
+use wt_core::Config;
 use wt_keys::Fault;
-use wt_shards::{Blanks, Books, Names, Of, Pass, Shards};
-
-// Puts ten pages, and hands the pass back.
-fn put_ten<B: Books, R: Wait>(
-    rt: &R,
-    alloc: Global,
-    shards: &Shards<u64, Page, B>,
-    mut pass: Pass<B>,
-    from: u64,
-) -> Result<Pass<B>, Fault> {
-    let mut notices = Notices::new(alloc, shards.entries() as usize)?;
-    for version in 0..10u64 {
-        let number = from.wrapping_add(version);
-        notices.empty();
-        let page = Page { number, version };
-        shards.put(rt, &mut pass, number, page, 0, &mut notices)?;
-    }
-    Ok(pass)
-}
+use wt_shards::{Blanks, Names, Of, Shards};
 
 /// Lets two threads put ten pages each, and answers how many steps the settled books hold; where not
 /// all passes are handed back, the fault that tells of it.
