@@ -1,6 +1,6 @@
-// Threads that ask for pages.
+// Readers, and how threads ask at once.
 use crate::page::Page;
-use crate::source::{Marks, Source, wait_for};
+use crate::source::{Marks, Source};
 use std::alloc::Global;
 use std::sync::Wait;
 use std::sync::atomic::Ordering;
@@ -34,10 +34,15 @@ pub fn ask_eight<N: Names + Send + Sync, R: Threads + Wait + Sync>(
     cache: &Pages<N>,
     marks: &Marks,
 ) -> Result<u64, Fault> {
-    let asked = thread::map_indices(rt, alloc, 8, &|_reader: usize| -> Result<u64, Fault> {
-        marks.asking.fetch_add(1, Ordering::SeqCst);
-        ask(rt, alloc, cache, 7)
-    })?;
+    let asked = thread::map_indices(
+        rt,
+        alloc,
+        8,
+        &|_reader: usize| -> Result<u64, Fault> {
+            marks.asking.fetch_add(1, Ordering::SeqCst);
+            ask(rt, alloc, cache, 7)
+        },
+    )?;
     let mut answers = 0u64;
     for words in asked {
         if words? == 300 {
@@ -45,22 +50,4 @@ pub fn ask_eight<N: Names + Send + Sync, R: Threads + Wait + Sync>(
         }
     }
     Ok(answers)
-}
-
-/// Puts page 8, of 800 words, once so many loads have begun.
-pub fn put_later<N: Names, R: Wait>(
-    rt: &R,
-    alloc: Global,
-    cache: &Pages<N>,
-    marks: &Marks,
-    loads: u64,
-) -> Result<(), Fault> {
-    let mut pass = cache.pass(rt, alloc)?;
-    let mut left = Notices::new(alloc, cache.entries() as usize)?;
-    wait_for(&marks.loads, loads);
-    let page = Page { number: 8, words: 800 };
-    let put = cache.put(rt, &mut pass, 8, page, 0, &mut left);
-    marks.put.fetch_add(1, Ordering::SeqCst);
-    put?;
-    Ok(())
 }

@@ -1,4 +1,5 @@
-// The slow source, and its errors.
+// The slow source.
+use crate::error::SourceError;
 use crate::page::Page;
 use std::alloc::Global;
 use std::sync::Arc;
@@ -6,37 +7,23 @@ use std::sync::atomic::{AtomicU64, Ordering};
 use std::thread;
 use wt_cache::Loader;
 
-/// Why there is no page. A loader tells it as a code, so that every waiting caller gets a copy.
-#[derive(Clone, Copy, Debug)]
-pub enum SourceError {
-    Missing = 1,
-    Offline = 2,
-}
-
-impl SourceError {
-    /// Returns the error of a code.
-    pub fn of(code: u32) -> SourceError {
-        match code {
-            1 => SourceError::Missing,
-            _ => SourceError::Offline,
-        }
-    }
-
-    /// Returns what a reader is told.
-    pub fn text(self) -> &'static str {
-        match self {
-            SourceError::Missing => "there is no such page",
-            SourceError::Offline => "the source can't be asked",
-        }
-    }
-}
-
 /// What happened so far: loads begun, readers about to ask, pages put.
 #[derive(Drop)]
 pub struct Marks {
     pub loads: AtomicU64,
     pub asking: AtomicU64,
     pub put: AtomicU64,
+}
+
+impl Marks {
+    /// Makes marks of nothing yet.
+    pub fn new() -> Marks {
+        Marks {
+            loads: AtomicU64::new(0),
+            asking: AtomicU64::new(0),
+            put: AtomicU64::new(0),
+        }
+    }
 }
 
 /// A source that is slow: page 7 takes until eight readers ask, page 8 until a page was put.

@@ -2,13 +2,15 @@
 //! overwrite, and the source's errors as codes.
 #![tactic(auto)]
 
+mod error;
 mod page;
 mod readers;
 mod session;
 mod source;
+mod writer;
 
+use error::SourceError;
 use session::{Seen, session};
-use source::SourceError;
 use std::alloc::Global;
 use std::marker::Brand;
 use std::sync::Wait;

@@ -3,10 +3,11 @@ ghost use Rattle.std.specs.Prelude.{◌≡◌};
 ghost use Rattle.wt_shards.specs.Opening.{AreBlanksOf};
 
 use crate::page::Page;
-use crate::readers::{Pages, ask, ask_eight, put_later};
+use crate::readers::{Pages, ask, ask_eight};
 use crate::source::{Marks, Source};
+use crate::writer::put_later;
 use std::alloc::Global;
-use std::sync::atomic::{AtomicU64, Ordering};
+use std::sync::atomic::Ordering;
 use std::sync::{Arc, Wait};
 use std::thread;
 use std::thread::Threads;
@@ -37,11 +38,10 @@ pub fn session<N: Names + Send + Sync, R: Threads + Wait + Sync>(
     requires blanks { AreBlanksOf N.name blanks }
 {
     let shards: Shards<u64, Page, Of<N>> = Shards::new(rt, alloc, blanks, config, 4)?;
-    let loads = AtomicU64::new(0);
-    let asking = AtomicU64::new(0);
-    let put = AtomicU64::new(0);
-    let marks = Arc::new(alloc, Marks { loads, asking, put })?;
-    let source = Source { marks: Arc::try_clone(&marks)? };
+    let marks = Arc::new(alloc, Marks::new())?;
+    let source = Source {
+        marks: Arc::try_clone(&marks)?,
+    };
     let marks: &Marks = &marks;
     let cache: Pages<N> = LoadingCache::new(shards, source, None);
     let pages = &cache;
@@ -55,5 +55,9 @@ pub fn session<N: Names + Send + Sync, R: Threads + Wait + Sync>(
     put?;
     let beside = (loaded?, ask(rt, alloc, pages, 8)?);
     let failed = ask(rt, alloc, pages, 404);
-    Ok(Seen { eight, beside, failed })
+    Ok(Seen {
+        eight,
+        beside,
+        failed,
+    })
 }
