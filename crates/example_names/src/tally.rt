@@ -1,6 +1,4 @@
 // What is kept of a name, and what loads it.
-ghost use Rattle.std.specs.Prelude.{◌≡◌};
-
 use std::sync::atomic::{AtomicU64, Ordering};
 use wt_cache::Loader;
 use wt_core::Weighs;
@@ -28,7 +26,10 @@ impl Weighs for Tally {
 }
 
 impl Answers<Name> for Tally {
-    ghost answers = { λ tally name. Name.eq tally.name name };
+    ghost use Rattle.std.specs.Prelude.{nat_eq};
+    ghost use Rattle.std.specs.Cmp.Lexicographic.{pointwise};
+
+    ghost answers = { λ tally name. pointwise nat_eq tally.name name };
 
     fn answers(&self, name: &Name) -> bool {
         self.name == *name
@@ -42,6 +43,7 @@ pub struct Loads {
 }
 
 impl Loader<Name, Tally> for Loads {
+    #[tactic(auto, using(crate::proofs::Names::itself))]
     fn load(&self, name: &Name) -> Result<Tally, u32> {
         let load = self.made.fetch_add(1, Ordering::SeqCst).wrapping_add(1);
         Ok(Tally { name: *name, load })
