@@ -1,0 +1,145 @@
+// The shard beside a cache that isn't audited, run on the same calls; and at the end its records, run
+// on a cache of shades that made the steps before them.
+ghost use Rattle.std.specs.Prelude.{◌≡◌};
+ghost use Rattle.wt_shards.specs.Opening.{AreBlanksOf};
+
+use super::dice::{Dice, choose};
+use super::plain::Plain;
+use super::run::{Run, keys_of};
+use super::{Loaded, call_of, comparable, shaded};
+use std::alloc::Global;
+use std::marker::Brand;
+use std::process::Abort;
+use std::test::Fail;
+use wt_core::Config;
+use wt_keys::{Fault, NoMemory};
+use wt_shards::{Blanks, Names, Noted, Shade};
+
+// The shard may answer the fault alone where the cache answers `Refused`. A step is added to those made.
+fn one_call<N: Names>(
+    rt: &impl Abort,
+    dice: &mut Dice,
+    run: &mut Run<Loaded, N>,
+    plain: &mut Plain<Loaded>,
+    made: &mut Vec<Noted<u64>>,
+    (key, version, now): (u64, u64, u64),
+) -> Result<(), NoMemory> {
+    let act = choose(dice, plain.core.first_of(key), version);
+    let before = plain.core.step();
+    let wanted = plain.make(call_of(act, key, now));
+    let reply = run.make(call_of(act, key, now));
+    assert_eq!(rt; comparable(reply), comparable(wanted));
+    if plain.core.step() > before {
+        made.push(shaded(act, key, now))?;
+    }
+    Ok(())
+}
+
+fn expect_same<N: Names>(rt: &impl Abort, run: &Run<Loaded, N>, plain: &Plain<Loaded>) {
+    assert_eq!(rt; run.stats(), plain.core.stats());
+    assert_eq!(rt; run.steps(), plain.core.step());
+    let (steps, hits) = run.mine();
+    assert_eq!(rt; (steps, hits), (plain.core.step(), plain.core.stats().hits));
+    let (dropped, kept) = run.records();
+    assert_eq!(rt; dropped.wrapping_add(kept as u64), steps);
+    assert_eq!(rt; run.told().len(), plain.notices.list().len());
+    for (told, wanted) in run.told().iter().zip(plain.notices.list()) {
+        assert_eq!(rt;
+            (told.key, told.value, told.cause),
+            (wanted.key, wanted.value, wanted.cause)
+        );
+    }
+}
+
+// The lagging copy is what the first of the steps leave, and the records are the steps after them.
+fn expect_outline<N: Names>(
+    rt: &impl Abort,
+    alloc: Global,
+    limits: &Config,
+    run: &Run<Loaded, N>,
+    plain: &Plain<Loaded>,
+    made: Vec<Noted<u64>>,
+) -> Result<(), Fault> {
+    let (dropped, kept) = run.records();
+    assert_eq!(rt; dropped.wrapping_add(kept as u64), made.len() as u64);
+    let mut copy: Plain<Shade> = Plain::new(alloc, limits)?;
+    let mut number: u64 = 0;
+    for call in made {
+        if number < dropped {
+            let reply = copy.make(call);
+            assert!(rt; reply.is_ok());
+        }
+        number = number.wrapping_add(1);
+    }
+    assert_eq!(rt; run.lagging(), copy.core.stats());
+    assert_eq!(rt; run.lagging_keys(alloc), keys_of(alloc, &copy.core));
+    for place in 0..kept {
+        if let Some(call) = run.noted(place) {
+            let reply = copy.make(call);
+            assert!(rt; reply.is_ok());
+        }
+    }
+    assert_eq!(rt; run.stats(), copy.core.stats());
+    assert_eq!(rt; keys_of(alloc, &plain.core), keys_of(alloc, &copy.core));
+    Ok(())
+}
+
+fn limits(entries: u32, bound: u64, flights: u32, ring: u32) -> Config {
+    Config {
+        entries,
+        window: 1,
+        bound,
+        after_write: Some(30),
+        after_access: Some(12),
+        refresh: Some(6),
+        flights,
+        ring,
+    }
+}
+
+fn play<N: Names>(
+    rt: &impl Abort,
+    alloc: Global,
+    blanks: Blanks,
+    limits: &Config,
+    keys: u64,
+) -> Result<(), Fault>
+    requires layout { N.layout ≡ record { shards = 1; config = limits.now } }
+    requires blanks { AreBlanksOf N.name blanks }
+{
+    let mut run: Run<Loaded, N> = Run::new(alloc, limits, blanks)?;
+    let mut plain = Plain::new(alloc, limits)?;
+    let mut dice = Dice(keys);
+    let mut made = Vec::new(alloc);
+    // Moments repeat, go on, and now and then go back a little.
+    let mut now: u64 = 100;
+    for version in 0..1200 {
+        now = now.saturating_add(dice.roll(3));
+        let moment = now.saturating_sub(dice.roll(2));
+        let key = dice.roll(keys);
+        let call = one_call(
+            rt,
+            &mut dice,
+            &mut run,
+            &mut plain,
+            &mut made,
+            (key, version, moment),
+        );
+        assert!(rt; call.is_ok());
+        expect_same(rt, &run, &plain);
+    }
+    expect_outline(rt, alloc, limits, &run, &plain, made)
+}
+
+#[test]
+fn the_shard_does_as_its_cache_does(rt: HostRuntime) -> Result<(), Fail> {
+    let tables = [
+        (limits(1, 5, 1, 2), 3),
+        (limits(4, 20, 2, 3), 6),
+        (limits(8, 1000, 4, 40), 12),
+    ];
+    for (limits, keys) in tables {
+        play::<Brand>(&rt, rt.alloc(), Blanks::new(), &limits, keys)?;
+    }
+    Ok(())
+}

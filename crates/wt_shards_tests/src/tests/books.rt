@@ -1,0 +1,42 @@
+// The shares of a shard's books.
+ghost use Rattle.std.specs.Prelude.{◌≡◌};
+ghost use Rattle.wt_shards.specs.Opening.{AreBlanksOf};
+
+use super::run::Run;
+use super::{Do, Loaded, call_of, config, light};
+use std::alloc::Global;
+use std::marker::Brand;
+use std::process::Abort;
+use std::test::Fail;
+use wt_core::Config;
+use wt_keys::Fault;
+use wt_shards::{Blanks, Names};
+
+fn take_all<N: Names>(
+    rt: &impl Abort,
+    alloc: Global,
+    blanks: Blanks,
+    limits: &Config,
+) -> Result<(), Fault>
+    requires layout { N.layout ≡ record { shards = 1; config = limits.now } }
+    requires blanks { AreBlanksOf N.name blanks }
+{
+    let mut run: Run<Loaded, N> = Run::new(alloc, limits, blanks)?;
+    // The run has the first ones.
+    for _ in 1..65_535 {
+        assert!(rt; run.spent().is_none());
+    }
+    assert_eq!(rt; run.spent(), Some(Fault::PassesSpent));
+    for (act, key) in [(Do::Put(light(1)), 1), (Do::Look, 1), (Do::Look, 2)] {
+        assert!(rt; run.make(call_of(act, key, 0)).is_ok());
+    }
+    assert_eq!(rt; run.mine(), (3, 1));
+    assert_eq!(rt; run.spent(), Some(Fault::PassesSpent));
+    Ok(())
+}
+
+#[test]
+fn shares_are_spent_after_65535(rt: HostRuntime) -> Result<(), Fail> {
+    take_all::<Brand>(&rt, rt.alloc(), Blanks::new(), &config(1000))?;
+    Ok(())
+}

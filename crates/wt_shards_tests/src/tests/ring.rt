@@ -1,0 +1,68 @@
+// Which steps are recorded, in a shard with one load and two places.
+ghost use Rattle.std.specs.Prelude.{◌≡◌};
+ghost use Rattle.wt_shards.specs.Opening.{AreBlanksOf};
+
+use super::run::Run;
+use super::{Do, Loaded, Said, call_of, comparable, config, light};
+use std::alloc::Global;
+use std::marker::Brand;
+use std::process::Abort;
+use std::test::Fail;
+use wt_core::Config;
+use wt_keys::Fault;
+use wt_shards::{Blanks, Names};
+
+// What is done to a key, what is answered, and then how many records were dropped and how many are kept.
+type Row = (Do, u64, Said, u64, usize);
+
+fn play<N: Names>(
+    rt: &impl Abort,
+    alloc: Global,
+    blanks: Blanks,
+    limits: &Config,
+    rows: &[Row],
+) -> Result<(), Fault>
+    requires layout { N.layout ≡ record { shards = 1; config = limits.now } }
+    requires blanks { AreBlanksOf N.name blanks }
+{
+    let mut run: Run<Loaded, N> = Run::new(alloc, limits, blanks)?;
+    for (act, key, answer, dropped, kept) in rows {
+        let reply = run.make(call_of(*act, *key, 0));
+        assert_eq!(rt; comparable(reply), *answer);
+        assert_eq!(rt; run.records(), (*dropped, *kept));
+    }
+    Ok(())
+}
+
+fn expect_rows(rt: &impl Abort, alloc: Global, limits: &Config, rows: &[Row]) -> Result<(), Fault> {
+    play::<Brand>(rt, alloc, Blanks::new(), limits, rows)
+}
+
+#[test]
+fn a_place_is_kept_for_the_open_load(rt: HostRuntime) -> Result<(), Fail> {
+    let heavy = Loaded {
+        version: 9,
+        weight: 10,
+    };
+    let fault = Fault::TooHeavy {
+        weight: 10,
+        bound: 5,
+    };
+    expect_rows(
+        &rt,
+        rt.alloc(),
+        &config(5),
+        &[
+            (Do::Put(light(1)), 1, Said::Stored, 0, 1),
+            (Do::Put(light(2)), 2, Said::Stored, 0, 2),
+            (Do::Put(light(3)), 3, Said::Stored, 1, 2),
+            (Do::Seek, 4, Said::Lead(1), 3, 1),
+            (Do::Loose(1), 4, Said::Loose(1), 3, 2),
+            // What is refused is no step.
+            (Do::Put(heavy), 5, Said::Refused(fault), 3, 2),
+            // A load that isn't open is a step, and has no place of its own.
+            (Do::Loose(1), 4, Said::Gone, 4, 2),
+        ],
+    )?;
+    Ok(())
+}
