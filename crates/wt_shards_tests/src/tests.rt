@@ -2,6 +2,7 @@
 mod beside_core;
 mod books;
 mod dice;
+mod loads;
 mod plain;
 mod ring;
 mod run;
