@@ -88,7 +88,20 @@ def random_trace(rng, entries):
 
 def random_case(rng):
     options = random_options(rng)
-    return options, random_trace(rng, min(200, max(1, options["entries"])))
+    trace = random_trace(rng, min(200, max(1, options["entries"])))
+    return in_turn(rng, options, trace) if rng.random() < 0.15 else (options, trace)
+
+
+def in_turn(rng, options, trace):
+    """The case turn by turn on one thread, mostly without the letters that are bad lines then."""
+    options = {name: n for name, n in options.items() if name != "threads"}
+    options["turn"] = 1
+    # A worker runs a refresh in its own time, so that what is written isn't foretold.
+    if "refresh" not in options and rng.random() < 0.3:
+        options["workers"] = rng.randint(1, 3)
+    if rng.random() < 0.9:
+        trace = trace.replace(b" S ", b" G ").replace(b" E ", b" L ")
+    return options, trace
 
 
 def without_parts(lines, tells):

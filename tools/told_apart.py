@@ -55,7 +55,7 @@ def range_rows(option):
     full, _ = settings(BASE)
     ends = [int(n) for n in option.listed] if option.listed else [option.least(full), option.greatest(full)]
     for number in sorted({n + step for n in ends for step in (-1, 0, 1)}):
-        # What threads that take turns write isn't foretold.
-        foretold = option.name != "turn" or number == 0 or not option.allows(number, full)
+        # What several threads that take turns write isn't foretold.
+        foretold = option.name != "turn" or number < 2 or not option.allows(number, full)
         if 0 <= number < 2 ** 64 and foretold:
             yield "--%s %d" % (option.name, number), dict(BASE, **{option.name: number}), b"0 P 1\n0 L 1\n"

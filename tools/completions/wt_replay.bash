@@ -14,9 +14,9 @@ _wt_replay() {
         --flights) COMPREPLY=($(compgen -W '1 32 4096' -- "$word")) ;;
         --ring) COMPREPLY=($(compgen -W '65536' -- "$word")) ;;
         --threads) COMPREPLY=($(compgen -W '0 64' -- "$word")) ;;
-        --turn) COMPREPLY=($(compgen -W '0' -- "$word")) ;;
-        --workers) COMPREPLY=($(compgen -W '0' -- "$word")) ;;
-        *) COMPREPLY=($(compgen -W '--shards --entries --window --weight --mod --write --access --refresh --fail-mod --flights --ring --threads --turn --workers --help' -- "$word")) ;;
+        --turn) COMPREPLY=($(compgen -W '0 64' -- "$word")) ;;
+        --workers) COMPREPLY=($(compgen -W '0 64' -- "$word")) ;;
+        *) COMPREPLY=($(compgen -W '--shards --entries --window --weight --mod --write --access --refresh --fail-mod --flights --ring --threads --turn --workers --help --version' -- "$word")) ;;
     esac
 }
 complete -F _wt_replay wt_replay

@@ -15,11 +15,15 @@ def shard_of(word, shards):
 
 
 def run(options, trace, shard_type=Shard):
-    """The exit status, the standard output and the standard error of a run."""
+    """The exit status, the standard output and the standard error of a run. Turn by turn it is foretold for one thread."""
     s, outside = settings(options)
     if outside is not None:
         return 1, b"", b"fault 2 field %s\n" % outside.encode()
     lines, fault = read_trace(trace)
+    if s["turn"]:
+        fault = next(("fault 11 line %d\n" % number for number, _, letter, _ in lines if letter in "SE"), fault)
+        if fault:
+            return 1, b"", fault.encode("ascii")
     shards = [shard_type(s) for _ in range(s["shards"])]
     report = []
     for number, moment, letter, key in lines:
@@ -35,4 +39,6 @@ def run(options, trace, shard_type=Shard):
         sums["entries"] = sum(len(shard.held()) for shard in shards)
         sums["weight"] = sum(shard.weight() for shard in shards)
         report.append(" ".join("%s %d" % part for part in sums.items()) + "\n")
+    if s["turn"]:
+        del report[:-1]
     return (1 if fault else 0), "".join(report).encode("ascii"), fault.encode("ascii")

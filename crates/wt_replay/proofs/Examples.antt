@@ -212,10 +212,10 @@ lines_that_are_none = refl
 -- the first field that is out of its range
 pub faults_of_options : map option_fault (four ∷ default_options ∷ record four { shards = 0 } ∷ record four { shards = 3 } ∷ record four { entries = 0 } ∷ record four { entries = 65537 } ∷ record four { window = Some 0 } ∷ record four { window = Some 5 } ∷ record four { weight = 0 }
     ∷ record four { weight = 281474976710657 } ∷ record four { modulus = 0 } ∷ record four { modulus = 1000001 } ∷ record four { write = Some 0 } ∷ record four { access = Some 0 } ∷ record four { refresh = Some 0; flights = 0 } ∷ record four { fail_mod = Some 0 }
-    ∷ record four { flights = 0 } ∷ record four { flights = 4097 } ∷ record four { ring = Some 32 } ∷ record four { ring = Some 65537 } ∷ record four { flights = 4096; ring = Some 4096 } ∷ record four { threads = 65 } ∷ record four { turn = 1 } ∷ record four { workers = 1 } ∷ [])
+    ∷ record four { flights = 0 } ∷ record four { flights = 4097 } ∷ record four { ring = Some 32 } ∷ record four { ring = Some 65537 } ∷ record four { flights = 4096; ring = Some 4096 } ∷ record four { threads = 65 } ∷ record four { turn = 1 } ∷ record four { turn = 64; workers = 64 } ∷ record four { turn = 65 } ∷ record four { turn = 2; threads = 2 } ∷ record four { turn = 2; workers = 65 } ∷ record four { workers = 1 } ∷ [])
     ≡ None ∷ None ∷ Some field.Shards ∷ Some field.Shards ∷ Some field.Entries ∷ Some field.Entries ∷ Some field.Window ∷ Some field.Window ∷ Some field.Bound
     ∷ Some field.Bound ∷ Some field.Modulus ∷ Some field.Modulus ∷ Some field.AfterWrite ∷ Some field.AfterAccess ∷ Some field.Refresh ∷ Some field.FailMod
-    ∷ Some field.Flights ∷ Some field.Flights ∷ Some field.Ring ∷ Some field.Ring ∷ Some field.Ring ∷ Some field.Threads ∷ Some field.Turn ∷ Some field.Workers ∷ []
+    ∷ Some field.Flights ∷ Some field.Flights ∷ Some field.Ring ∷ Some field.Ring ∷ Some field.Ring ∷ Some field.Threads ∷ None ∷ None ∷ Some field.Turn ∷ Some field.Turn ∷ Some field.Workers ∷ Some field.Workers ∷ []
 faults_of_options = refl
 
 pub fault_lines : map fault_line (Cache NoMemory ∷ Cache (BadConfig field.FailMod) ∷ BadLine 4 ∷ LineTooLong 12 ∷ TooManyLines ∷ ReadFault ∷ WriteFault ∷ GateShut 7 ∷ [])

@@ -15,3 +15,5 @@ pub mod Places
 pub mod Stopped
 pub mod Others
 pub mod Histories
+pub mod Dealt
+pub mod Faulty

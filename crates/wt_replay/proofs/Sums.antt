@@ -5,7 +5,7 @@ use Rattle.std.proofs.lemmas.List.{map-id}
 use Rattle.std.proofs.lemmas.List.FromFn.{map-range_with_len_more}
 use Rattle.std.specs.List.{flat_map, range_with_len}
 use Rattle.wt_replay.specs.Answers.{Answers}
-use Rattle.wt_replay.specs.Report.{AreTotals, summary, count_text}
+use Rattle.wt_replay.specs.Report.{AreTotals, summary, summary_of, count_text}
 use Rattle.wt_core.specs.declared.kinds.Stats.{Stats}
 
 -- no number is above a bound
@@ -19,17 +19,9 @@ pub record AreBelow (bound : ℕ) (t : Stats) : Type 0 where
   pub entries : t.entries ≤ bound
   pub weight : t.weight ≤ bound
 
--- the summary of numbers
-abbrev pub summary_by : Stats → List ℕ
-summary_by t =
-    count_text (codes "lookups ") t.lookups ++ (count_text (codes " hits ") t.hits ++ (
-    count_text (codes " misses ") t.misses ++ (count_text (codes " loads ") t.loads ++ (
-    count_text (codes " failed ") t.failed ++ (count_text (codes " evicted ") t.evicted ++ (
-    count_text (codes " entries ") t.entries ++ (count_text (codes " weight ") t.weight ++ codes "\n")))))))
-
-pub summary_by-totals : (t : Stats) (all : List Answers) → AreTotals t all → summary_by t ≡ summary all
-unfolding summary
-summary_by-totals t all are = λ i.
+pub summary_of-totals : (t : Stats) (all : List Answers) → AreTotals t all → summary_of t ≡ summary all
+unfolding summary summary_of
+summary_of-totals t all are = λ i.
     count_text (codes "lookups ") (are.lookups i) ++ (count_text (codes " hits ") (are.hits i) ++ (
     count_text (codes " misses ") (are.misses i) ++ (count_text (codes " loads ") (are.loads i) ++ (
     count_text (codes " failed ") (are.failed i) ++ (count_text (codes " evicted ") (are.evicted i) ++ (

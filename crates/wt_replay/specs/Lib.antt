@@ -12,3 +12,5 @@ pub mod Report
 pub mod Stops
 pub mod Parts
 pub mod Replayed
+pub mod Turns
+pub mod ByTurn

@@ -1,5 +1,5 @@
 -- The options: their defaults and their ranges.
-use Rattle.std.specs.Prelude.{ℕ, ◌+◌, ◌/◌, ◌==◌, nat_lt, max, Bool, not, ◌||◌, if◌then◌else◌, Option, None, Some, unwrap_or}
+use Rattle.std.specs.Prelude.{ℕ, ◌+◌, ◌/◌, ◌==◌, nat_lt, max, Bool, not, ◌&&◌, ◌||◌, if◌then◌else◌, Option, None, Some, unwrap_or}
 use Rattle.wt_keys.specs.declared.fault.Field.{Field}
 use Rattle.wt_keys.specs.declared.fault.Field.TheVariants.{Shards, Entries, Window, Bound, Modulus, AfterWrite, AfterAccess, Refresh, FailMod, Flights, Ring, Threads, Turn, Workers}
 use Rattle.wt_core.specs.declared.kinds.Config.{Config}
@@ -22,14 +22,14 @@ is_outside low high n = nat_lt n low || nat_lt high n
 abbrev pub is_shard_count : ℕ → Bool
 is_shard_count n = n == 1 || (n == 2 || n == 4)
 
--- the first of the options from flights on that is out of its range; for now no run is turn by turn
+-- the first of the options from flights on that is out of its range: a run is by shard or by turn, and only turns have workers
 abbrev pub later_fault : Options → Option Field
 later_fault o =
     if is_outside 1 4096 o.flights then Some Flights else
     if is_outside (o.flights + 1) 65536 (ring_of o) then Some Ring else
     if is_outside 0 64 o.threads then Some Threads else
-    if nat_lt 0 o.turn then Some Turn else
-    if nat_lt 0 o.workers then Some Workers else
+    if is_outside 0 64 o.turn || (nat_lt 0 o.turn && nat_lt 0 o.threads) then Some Turn else
+    if is_outside 0 64 o.workers || (nat_lt 0 o.workers && not (nat_lt 0 o.turn)) then Some Workers else
     None
 
 -- the first option that is out of its range

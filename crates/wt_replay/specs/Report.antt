@@ -21,6 +21,14 @@ line_text first all i = decimal (first + i) ++ (flat_map (λ (a : Answers). get_
 unfoldable pub count_text : List ℕ → ℕ → List ℕ
 count_text label n = label ++ decimal n
 
+-- the summary's line of numbers
+unfoldable pub summary_of : Stats → List ℕ
+summary_of t =
+    count_text (codes "lookups ") t.lookups ++ (count_text (codes " hits ") t.hits ++ (
+    count_text (codes " misses ") t.misses ++ (count_text (codes " loads ") t.loads ++ (
+    count_text (codes " failed ") t.failed ++ (count_text (codes " evicted ") t.evicted ++ (
+    count_text (codes " entries ") t.entries ++ (count_text (codes " weight ") t.weight ++ codes "\n")))))))
+
 -- a label with the sum of a number over the shards
 abbrev pub sum_text : List ℕ → (Stats → ℕ) → List Answers → List ℕ
 sum_text label number all = count_text label (sum_by (λ (a : Answers). number a.stats) all)

@@ -7,7 +7,7 @@ ghost use Rattle.wt_replay.specs.Line as spec;
 
 use crate::key::TraceKey;
 use wt_core::Weighs;
-use wt_keys::{CacheKey, NoMemory, Share};
+use wt_keys::{Answers, CacheKey, NoMemory, Share};
 
 /// What a line asks for.
 #[derive(Clone, Copy, Debug)]
@@ -76,6 +76,15 @@ impl<K> Weighs for Version<K> {
 
     fn weight(&self) -> u32 {
         self.weight
+    }
+}
+
+/// A value answers the key that it was made for, and no other.
+impl<K: CacheKey> Answers<K> for Version<K> {
+    ghost answers = { λ v k. K.eq v.key k };
+
+    fn answers(&self, key: &K) -> bool {
+        self.key == *key
     }
 }
 

@@ -5,6 +5,7 @@ ghost use Rattle.std.specs.Prelude.{◌≡◌, IfOk, is_ok, if◌then◌else◌}
 
 mod answers;
 mod by_shard;
+mod by_turn;
 mod fault;
 mod gate;
 mod key;
@@ -13,89 +14,80 @@ mod line;
 mod options;
 mod replay;
 mod report;
+mod rules;
 mod shard;
 mod tallied;
 #[cfg(test)]
 mod tests;
 mod trace;
+mod turns;
 mod words;
 
 use clap::{Arg, ArgAction, ArgMatches, Command, value_parser};
 use fault::ReplayFault;
 use gate::Open;
 use options::{MOST_THREADS, Options};
-use replay::{replay, replay_by_shard};
+use replay::{replay, replay_by_shard, replay_by_turn};
 use std::alloc::Global;
 use std::io;
 use std::process::ExitCode;
 use tallied::Tallied;
 
+// What `--version` prints.
+const VERSION: &str = "0.1.0";
+
 // Each option with what it does, its range and its default, in the order in which the ranges are checked.
 const OPTIONS: [(&str, &str); 14] = [
-    ("shards", "Number of shards: 1, 2 or 4 [default: 1]"),
+    ("shards", "Shards: 1, 2 or 4 [default: 1]"),
     (
         "entries",
-        "Entries that a shard may hold: 1 to 65536 [default: 1024]",
+        "Entries a shard may hold: 1 to 65536 [default: 1024]",
     ),
     (
         "window",
-        "Entries that its window may hold: 1 to --entries [default: entries / 100, at least 1]",
+        "Window: 1 to entries [default: entries / 100, at least 1]",
     ),
     (
         "weight",
-        "Weight that its entries may have together: 1 to 281474976710656 [default: 281474976710656]",
+        "Weight: 1 to 281474976710656 [default: 281474976710656]",
     ),
-    (
-        "mod",
-        "A value of key k weighs 1 + k mod this, of a name 1 + its word mod this: 1 to 1000000 [default: 1]",
-    ),
-    (
-        "write",
-        "Milliseconds after which an entry expires that isn't written: 1 up [default: never]",
-    ),
-    (
-        "access",
-        "Milliseconds after which an entry expires that isn't used: 1 up [default: never]",
-    ),
+    ("mod", "Weighs 1 + key mod this: 1 to 1000000 [default: 1]"),
+    ("write", "Expires ms after a write: 1 up [default: never]"),
+    ("access", "Expires ms after a use: 1 up [default: never]"),
     (
         "refresh",
-        "Milliseconds after which a written entry is loaded again: 1 up [default: never]",
+        "Loaded again ms after a write: 1 up [default: never]",
     ),
     (
         "fail-mod",
-        "Loads of keys whose word this divides fail: 1 up [default: none fails]",
+        "Loads of its multiples fail: 1 up [default: none fails]",
     ),
-    (
-        "flights",
-        "Loads that a shard may have open: 1 to 4096 [default: 32]",
-    ),
+    ("flights", "Loads open in a shard: 1 to 4096 [default: 32]"),
     (
         "ring",
-        "Steps that a shard may record: flights + 1 to 65536 [default: 64, or flights + 1]",
+        "Ring: flights + 1 to 65536 [default: 64, or flights + 1]",
     ),
+    ("threads", "Threads, shard by shard: 0 to 64 [default: 0]"),
+    ("turn", "Threads, turn by turn: 0 to 64 [default: 0]"),
     (
-        "threads",
-        "Threads that replay shard by shard: 0 to 64; 0 starts none [default: 0]",
+        "workers",
+        "Threads that load for --turn: 0 to 64 [default: 0]",
     ),
-    (
-        "turn",
-        "Threads that replay turn by turn: for now 0 [default: 0]",
-    ),
-    ("workers", "Threads that run loads: for now 0 [default: 0]"),
 ];
 
 // An option that takes a whole number.
 fn option<'a>(alloc: Global, name: &'a str, help: &'a str) -> Arg<'a> {
     Arg::new(alloc, name)
         .long(name)
+        .value_name("n")
         .action(ArgAction::Set)
         .value_parser(value_parser!(u64))
         .help(help)
 }
 
 fn command<'a>(alloc: Global) -> Result<Command<'a>, clap::Error> {
-    let mut command = Command::new(alloc, "wt_replay").about(
-        "Replays the trace on standard input on a cache, and writes what came of each line",
+    let mut command = Command::new(alloc, "wt_replay").version(VERSION).about(
+        "Replays the trace on standard input on a cache, and reports on each line",
     );
     for (name, help) in OPTIONS {
         command = command.arg(option(alloc, name, help))?;
@@ -152,7 +144,18 @@ fn main(rt: HostRuntime) -> anyhow::Result<ExitCode> {
     let options = options_of(&matches);
     let mut reader = Tallied::new(rt.reader());
     let mut writer = Tallied::new(io::writer(&rt));
-    let outcome = if options.threads == 0 {
+    let outcome = if 0 < options.turn {
+        let threads = options.turn.min(MOST_THREADS);
+        replay_by_turn(
+            &rt,
+            alloc,
+            &mut reader,
+            &mut writer,
+            &options,
+            threads,
+            &Open,
+        )
+    } else if options.threads == 0 {
         replay(alloc, &mut reader, &mut writer, &options)
     } else {
         let threads = options.threads.min(MOST_THREADS);

@@ -151,10 +151,10 @@ impl Options {
         if is_outside(0, MOST_THREADS, self.threads) {
             return Some(Field::Threads);
         }
-        if 0 < self.turn {
+        if is_outside(0, MOST_THREADS, self.turn) || (0 < self.turn && 0 < self.threads) {
             return Some(Field::Turn);
         }
-        if 0 < self.workers {
+        if is_outside(0, MOST_THREADS, self.workers) || (0 < self.workers && !(0 < self.turn)) {
             return Some(Field::Workers);
         }
         None

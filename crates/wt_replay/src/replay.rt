@@ -3,17 +3,20 @@ ghost use Rattle.std.specs.Prelude.{◌≡◌, ◌+◌, ◌-◌, ◌<◌, ◌≤
 ghost use Rattle.std.specs.Io.KnownBytes.{Keeps, Appends, Consumes, IsAtEnd};
 ghost use Rattle.wt_replay.specs.Replayed.{Replayed, AppendsFront, Rises, ShutsOnly, LetThrough, is_config_fault};
 ghost use Rattle.wt_replay.specs.Options.{option_fault};
+ghost use Rattle.wt_replay.specs.ByTurn.{Turned};
 ghost use Rattle.wt_keys.specs.declared.fault.Fault.TheVariants as cache;
 ghost use Rattle.wt_replay.specs.declared.fault.ReplayFault.TheVariants as fault;
 
 use crate::by_shard::report_by_shard;
+use crate::by_turn::sums_by_turn;
 use crate::fault::ReplayFault;
 use crate::gate::Gate;
 use crate::options::Options;
-use crate::report::report;
+use crate::report::{report, summary_text};
 use crate::tallied::Tallied;
 use std::alloc::Global;
 use std::io::{Read, Write};
+use std::sync::Wait;
 use std::thread::Threads;
 use wt_keys::Fault;
 
@@ -136,4 +139,40 @@ pub fn replay_by_shard<H: Threads + Sync, R: Read, W: Write, G: Gate>(
     )?;
     write_out(writer, text.as_slice())?;
     verdict
+}
+
+/// Replays the trace turn by turn with so many threads on one shared cache, each with a pass of its own: line n is
+/// done by thread (n - 1) modulo `threads`. Writes one line, the summary, whose hits and misses are the look-ups.
+///
+/// A `G` is a load where the key isn't there, an `L` a look-up, a `P` a store, a `D` a removal, an `F` a forget, a `C`
+/// a clean, an `X` a clear. Loads that fail, values too heavy and loads without a place are passed over. With
+/// `options.workers` above 0 so many threads run the loads, which wait in a line of 64. Faults in their order: an
+/// option out of its range (nothing was read or written); `ReadFault`, exactly where the reader failed, and no memory;
+/// the fault of the first faulty line, where a line of letter S or E is a bad one; `GateShut` of a line before which
+/// the gate was shut; what a line of the cache ends by; `WriteFault`, exactly where the writer failed or took nothing (a
+/// front of the summary was written). After any other fault nothing was written. In which order the lines of two
+/// threads are done isn't promised, and so isn't which of them hit; nor is it that the call returns.
+pub fn replay_by_turn<H: Threads + Wait + Sync, R: Read, W: Write, G: Gate>(
+    rt: &H,
+    alloc: Global,
+    reader: &mut Tallied<R>,
+    writer: &mut Tallied<W>,
+    options: &Options,
+    threads: u64,
+    gate: &G,
+) -> Result<(), ReplayFault>
+    requires { (0 < threads) × (threads ≤ 64) }
+    ensures config { MatchOption (option_fault options.now) Unit (λ field. (result ≡ Err (fault.Cache (cache.BadConfig field))) × (reader.new ≡ reader.old) × (writer.new ≡ writer.old)) }
+    ensures turned { Turned (R.remaining reader.old.inner) (R.remaining reader.new.inner) (W.contents writer.old.inner) (W.contents writer.new.inner) result }
+    ensures reads { Rises reader.old.failures reader.new.failures result fault.ReadFault }
+    ensures turns { reader.new.reads ≤ reader.old.reads + 65000002 }
+    ensures writes { Rises writer.old.failures writer.new.failures result fault.WriteFault }
+{
+    if let Some(field) = options.fault() {
+        return Err(ReplayFault::Cache(Fault::BadConfig { field }));
+    }
+    let bytes = read_up_to(alloc, reader, MOST_BYTES)?;
+    let sums = sums_by_turn(rt, alloc, options, bytes.as_slice(), threads as usize, gate)?;
+    let text = summary_text(alloc, &sums)?;
+    write_out(writer, text.as_slice())
 }

@@ -77,12 +77,10 @@ fn show_count(out: &mut Vec<u8>, label: &str, n: u64) -> Result<(), AllocError>
     show_number(out, n)
 }
 
-// Appends the summary.
-fn show_summary(out: &mut Vec<u8>, all: &[Answers]) -> Result<(), AllocError>
-    requires { length all.now ≤ 4 }
-    ensures { OnOk result (out.new.items ≡ out.old.items ++ spec.summary all.now) }
+// Appends the summary's line of these numbers.
+fn show_numbers(out: &mut Vec<u8>, sum: &Stats) -> Result<(), AllocError>
+    ensures { OnOk result (out.new.items ≡ out.old.items ++ spec.summary_of sum.now) }
 {
-    let sum = totals(all);
     show_count(out, "lookups ", sum.lookups)?;
     show_count(out, " hits ", sum.hits)?;
     show_count(out, " misses ", sum.misses)?;
@@ -93,6 +91,25 @@ fn show_summary(out: &mut Vec<u8>, all: &[Answers]) -> Result<(), AllocError>
     show_count(out, " weight ", sum.weight)?;
     out.push(b'\n')?;
     Ok(())
+}
+
+// Appends the summary.
+fn show_summary(out: &mut Vec<u8>, all: &[Answers]) -> Result<(), AllocError>
+    requires { length all.now ≤ 4 }
+    ensures { OnOk result (out.new.items ≡ out.old.items ++ spec.summary all.now) }
+{
+    let sum = totals(all);
+    show_numbers(out, &sum)?;
+    Ok(())
+}
+
+/// Returns the summary's line of these numbers.
+pub fn summary_text(alloc: Global, sum: &Stats) -> Result<Vec<u8>, NoMemory>
+    ensures { IfOk result (λ out. out.items ≡ spec.summary_of sum.now) }
+{
+    let mut out = Vec::new(alloc);
+    show_numbers(&mut out, sum)?;
+    Ok(out)
 }
 
 /// Returns so many lines of a report by what the shards answer, and the summary where no line was at fault.

@@ -12,6 +12,7 @@ use crate::gate::Gate;
 use crate::key::TraceKey;
 use crate::line::{Act, Line, Version};
 use crate::options::Options;
+use crate::rules::{fails_by, weight_by};
 use crate::words::{show, show_loaded, show_notices, show_reply, show_with};
 use std::alloc::Global;
 use std::marker::Model;
@@ -170,7 +171,7 @@ fn version<K: TraceKey>(options: &Options, n: u64, key: K) -> Version<K>
     Version {
         key,
         line: n,
-        weight: (1 + key.word() % options.modulus) as u32,
+        weight: weight_by(options.modulus, key.word()),
     }
 }
 
@@ -179,10 +180,8 @@ fn load<K: TraceKey>(options: &Options, n: u64, key: K) -> Land<Version<K>>
     requires { option_fault options.now ≡ None }
     ensures { result ≡ spec.load (keys_by K.eq K.word K.read K.shown) options.now n key }
 {
-    if let Some(divisor) = options.fail_mod {
-        if key.word() % divisor == 0 {
-            return Land::Failed;
-        }
+    if fails_by(options.fail_mod, key.word()) {
+        return Land::Failed;
     }
     Land::Keep(version(options, n, key))
 }

@@ -4,6 +4,7 @@ mod options;
 mod reports;
 mod streams;
 mod threads;
+mod turns;
 
 use crate::fault::ReplayFault;
 use crate::options::Options;

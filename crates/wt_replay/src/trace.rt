@@ -1,5 +1,5 @@
 // A trace, read line by line up to the first fault.
-ghost use Rattle.std.specs.Prelude.{◌≡◌, ◌≤◌, IfOk, length};
+ghost use Rattle.std.specs.Prelude.{◌≡◌, ◌+◌, ◌≤◌, IfOk, length};
 ghost use Rattle.wt_replay.specs.Trace.{lines_of, trace_from};
 ghost use Rattle.wt_replay.specs.Trace as spec;
 
@@ -46,6 +46,7 @@ pub fn read_lines<K: TraceKey>(
     bytes: &[u8],
 ) -> Result<Lines<K>, NoMemory>
     requires { first ≤ 1000001 }
+    ensures few { IfOk result (λ read. first + length read.lines.items ≤ 1000001) }
     ensures lines { IfOk result (λ read. read.lines.items ≡ (trace_from K.read first (lines_of bytes.now)).lines) }
     ensures verdict { IfOk result (λ read. read.verdict ≡ (trace_from K.read first (lines_of bytes.now)).verdict) }
 {

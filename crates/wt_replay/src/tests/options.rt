@@ -8,7 +8,7 @@ use std::test::*;
 use wt_keys::{Fault, Field};
 
 // A field, a value, and whether it is in the field's range.
-const ROWS: [(Field, u64, bool); 38] = [
+const ROWS: [(Field, u64, bool); 40] = [
     (Field::Entries, 0, false),
     (Field::Entries, 1, true),
     (Field::Entries, 65536, true),
@@ -45,7 +45,9 @@ const ROWS: [(Field, u64, bool); 38] = [
     (Field::Ring, 65537, false),
     (Field::Threads, 64, true),
     (Field::Threads, 65, false),
-    (Field::Turn, 1, false),
+    (Field::Turn, 1, true),
+    (Field::Turn, 64, true),
+    (Field::Turn, 65, false),
     (Field::Workers, 1, false),
 ];
 

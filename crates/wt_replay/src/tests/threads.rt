@@ -70,7 +70,7 @@ fn a_bad_line_ends_the_report_on_threads_too(rt: HostRuntime) {
 
 // Lets nothing through but the lines before one.
 #[derive(Drop)]
-struct Before(u64);
+pub(super) struct Before(pub(super) u64);
 
 impl Gate for Before {
     ghost use Rattle.std.specs.Prelude.{◌≡◌, nat_lt};
@@ -97,9 +97,19 @@ fn a_shut_gate_is_told_and_nothing_is_written(rt: HostRuntime) {
 
 // Holds each of lines 1 and 2 until the other one was asked for.
 #[derive(Drop)]
-struct Pair {
+pub(super) struct Pair {
     first: AtomicU64,
     second: AtomicU64,
+}
+
+impl Pair {
+    // With neither line asked for.
+    pub(super) fn new() -> Pair {
+        Pair {
+            first: AtomicU64::new(0),
+            second: AtomicU64::new(0),
+        }
+    }
 }
 
 impl Gate for Pair {
@@ -126,11 +136,7 @@ impl Gate for Pair {
 
 #[test]
 fn shards_of_two_threads_run_beside_each_other(rt: HostRuntime) {
-    let gate = Pair {
-        first: AtomicU64::new(0),
-        second: AtomicU64::new(0),
-    };
-    let (text, outcome) = by_shard(&rt, b"0 P 4\n0 P 3\n", &four_shards(), 2, &gate);
+    let (text, outcome) = by_shard(&rt, b"0 P 4\n0 P 3\n", &four_shards(), 2, &Pair::new());
     assert_eq!(rt;
         text.as_slice(),
         b"1 put\n2 put\nlookups 0 hits 0 misses 0 loads 0 failed 0 evicted 0 entries 2 weight 2\n".as_slice()

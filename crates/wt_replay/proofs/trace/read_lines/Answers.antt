@@ -1,4 +1,4 @@
-use Rattle.std.proofs.Common.{◌<◌, length, arith}
+use Rattle.std.proofs.Common.{◌<◌, ◌∷◌, [], ◌∙◌, ap, length, length-append, arith}
 use Rattle.std.proofs.lemmas.Bool.Decides.{nat_tests}
 use Rattle.wt_replay.proofs.Traces.{next_line, faulty_line}
 use Rattle.wt_replay.proofs.trace.read_lines.Goals as goal
@@ -9,7 +9,8 @@ loop-rest-preserved g c =
     let some : 0 < length c.loop-rest.rest.now = grind (arith, nat_tests, c.is_empty.ensures) in
     let next = next_line g.K.TraceKey.read c.loop-rest.n c.loop-rest.rest.now c.cut.result.0.now c.cut.result.1.now c.in-Ok.line c.loop-rest.lines.items _ _ some
     c.cut.ensures.front c.cut.ensures.back c.in-Ok.ensures inv.lines inv.verdict in
-    record { lines = rw c.in_ok-push-in-Ok.ensures.items next.0; verdict = next.1; few = next.2 }
+    let more = ap length c.in_ok-push-in-Ok.ensures.items ∙ length-append c.loop-rest.lines.items (c.in-Ok.line ∷ []) in
+    record { lines = rw c.in_ok-push-in-Ok.ensures.items next.0; verdict = next.1; few = next.2; counted = omega (arith, more, inv.counted) }
 
 pub returns-in-Err-clause-lines : goal.returns-in-Err-clause-lines
 returns-in-Err-clause-lines g c =

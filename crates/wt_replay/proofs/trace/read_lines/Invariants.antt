@@ -1,4 +1,4 @@
-use Rattle.std.proofs.Common.{◌≡◌, ◌++◌, ◌≤◌, length}
+use Rattle.std.proofs.Common.{◌≡◌, ◌+◌, ◌++◌, ◌≤◌, length}
 use Rattle.wt_replay.specs.Trace.{lines_of, trace_from}
 use Rattle.wt_replay.proofs.trace.read_lines.Given as goal
 
@@ -7,6 +7,7 @@ invariant-loop-rest g l = record {
   lines : l.lines.items ++ (trace_from g.K.TraceKey.read l.n (lines_of l.rest)).lines ≡ (trace_from g.K.TraceKey.read l.fn.first (lines_of l.fn.bytes)).lines;
   verdict : (trace_from g.K.TraceKey.read l.n (lines_of l.rest)).verdict ≡ (trace_from g.K.TraceKey.read l.fn.first (lines_of l.fn.bytes)).verdict;
   few : l.n ≤ 1000001;
+  counted : l.n ≡ l.fn.first + length l.lines.items;
 }
 
 abbrev pub decreases-loop-rest : goal.decreases-loop-rest

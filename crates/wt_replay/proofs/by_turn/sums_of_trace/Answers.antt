@@ -1,0 +1,14 @@
+use Rattle.std.proofs.Common.{rules, ◌≡◌, ◌∙◌, ap, sym, None, Err}
+use Rattle.wt_replay.specs.ByTurn.{first_open}
+use Rattle.wt_replay.specs.Trace.{lines_of, trace_from}
+use Rattle.wt_replay.proofs.Faulty.{faulty_verdict, not_there}
+use Rattle.wt_replay.proofs.Traces.{verdict_of-trace}
+use Rattle.wt_replay.proofs.by_turn.sums_of_trace.Goals as goal
+
+pub returns-in-Err-clause-faults : goal.returns-in-Err-clause-faults
+returns-in-Err-clause-faults g c =
+    let t = trace_from g.K.TraceKey.read c.args.first (lines_of c.args.bytes.now) in
+    let none : first_open c.args.first t.lines ≡ None =
+    ap (first_open c.args.first) (sym (c.deref.ensures.value ∙ c.in-Ok.ensures.lines)) ∙ sym c.first_open.ensures ∙ not_there c.first_open.result c.in_default-first_open.not-Some in
+    let err : t.verdict ≡ Err c.in-Err.fault = search rules in
+    faulty_verdict c.args.first t c.in-Err.fault none err (verdict_of-trace g.K.TraceKey.read c.args.first (lines_of c.args.bytes.now))

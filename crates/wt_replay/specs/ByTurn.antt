@@ -1,0 +1,100 @@
+-- A replay turn by turn.
+use Rattle.std.specs.Prelude.{◌≡◌, ℕ, ◌+◌, ◌*◌, ◌≤◌, Bool, true, false, if◌then◌else◌, List, [], ◌∷◌, drop, Option, None, Some, Result, Ok, Err}
+use Rattle.std.specs.Option.{option_map, option_or}
+use Rattle.std.specs.Io.KnownBytes.{Keeps, Appends}
+use Rattle.wt_core.specs.Lawful.{AreSmall}
+use Rattle.wt_core.specs.declared.kinds.Stats.{Stats}
+use Rattle.wt_shards.specs.Totals.{Settled}
+use Rattle.wt_shards.specs.declared.total.Total.{Total}
+use Rattle.wt_replay.specs.Keys.{numbers, names}
+use Rattle.wt_replay.specs.Replayed.{Gave, AppendsFront}
+use Rattle.wt_replay.specs.Report.{summary_of}
+use Rattle.wt_replay.specs.Trace.{Trace, Verdict, lines_of, is_header, trace_from}
+use Rattle.wt_replay.specs.declared.fault.ReplayFault.{ReplayFault}
+use Rattle.wt_replay.specs.declared.fault.ReplayFault.TheVariants.{Cache, BadLine, LineTooLong, TooManyLines, ReadFault, WriteFault, GateShut}
+use Rattle.wt_replay.specs.declared.line.Act.{Act}
+use Rattle.wt_replay.specs.declared.line.Act.TheVariants as act
+use Rattle.wt_replay.specs.declared.line.Line.{Line}
+
+-- whether a line leaves a load open or lands one: no turn has such lines, since there the cache lands what it opens
+abbrev pub opens : {K : Type 0} → Act K → Bool
+opens (act.Seek k) = true
+opens (act.Land k) = true
+opens _ = false
+
+-- the first such line, from line n on
+abbrev pub first_open : {K : Type 0} → ℕ → List (Line K) → Option ℕ
+first_open n [] = None
+first_open n (l ∷ ls) = if opens l.act then Some n else first_open (n + 1) ls
+
+-- the fault that a verdict tells
+abbrev pub fault_in : Verdict → Option ReplayFault
+fault_in (Ok _) = None
+fault_in (Err fault) = Some fault
+
+-- what is wrong with a trace, the first line of which is line n
+abbrev pub faulty : {K : Type 0} → ℕ → Trace K → Option ReplayFault
+faulty n t = option_or (option_map BadLine (first_open n t.lines)) (fault_in t.verdict)
+
+-- by whether the first line is a header, which counts as line 1
+abbrev pub faulty_by : Bool → List (List ℕ) → Option ReplayFault
+faulty_by true lines = faulty 2 (trace_from names.read 2 (drop 1 lines))
+faulty_by false lines = faulty 1 (trace_from numbers.read 1 lines)
+
+-- what is wrong with the bytes of a trace
+abbrev pub turn_fault : List ℕ → Option ReplayFault
+turn_fault bytes = faulty_by (is_header (lines_of bytes)) (lines_of bytes)
+
+-- numbers whose hits and misses are the look-ups
+abbrev pub AreLooked : Stats → Type 0
+AreLooked s = s.hits + s.misses ≡ s.lookups
+
+-- By the outcome: what became of the reader (r, s: before, after) and of the writer (w, x).
+abbrev pub Turned : Option (List ℕ) → Option (List ℕ) → Option (List ℕ) → Option (List ℕ) → Result (Unit {0}) ReplayFault → Type 0
+Turned r s w x (Ok _) = (bytes : List ℕ) × Gave r s bytes × (turn_fault bytes ≡ None) × ((sums : Stats) × AreLooked sums × Appends w x (summary_of sums))
+Turned r s w x (Err WriteFault) = (bytes : List ℕ) × Gave r s bytes × (turn_fault bytes ≡ None) × ((sums : Stats) × AreLooked sums × AppendsFront w x (summary_of sums))
+Turned r s w x (Err (BadLine n)) = (bytes : List ℕ) × Gave r s bytes × (turn_fault bytes ≡ Some (BadLine n)) × Keeps w x
+Turned r s w x (Err (LineTooLong n)) = (bytes : List ℕ) × Gave r s bytes × (turn_fault bytes ≡ Some (LineTooLong n)) × Keeps w x
+Turned r s w x (Err TooManyLines) = (bytes : List ℕ) × Gave r s bytes × (turn_fault bytes ≡ Some TooManyLines) × Keeps w x
+Turned r s w x (Err fault) = Keeps w x
+
+-- a fault that ends the reading of a trace or a run: one of a line is what is wrong with the trace
+abbrev pub IsTurnFault : Option ReplayFault → ReplayFault → Type 0
+IsTurnFault wrong (BadLine n) = wrong ≡ Some (BadLine n)
+IsTurnFault wrong (LineTooLong n) = wrong ≡ Some (LineTooLong n)
+IsTurnFault wrong TooManyLines = wrong ≡ Some TooManyLines
+IsTurnFault wrong ReadFault = ⊥
+IsTurnFault wrong WriteFault = ⊥
+IsTurnFault wrong (Cache fault) = Unit {0}
+IsTurnFault wrong (GateShut n) = Unit {0}
+
+-- what a thread needs: at most four shards, room for what a line tells, and so many lines and threads as there may be
+pub record IsReady (shards entries room first lines threads : ℕ) : Type 0 where
+  pub few : shards ≤ 4
+  pub roomy : 4 * entries ≤ room
+  pub near : first ≤ 2
+  pub some_line : 1 ≤ first
+  pub short : lines ≤ 1000000
+  pub some : 1 ≤ threads
+  pub within : threads ≤ 64
+
+-- numbers that hang together and can be added up
+pub record IsGood (t : Total) : Type 0 where
+  pub looked : t.stats.hits + t.stats.misses ≡ t.stats.lookups
+  pub small : AreSmall t.stats
+
+-- the numbers of a shard, where there is one
+abbrev pub numbers_of : Option Total → Stats
+numbers_of None = record { lookups = 0; hits = 0; misses = 0; loads = 0; failed = 0; evicted = 0; entries = 0; weight = 0 }
+numbers_of (Some total) = total.stats
+
+-- the sums of the numbers of all shards
+pub record AreSums (sums : Stats) (t : Settled) : Type 0 where
+  pub lookups : sums.lookups ≡ (numbers_of t.zero).lookups + (numbers_of t.one).lookups + (numbers_of t.two).lookups + (numbers_of t.three).lookups
+  pub hits : sums.hits ≡ (numbers_of t.zero).hits + (numbers_of t.one).hits + (numbers_of t.two).hits + (numbers_of t.three).hits
+  pub misses : sums.misses ≡ (numbers_of t.zero).misses + (numbers_of t.one).misses + (numbers_of t.two).misses + (numbers_of t.three).misses
+  pub loads : sums.loads ≡ (numbers_of t.zero).loads + (numbers_of t.one).loads + (numbers_of t.two).loads + (numbers_of t.three).loads
+  pub failed : sums.failed ≡ (numbers_of t.zero).failed + (numbers_of t.one).failed + (numbers_of t.two).failed + (numbers_of t.three).failed
+  pub evicted : sums.evicted ≡ (numbers_of t.zero).evicted + (numbers_of t.one).evicted + (numbers_of t.two).evicted + (numbers_of t.three).evicted
+  pub entries : sums.entries ≡ (numbers_of t.zero).entries + (numbers_of t.one).entries + (numbers_of t.two).entries + (numbers_of t.three).entries
+  pub weight : sums.weight ≡ (numbers_of t.zero).weight + (numbers_of t.one).weight + (numbers_of t.two).weight + (numbers_of t.three).weight
