@@ -25,5 +25,5 @@ faulty_verdict n t f none err is =
 
 -- what isn't there
 pub not_there : (o : Option ℕ) → ((n : ℕ) → o ≡ Some n → ⊥) → o ≡ None
-not_there None no = refl
-not_there (Some n) no = absurd (no n refl)
+not_there None none = refl
+not_there (Some n) none = absurd (none n refl)
