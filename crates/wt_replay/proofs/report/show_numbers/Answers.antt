@@ -1,4 +1,4 @@
-use Rattle.std.proofs.Common.{◌∙◌, ◌≡◌, ◌++◌, ap, codes}
+use Rattle.std.proofs.Common.{◌∙◌, codes}
 use Rattle.wt_replay.specs.Report.{count_text, summary_of}
 use Rattle.wt_replay.proofs.Sums.{appended_before}
 use Rattle.wt_replay.proofs.report.show_numbers.Goals as goal
