@@ -51,7 +51,7 @@ class Crate:
             self.read_source(path)
         for path in sorted((folder / "specs").rglob("*.antt")):
             self.read_words(path)
-        self.edits = {path.name for path in (folder / "must-fail").rglob("*.edit")}
+        self.edits = {path.name for place in ("must-fail", "must-fail-seldom") for path in (folder / place).glob("*.edit")}
 
     def read_source(self, path):
         """Adds what one source file has."""
