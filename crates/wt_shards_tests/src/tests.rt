@@ -1,11 +1,16 @@
 // What the tests share: a value, what is done, and what is seen of a reply.
 mod beside_core;
 mod books;
+mod caller;
 mod dice;
+mod fussy;
 mod loads;
+mod outer;
 mod plain;
+mod refusals;
 mod ring;
 mod run;
+mod settling;
 
 use wt_core::{Call, Config, Land, Reply, Weighs};
 use wt_keys::{Answers, Fault, NoMemory, Share};
