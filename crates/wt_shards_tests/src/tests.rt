@@ -1,4 +1,5 @@
 // What the tests share: a value, what is done, and what is seen of a reply.
+mod apart;
 mod beside_core;
 mod books;
 mod caller;

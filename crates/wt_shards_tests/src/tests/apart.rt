@@ -4,7 +4,7 @@ ghost use Rattle.wt_shards.specs.Opening.{AreBlanksOf};
 
 use super::config;
 use std::alloc::Global;
-use std::marker::Brand;
+use std::marker::{Brand, Model};
 use std::sync::atomic::{AtomicBool, Ordering};
 use std::sync::{Arc, Wait};
 use std::test::Fail;
@@ -35,6 +35,15 @@ fn comes(mark: &AtomicBool) -> bool {
 #[derive(Drop)]
 struct Gated {
     marks: Option<Arc<Marks, Global>>,
+}
+
+/// Contracts see nothing of it, so that a share equals its value whatever its marks are.
+impl Model for Gated {
+    ghost use Rattle.std.specs.Prelude.{ℕ};
+
+    ghost Value = { ℕ };
+
+    ghost view = { λ v. 0 };
 }
 
 impl Share for Gated {
