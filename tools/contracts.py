@@ -40,13 +40,14 @@ def braced(lines, number):
 
 
 class Crate:
-    """A crate: its clauses by call, its public calls and its tests, its ghost members by type, and its words."""
+    """A crate: its clauses by call, its public calls and its tests, its ghost members by type, its words, and the files of each."""
 
     def __init__(self, folder):
         self.name, self.folder = folder.name, folder
         self.clauses, self.public, self.tests, self.ghosts = {}, set(), set(), {}
         self.for_c = set()
         self.words, self.links = set(), {}
+        self.files, self.test_files, self.word_files = {}, {}, {}
         for path in sorted((folder / "src").rglob("*.rt")):
             self.read_source(path)
         for path in sorted((folder / "specs").rglob("*.antt")):
@@ -77,8 +78,10 @@ class Crate:
             if m:
                 name = (owner + "::" if owner else "") + m.group(3)
                 current = self.clauses.setdefault(name, {})
+                self.files.setdefault(name, set()).add(path)
                 if test:
                     self.tests.add(m.group(3))
+                    self.test_files.setdefault(m.group(3), set()).add(path)
                 elif in_trait or (m.group(1) or "").strip() == "pub":
                     self.public.add(name)
                 if m.group(2):
@@ -91,6 +94,7 @@ class Crate:
             m = GHOST.match(line)
             if m and owner:
                 self.ghosts.setdefault(owner, {})[m.group(1)] = braced(lines, number)
+                self.files.setdefault(owner, set()).add(path)
 
     def read_words(self, path):
         """Adds the words of one file of specs/, each with the words that its text names."""
@@ -109,6 +113,7 @@ class Crate:
             if m and record is None:
                 current = m.group(3)
                 self.words.add(current)
+                self.word_files.setdefault(current, set()).add(path)
                 # A record's head may go on in the next lines.
                 head = indent if m.group(2) else None
             elif record is None:
@@ -173,7 +178,7 @@ def rows_of(page, columns):
         if not line.startswith("|"):
             continue
         cells = [c.strip() for c in re.split(r"(?<!\\)\|", line)[1:-1]]
-        if len(cells) == columns and not set(cells[0]) <= set("-: ") and cells[0] not in ("Promise", "Word", "It reads"):
+        if len(cells) == columns and not set(cells[0]) <= set("-: ") and cells[0] not in ("Promise", "Word", "It reads", "Rule", "Label"):
             yield section, number, cells
 
 
