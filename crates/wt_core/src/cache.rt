@@ -122,7 +122,7 @@ impl<K: CacheKey, V: Share + Weighs> Core<K, V> {
         ensures lawful { IsLawful K.eq V.weight self.now }
         ensures small { AreSmall result }
     {
-        // These two show the laws of their parts.
+        // For the prover: shows `lawful` of the two parts.
         let _additions = self.sketch.additions();
         let _open = self.flights.len();
         Stats {

@@ -73,7 +73,7 @@ pub(crate) fn open_after<K: CacheKey, V: Share + Weighs>(
 ) -> usize
     ensures { result ≡ length (step K.eq K.word V.weight core.now call.now).state.flights.rows }
 {
-    // For the prover: what holds of the cache bounds the open loads.
+    // For the prover: shows what holds of the cache, which bounds the open loads.
     let _stats = core.stats();
     let open = core.open_flights();
     match call {

@@ -78,7 +78,7 @@ impl<K: CacheKey, V: Share + Weighs + Answers<K>, S: ShardLedger, H: Ledger> Sha
         if let Some(fault) = refusal(&self.core, self.config.bound, self.config.flights, &call) {
             return Err(fault);
         }
-        // For the prover: how many loads are open after the step, and how many notices it tells.
+        // For the prover: shows how many loads are open after the step, and how many it tells of.
         steps_keep_counts::<K, V>();
         steps_tell_few::<K, V>();
         let rows = open_after(&self.core, &call);
