@@ -5,6 +5,7 @@ mod fault;
 mod key;
 mod name;
 mod rows;
+mod seeded;
 mod shared;
 #[cfg(test)]
 mod tests;
@@ -14,5 +15,6 @@ pub use fault::{Fault, Field, NoMemory};
 pub use key::CacheKey;
 pub use name::Name;
 pub use rows::{bits_for, places, shard_of};
+pub use seeded::{FixedBytes, Seed, Seeded, seeds_tell_keys_apart};
 pub use shared::Shared;
 pub use value::{Answers, Share};

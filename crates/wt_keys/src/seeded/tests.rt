@@ -1,0 +1,209 @@
+use crate::{CacheKey, FixedBytes, Name, Seed, places, shard_of};
+use std::alloc::Global;
+use std::collections::HashSet;
+use std::hash::{BuildHasher, BuildHasherDefault, FoldHasher};
+use std::io;
+use std::process::Abort;
+use std::random::RandomSource;
+use std::test::Fail;
+
+const AIMED: usize = 1000;
+
+// A source that has no bytes to give.
+struct Broken;
+
+impl RandomSource for Broken {
+    fn fill_bytes(&self, _buf: &mut [u8]) -> io::Result<()> {
+        Err(io::Error::from_raw_os_error(5))
+    }
+}
+
+// The seed of the bytes 0 to 15, as in the paper on SipHash.
+fn counted() -> io::Result<Seed> {
+    Seed::new(&FixedBytes([0, 1, 2, 3, 4, 5, 6, 7, 8, 9, 10, 11, 12, 13, 14, 15]))
+}
+
+fn other() -> io::Result<Seed> {
+    Seed::new(&FixedBytes([7; 16]))
+}
+
+fn name(bytes: &[u8]) -> Result<Name, Fail> {
+    Name::from_bytes(bytes).ok_or_else(|| Fail::new("more than 24 bytes"))
+}
+
+fn word_of<K: CacheKey>(key: K) -> u64 {
+    key.word()
+}
+
+// The words are those of SipHash-1-3 in Rust's library, and of a second one in Python.
+#[test]
+fn a_word_is_the_keyed_hash_of_a_number(rt: HostRuntime) -> Result<(), Fail> {
+    let seed = counted()?;
+    let rows = [
+        (0, 0x5CB9_6F6B_A2A4_FCFC),
+        (1, 0x32C5_EA5C_E472_F19B),
+        (2, 0x7F38_FB9F_024F_C6EC),
+        (0x0706_0504_0302_0100, 0x3690_9511_8D29_9A8E),
+    ];
+    for (number, word) in rows {
+        assert_eq!(rt; word_of(seed.key(number)), word);
+        assert_eq!(rt; *seed.key(number).key(), number);
+    }
+    Ok(())
+}
+
+// A name feeds its length in eight bytes, and then its bytes.
+#[test]
+fn a_word_is_the_keyed_hash_of_a_name(rt: HostRuntime) -> Result<(), Fail> {
+    let seed = counted()?;
+    let rows: [(&[u8], u64); 4] = [
+        (b"", 0x5CB9_6F6B_A2A4_FCFC),
+        (b"a", 0x191E_FFD3_459C_7E1D),
+        (b"foobar", 0x0E94_F46B_C3C3_4186),
+        (&[7; 24], 0x634E_363F_C7DD_854F),
+    ];
+    for (bytes, word) in rows {
+        let key = seed.key(name(bytes)?);
+        assert_eq!(rt; word_of(key), word);
+        assert!(rt; key.key().as_bytes() == bytes);
+    }
+    Ok(())
+}
+
+#[test]
+fn keys_of_one_seed_are_equal_where_the_keys_are(rt: HostRuntime) -> Result<(), Fail> {
+    let seed = counted()?;
+    let mut seen = HashSet::new(rt.alloc());
+    for bytes in [b"a" as &[u8], b"b", b"eight678", b"eight678 and more"] {
+        assert!(rt; seen.insert(seed.key(name(bytes)?))?);
+        assert!(rt; !seen.insert(seed.key(name(bytes)?))?);
+        assert!(rt; seen.contains(&seed.key(name(bytes)?)));
+    }
+    assert!(rt; seed.key(1u64) == seed.key(1u64));
+    assert!(rt; seed.key(1u64) != seed.key(2u64));
+    Ok(())
+}
+
+#[test]
+fn keys_of_two_seeds_differ(rt: HostRuntime) -> Result<(), Fail> {
+    let (one, other) = (counted()?, other()?);
+    assert!(rt; one.key(1u64) != other.key(1u64));
+    assert!(rt; one.key(name(b"a")?) != other.key(name(b"a")?));
+    let mut seen = HashSet::new(rt.alloc());
+    seen.insert(one.key(1u64))?;
+    assert!(rt; !seen.contains(&other.key(1u64)));
+    Ok(())
+}
+
+#[test]
+fn the_system_gives_another_seed_each_time(rt: HostRuntime) -> Result<(), Fail> {
+    let (one, other) = (Seed::new(&rt)?, Seed::new(&rt)?);
+    // That both words agree has one chance in 2^64.
+    assert!(rt; one.key(1u64) != other.key(1u64));
+    Ok(())
+}
+
+#[test]
+fn a_source_that_fails_gives_no_seed(rt: HostRuntime) {
+    assert!(rt; Seed::new(&Broken).is_err());
+}
+
+#[test]
+fn a_seed_prints_no_bit_of_itself_and_a_key_no_word(rt: HostRuntime) -> Result<(), Fail> {
+    let seed = counted()?;
+    assert_eq!(rt;
+        format!(in rt.alloc(); "{seed:?}")?.as_str(),
+        "Seed { state: RandomState { .. } }"
+    );
+    assert_eq!(rt;
+        format!(in rt.alloc(); "{:?}", seed.key(7u64))?.as_str(),
+        "7"
+    );
+    assert_eq!(rt;
+        format!(in rt.alloc(); "{:>3}", seed.key(7u64))?.as_str(),
+        "  7"
+    );
+    assert_eq!(rt;
+        format!(in rt.alloc(); "{:?}", seed.key(name(b"foobar")?))?.as_str(),
+        "\"foobar\""
+    );
+    Ok(())
+}
+
+// A key for each number.
+trait Numbered: CacheKey + Drop {
+    fn numbered(number: u64) -> Option<Self>;
+}
+
+impl Numbered for u64 {
+    fn numbered(number: u64) -> Option<u64> {
+        Some(number)
+    }
+}
+
+impl Numbered for Name {
+    fn numbered(number: u64) -> Option<Name> {
+        Name::from_bytes(&number.to_be_bytes())
+    }
+}
+
+// Which of 64 groups a table looks into first for a key.
+fn group_of<K: CacheKey + Drop>(key: K) -> u64 {
+    let hash = BuildHasherDefault::<FoldHasher>::new().hash_one(key);
+    (hash ^ (hash >> 32)) & 63
+}
+
+fn is_aimed<K: CacheKey + Drop>(key: K) -> bool {
+    let word = key.word();
+    shard_of(word, 4) == 0 && places(word, 6)[0] == 0 && group_of(key) == 0
+}
+
+// Keys that all meet in one shard, at one place of a hash row, and in one group of a table.
+fn aimed<K: Numbered>(alloc: Global) -> Result<Vec<K>, Fail> {
+    let mut keys = Vec::new(alloc);
+    for number in 0..u64::MAX {
+        if keys.len() == AIMED {
+            break;
+        }
+        if let Some(key) = K::numbered(number) {
+            if is_aimed(key) {
+                keys.push(key)?;
+            }
+        }
+    }
+    Ok(keys)
+}
+
+fn expect_apart<K: Numbered>(rt: &impl Abort, alloc: Global) -> Result<(), Fail> {
+    let seed = counted()?;
+    let mut words = HashSet::new(alloc);
+    let mut groups = HashSet::new(alloc);
+    let mut row = HashSet::new(alloc);
+    let mut shards = [0u32; 4];
+    for key in aimed::<K>(alloc)? {
+        let seeded = seed.key(key);
+        words.insert(seeded.word())?;
+        groups.insert(group_of(seeded))?;
+        row.insert(places(seeded.word(), 6)[0])?;
+        let shard = &mut shards[shard_of(seeded.word(), 4)];
+        *shard = shard.saturating_add(1);
+    }
+    // By chance 16 keys are in each of the 64 groups and at each of the 64 places, and 250 in each shard.
+    assert_eq!(rt; words.len(), AIMED);
+    assert_eq!(rt; groups.len(), 64);
+    assert_eq!(rt; row.len(), 64);
+    for shard in shards {
+        assert!(rt; shard > 200);
+    }
+    Ok(())
+}
+
+#[test]
+fn aimed_numbers_part_under_a_seed(rt: HostRuntime) -> Result<(), Fail> {
+    expect_apart::<u64>(&rt, rt.alloc())
+}
+
+#[test]
+fn aimed_names_part_under_a_seed(rt: HostRuntime) -> Result<(), Fail> {
+    expect_apart::<Name>(&rt, rt.alloc())
+}
