@@ -28,7 +28,8 @@ impl<
     /// waits for no load.
     ///
     /// `now` is in milliseconds. `StepsSpent` comes before `NoMemory`, which only a hit can meet. Takes
-    /// the lock of the key's shard for one step. Expected O(1).
+    /// the lock of the key's shard for one step. Expected O(1) for keys that nobody picks (see
+    /// `Seeded`).
     pub fn get_if_present<R: Wait>(
         &self,
         rt: &R,
@@ -59,8 +60,8 @@ impl<
     /// is no longer joined, and its value not stored.
     ///
     /// `now` is in milliseconds. `TooHeavy` comes before `StepsSpent`, and both before memory is asked
-    /// for; a refused value is dropped. Takes the lock of the key's shard for one step. Expected O(1),
-    /// O(entries) where many leave.
+    /// for; a refused value is dropped. Takes the lock of the key's shard for one step. Expected
+    /// O(1) for keys that nobody picks (see `Seeded`), O(entries) where many leave.
     pub fn put<R: Wait>(
         &self,
         rt: &R,
@@ -92,7 +93,7 @@ impl<
     /// no longer joined, and its value not stored.
     ///
     /// `now` is in milliseconds. Takes no memory of its own, and the lock of the key's shard for one
-    /// step. Expected O(1).
+    /// step. Expected O(1) for keys that nobody picks (see `Seeded`).
     pub fn invalidate<R: Wait>(
         &self,
         rt: &R,
@@ -122,7 +123,7 @@ impl<
     /// returns whether there was one. The key's entry stays, unless it has expired: then it leaves.
     ///
     /// `now` is in milliseconds. Takes no memory of its own, and the lock of the key's shard for one
-    /// step. Expected O(1).
+    /// step. Expected O(1) for keys that nobody picks (see `Seeded`).
     pub fn forget<R: Wait>(
         &self,
         rt: &R,

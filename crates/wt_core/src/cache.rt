@@ -188,14 +188,16 @@ impl<K: CacheKey, V: Share + Weighs> Core<K, V> {
         self.flights.len()
     }
 
-    /// Returns the open load with an id, if there is one. Takes no memory. Expected O(1).
+    /// Returns the open load with an id, if there is one. Takes no memory. Expected O(1): the cache
+    /// itself picks the ids.
     pub fn row(&self, id: u64) -> Option<Row<K>>
         ensures { result ≡ row id self.now.flights }
     {
         self.flights.row(id)
     }
 
-    /// Returns the open load with an id, if there is one and it is the key's. Takes no memory. Expected O(1).
+    /// Returns the open load with an id, if there is one and it is the key's. Takes no memory.
+    /// Expected O(1): the cache itself picks the ids.
     pub fn row_of(&self, id: u64, key: K) -> Option<Row<K>>
         ensures { result ≡ row_of K.eq key id self.now.flights }
     {

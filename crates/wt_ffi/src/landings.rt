@@ -14,7 +14,8 @@ use wt_core::{Call, Land};
 /// Closes a load with a value, which is stored where the load is current and the value not too heavy.
 ///
 /// `RD_KEPT` where it was stored, else `RD_LOOSE`, both with the number of sharers; `RD_GONE` where no such
-/// load of the key is open. Takes memory only where it stores. Expected O(1), O(entries) in a trim.
+/// load of the key is open. Takes memory only where it stores. Expected O(1) for keys that nobody
+/// picks, O(entries) in a trim.
 #[unsafe(no_mangle)]
 pub extern "C" fn rd_land_keep(
     alloc: Global,
@@ -48,7 +49,7 @@ pub extern "C" fn rd_land_keep(
 
 /// Closes a load with a value that isn't to be stored: `RD_LOOSE` with the number of sharers, or `RD_GONE`.
 ///
-/// Takes no memory. Expected O(1).
+/// Takes no memory. Expected O(1) for keys that nobody picks.
 #[unsafe(no_mangle)]
 pub extern "C" fn rd_land_loose(
     alloc: Global,
@@ -76,7 +77,7 @@ pub extern "C" fn rd_land_loose(
 
 /// Closes a load that failed: `RD_FAILED` with the number of sharers, or `RD_GONE`.
 ///
-/// Takes no memory. Expected O(1).
+/// Takes no memory. Expected O(1) for keys that nobody picks.
 #[unsafe(no_mangle)]
 pub extern "C" fn rd_land_failed(
     alloc: Global,

@@ -11,7 +11,8 @@ use wt_core::Call;
 
 /// Takes the key's entry out: `RD_DROPPED`, with 1 where an unexpired entry left, else 0.
 ///
-/// The key's current load stores nothing. Takes no memory. Expected O(1).
+/// The key's current load stores nothing. Takes no memory. Expected O(1) for keys that nobody
+/// picks.
 #[unsafe(no_mangle)]
 pub extern "C" fn rd_drop_key(
     alloc: Global,
@@ -38,7 +39,7 @@ pub extern "C" fn rd_drop_key(
 
 /// Lets no further caller join the key's current load: `RD_FORGOT`, with 1 where there was one, else 0.
 ///
-/// That load stores nothing. Takes no memory. Expected O(1).
+/// That load stores nothing. Takes no memory. Expected O(1) for keys that nobody picks.
 #[unsafe(no_mangle)]
 pub extern "C" fn rd_forget(
     alloc: Global,

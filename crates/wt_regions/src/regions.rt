@@ -92,8 +92,9 @@ impl<K: CacheKey, V: Share + Weighs> Regions<K, V> {
     /// probation to protected.
     ///
     /// An expired entry is `Stale` and stays where it is. `now` is in milliseconds. Only a hit takes
-    /// memory: a share for the caller, and from probation one or two more with a place for each. Expected
-    /// O(1): the key is looked up in each region at most twice. The rule of the move is segmented LRU's.
+    /// memory: a share for the caller, and from probation one or two more with a place for each.
+    /// Expected O(1) for keys that nobody picks (see `Seeded`): the key is looked up in each region
+    /// at most twice. The rule of the move is segmented LRU's.
     pub fn get(&mut self, key: K, now: u64) -> Result<Found<V>, NoMemory>
         ensures found { IfOk result (λ found. found ≡ found_at K.eq key now self.old) }
         ensures state { OnOk result (self.new ≡ looked_at K.eq key now self.old) }
@@ -128,8 +129,9 @@ impl<K: CacheKey, V: Share + Weighs> Regions<K, V> {
     /// the weights are above the bound, never the one just stored. Notices are told in this order.
     ///
     /// `now` is in milliseconds, weights are the caller's. `TooHeavy` comes before memory is asked for;
-    /// `NoMemory` where a place or a share of a value that moves was refused. Expected O(1), O(entries)
-    /// where a trim takes many out. The duel is TinyLFU's; that a tie refuses the candidate is ours.
+    /// `NoMemory` where a place or a share of a value that moves was refused. Expected O(1) for
+    /// keys that nobody picks (see `Seeded`), O(entries) where a trim takes many out. The duel is
+    /// TinyLFU's; that a tie refuses the candidate is ours.
     pub fn store(
         &mut self,
         key: K,
@@ -199,7 +201,7 @@ impl<K: CacheKey, V: Share + Weighs> Regions<K, V> {
     /// Takes the key's entry out, and answers whether an unexpired one left.
     ///
     /// It leaves as `Explicit`, an expired one as `Expired`. `now` is in milliseconds. Takes no memory.
-    /// Expected O(1).
+    /// Expected O(1) for keys that nobody picks (see `Seeded`).
     pub fn remove(&mut self, key: K, now: u64, notices: &mut Notices<K, V>) -> bool
         requires room { self.old.caps.entries ≤ notices.old.room }
         ensures answer { result ≡ has_at K.eq key now self.old }

@@ -26,7 +26,7 @@ impl<K: CacheKey, V: Share + Weighs + Answers<K>, S: ShardLedger, H: Ledger> Sha
     /// value, or `Absent`.
     ///
     /// `StepsSpent` comes before memory is asked for, which a hit takes and the lagging copy may.
-    /// Expected O(1), and what the dropped records cost.
+    /// Expected O(1) for keys that nobody picks (see `Seeded`), and what the dropped records cost.
     pub fn look(
         &mut self,
         mine: &mut Shares<S, H>,
@@ -74,8 +74,8 @@ impl<K: CacheKey, V: Share + Weighs + Answers<K>, S: ShardLedger, H: Ledger> Sha
     /// Answers `Hit`, a `Join` with a ticket, or a `Lead` with the right to load and a ticket; or
     /// `HitLead`, where the entry is due. Leads and tickets are of the landing that the shard keeps
     /// for the load; the lead's moment is `now`, in milliseconds. `StepsSpent` comes before
-    /// `TooManyFlights`, and both before memory is asked for. Expected O(1), O(log(open loads)) on a
-    /// join, and what the dropped records cost.
+    /// `TooManyFlights`, and both before memory is asked for. Expected O(1) for keys that nobody
+    /// picks (see `Seeded`), O(log(open loads)) on a join, and what the dropped records cost.
     pub fn seek(
         &mut self,
         mine: &mut Shares<S, H>,

@@ -23,7 +23,8 @@ impl<K: CacheKey, V: Share + Weighs + Answers<K>, S: ShardLedger, H: Ledger> Sha
     /// longer joined.
     ///
     /// `now` is in milliseconds. `StepsSpent` comes before memory is asked for, which only the
-    /// lagging copy may take. Expected O(1), and what the dropped records cost.
+    /// lagging copy may take. Expected O(1) for keys that nobody picks (see `Seeded`), and what the
+    /// dropped records cost.
     pub fn drop_key(
         &mut self,
         mine: &mut Shares<S, H>,
@@ -112,7 +113,8 @@ impl<K: CacheKey, V: Share + Weighs + Answers<K>, S: ShardLedger, H: Ledger> Sha
     /// whether there was one.
     ///
     /// `now` is in milliseconds. `StepsSpent` comes before memory is asked for, which only the
-    /// lagging copy may take. Expected O(1), and what the dropped records cost.
+    /// lagging copy may take. Expected O(1) for keys that nobody picks (see `Seeded`), and what the
+    /// dropped records cost.
     pub fn forget(
         &mut self,
         mine: &mut Shares<S, H>,

@@ -24,8 +24,8 @@ impl<K: CacheKey, V: Share + Weighs + Answers<K>, S: ShardLedger, H: Ledger> Sha
     /// Stores the value under the key, in place of one that is there.
     ///
     /// `now` is in milliseconds. `TooHeavy` comes before `StepsSpent`, and both before memory is
-    /// asked for; the refused value is dropped. Expected O(1), O(entries) where many leave, and
-    /// what the dropped records cost.
+    /// asked for; the refused value is dropped. Expected O(1) for keys that nobody picks (see
+    /// `Seeded`), O(entries) where many leave, and what the dropped records cost.
     pub fn put(
         &mut self,
         mine: &mut Shares<S, H>,

@@ -27,8 +27,9 @@ impl<K: CacheKey, V: Share + Weighs + Answers<K> + Send + Sync, B: Books> Shards
     /// the number of the step there.
     ///
     /// `now` is in milliseconds. `StepsSpent` comes before memory is asked for, which a hit takes
-    /// and the shard's lagging copy may. Takes that shard's lock, for one step. Expected O(1). Not
-    /// promised: that it returns, and that the state of which it tells is the present one.
+    /// and the shard's lagging copy may. Takes that shard's lock, for one step. Expected O(1) for
+    /// keys that nobody picks (see `Seeded`). Not promised: that it returns, and that the state of
+    /// which it tells is the present one.
     pub fn look<R: Wait>(
         &self,
         rt: &R,
@@ -68,7 +69,8 @@ impl<K: CacheKey, V: Share + Weighs + Answers<K> + Send + Sync, B: Books> Shards
     /// Answers `Hit`, a `Join` with a ticket, or a `Lead` with the right to load and a ticket; or
     /// `HitLead`, where the entry is due. `now` is in milliseconds. `StepsSpent` comes before
     /// `TooManyFlights`, and both before memory is asked for. Takes that shard's lock, for one
-    /// step. Expected O(1), O(log(open loads)) on a join. Not promised: that it returns.
+    /// step. Expected O(1) for keys that nobody picks (see `Seeded`), O(log(open loads)) on a join.
+    /// Not promised: that it returns.
     pub fn seek<R: Wait>(
         &self,
         rt: &R,

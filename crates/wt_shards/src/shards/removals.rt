@@ -23,8 +23,8 @@ impl<K: CacheKey, V: Share + Weighs + Answers<K> + Send + Sync, B: Books> Shards
     /// step at the key's shard. Its current load is no longer joined.
     ///
     /// `now` is in milliseconds. `StepsSpent` comes before memory is asked for, which only the
-    /// shard's lagging copy may take. Takes that shard's lock, for one step. Expected O(1). Not
-    /// promised: that it returns.
+    /// shard's lagging copy may take. Takes that shard's lock, for one step. Expected O(1) for keys
+    /// that nobody picks (see `Seeded`). Not promised: that it returns.
     pub fn drop_key<R: Wait>(
         &self,
         rt: &R,
@@ -61,8 +61,8 @@ impl<K: CacheKey, V: Share + Weighs + Answers<K> + Send + Sync, B: Books> Shards
     /// whether there was one, and the number of the step at the key's shard.
     ///
     /// `now` is in milliseconds. `StepsSpent` comes before memory is asked for, which only the
-    /// shard's lagging copy may take. Takes that shard's lock, for one step. Expected O(1). Not
-    /// promised: that it returns.
+    /// shard's lagging copy may take. Takes that shard's lock, for one step. Expected O(1) for keys
+    /// that nobody picks (see `Seeded`). Not promised: that it returns.
     pub fn forget<R: Wait>(
         &self,
         rt: &R,

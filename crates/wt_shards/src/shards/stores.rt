@@ -26,7 +26,8 @@ impl<K: CacheKey, V: Share + Weighs + Answers<K> + Send + Sync, B: Books> Shards
     ///
     /// `now` is in milliseconds. `TooHeavy` comes before `StepsSpent`, and both before memory is
     /// asked for; the refused value is dropped. Takes that shard's lock, for one step. Expected
-    /// O(1), O(entries) where many leave. Not promised: that it returns.
+    /// O(1) for keys that nobody picks (see `Seeded`), O(entries) where many leave. Not promised:
+    /// that it returns.
     pub fn put<R: Wait>(
         &self,
         rt: &R,
