@@ -1,8 +1,12 @@
 -- The turns of a thread, a line at a time.
-use Rattle.std.proofs.Common.{◌≡◌, ℕ, ◌+◌, Bool, true, false, List, [], ◌∷◌, length, refl, sym, subst, arith}
-use Rattle.wt_replay.specs.Turns.{AreTurns, IsTurn}
-use Rattle.wt_replay.specs.declared.line.Act.{Act}
-use Rattle.wt_replay.specs.declared.line.Line.{Line}
+use Rattle.std.proofs.Common.{◌≡◌, ℕ, ◌+◌, ◌-◌, ◌<◌, ◌≤◌, ◌%◌, ◌==◌, Bool, true, false, List, [], ◌∷◌, length, get_or, Ok, Err, Result, IsOk, refl, sym, subst, arith}
+use Rattle.std.proofs.lemmas.Bool.Decides.{nat_tests}
+use Rattle.wt_cache.specs.Cached.{Cached}
+use Rattle.wt_replay.specs.Turns.{AreDone, AreTurns, HasActed, IsDone, IsTurn, is_turn, unmade}
+use Rattle.wt_replay.specs.declared.turns.RunFault.{RunFault}
+use Rattle.wt_trace.specs.Stops.{AreAsked}
+use Rattle.wt_trace.specs.declared.line.Act.{Act}
+use Rattle.wt_trace.specs.declared.line.Line.{Line}
 use Rattle.wt_shards.specs.Passes.{Passed}
 
 -- a line of the thread's own
@@ -23,3 +27,37 @@ module _ {K : Type 0} (own : ℕ → Bool) (passed : ℕ → Type 0) (acted : Ac
   pub no_turn : (rest : List (Line K)) (p : Passed) → length rest ≡ 0 → AreTurns own passed acted n rest p p
   no_turn [] p none = refl
   no_turn (l ∷ ls) p none = absurd (omega arith)
+
+-- who did a line of its own was let through
+let_through : (own : Bool) (passed : Type 0) (acted : Passed → Passed → Type 0) (old new : Passed) → own ≡ true → IsTurn own passed acted old new → passed
+let_through true passed acted old new is (asked, done) = asked
+let_through false passed acted old new is turn = absurd (cc)
+
+-- some thread's turns with these lines
+abbrev HasTurns : {K : Type 0} → (ℕ → Bool) → (ℕ → Type 0) → (Act K → Passed → Passed → Type 0) → ℕ → List (Line K) → Type 0
+HasTurns own passed acted n ls = (old : Passed) × (end : Passed) × AreTurns own passed acted n ls old end
+
+module _ {K : Type 0} (threads : ℕ) (passed : ℕ → Type 0) (acted : Act K → Passed → Passed → Type 0) (some : 1 ≤ threads) where
+  -- each line is a thread's, so where all did their turns each was let through
+  all_asked : (n : ℕ) (ls : List (Line K)) → 1 ≤ n → ((t : ℕ) → t < threads → HasTurns (is_turn threads t) passed acted n ls) → AreAsked (λ _. true) passed n ls
+  all_asked n [] from turns = tt
+  all_asked n (l ∷ ls) from turns =
+      let t : ℕ = (n - 1) % threads in
+      let here = turns t (omega arith) in
+      let own : is_turn threads t n ≡ true = grind (arith, nat_tests) in
+      let later : (u : ℕ) → u < threads → HasTurns (is_turn threads u) passed acted (n + 1) ls =
+      λ u within. let there = turns u within in (there.1.1.0, (there.1.0, there.1.1.1.1)) in
+      ((λ _. let_through (is_turn threads t n) (passed n) (acted l.act) here.0 here.1.1.0 own here.1.1.1.0), all_asked (n + 1) ls (omega arith) later)
+
+-- what a thread handed back that didn't stop
+ok_done : {K : Type 0} (word : K → ℕ) (c : Cached) (answers : ℕ → Bool → Type 0) (first : ℕ) (lines : List (Line K)) (threads t : ℕ) (r : Result Passed RunFault)
+    → IsOk r → IsDone word c answers first lines threads t r → HasTurns (is_turn threads t) (λ n. answers n true) (HasActed word c.layout c.lined) first lines
+ok_done word c answers first lines threads t (Ok pass) ok done = (_, (pass, done.0))
+ok_done word c answers first lines threads t (Err fault) ok done = absurd ok
+
+-- where no thread stopped each line was let through
+pub done_asked : {K : Type 0} (word : K → ℕ) (c : Cached) (answers : ℕ → Bool → Type 0) (first : ℕ) (lines : List (Line K)) (threads : ℕ) (ran : List (Result Passed RunFault))
+    → 1 ≤ first → 1 ≤ threads → AreDone word c answers first lines threads ran → ((t : ℕ) → t < threads → IsOk (get_or ran t unmade)) → AreAsked (λ _. true) (λ n. answers n true) first lines
+done_asked word c answers first lines threads ran from some done ok =
+    all_asked threads (λ n. answers n true) (HasActed word c.layout c.lined) some first lines from
+        (λ t within. ok_done word c answers first lines threads t (get_or ran t unmade) (ok t within) (done t within))

@@ -2,10 +2,10 @@
 use Rattle.std.proofs.Common.{◌≡◌, ℕ, Option, None, Some, Err, refl, sym, subst}
 use Rattle.std.specs.Option.{option_map, option_or}
 use Rattle.wt_replay.specs.ByTurn.{IsTurnFault, faulty, fault_in, first_open}
-use Rattle.wt_replay.specs.Report.{IsVerdict}
-use Rattle.wt_replay.specs.Trace.{Trace}
-use Rattle.wt_replay.specs.declared.fault.ReplayFault.{ReplayFault}
-use Rattle.wt_replay.specs.declared.fault.ReplayFault.TheVariants.{Cache, BadLine, LineTooLong, TooManyLines, ReadFault, WriteFault, GateShut}
+use Rattle.wt_trace.specs.Report.{IsVerdict}
+use Rattle.wt_trace.specs.Trace.{Trace}
+use Rattle.wt_trace.specs.declared.fault.ReplayFault.{ReplayFault}
+use Rattle.wt_trace.specs.declared.fault.ReplayFault.TheVariants.{Cache, BadLine, LineTooLong, TooManyLines, ReadFault, WriteFault, GateShut}
 
 -- the fault of a verdict is one of a line
 told : (f : ReplayFault) → IsVerdict (Err f) → IsTurnFault (Some f) f

@@ -6,15 +6,16 @@ use Rattle.wt_core.specs.Lawful.{AreSmall}
 use Rattle.wt_core.specs.declared.kinds.Stats.{Stats}
 use Rattle.wt_shards.specs.Totals.{Settled}
 use Rattle.wt_shards.specs.declared.total.Total.{Total}
-use Rattle.wt_replay.specs.Keys.{numbers, names}
-use Rattle.wt_replay.specs.Replayed.{Gave, AppendsFront}
-use Rattle.wt_replay.specs.Report.{summary_of}
-use Rattle.wt_replay.specs.Trace.{Trace, Verdict, lines_of, is_header, trace_from}
-use Rattle.wt_replay.specs.declared.fault.ReplayFault.{ReplayFault}
-use Rattle.wt_replay.specs.declared.fault.ReplayFault.TheVariants.{Cache, BadLine, LineTooLong, TooManyLines, ReadFault, WriteFault, GateShut}
-use Rattle.wt_replay.specs.declared.line.Act.{Act}
-use Rattle.wt_replay.specs.declared.line.Act.TheVariants as act
-use Rattle.wt_replay.specs.declared.line.Line.{Line}
+use Rattle.wt_trace.specs.Keys.{numbers, names}
+use Rattle.wt_trace.specs.Replayed.{Gave, AppendsFront}
+use Rattle.wt_trace.specs.Report.{summary_of}
+use Rattle.wt_trace.specs.Stops.{AreAsked}
+use Rattle.wt_trace.specs.Trace.{Trace, Verdict, lines_of, is_header, trace_from}
+use Rattle.wt_trace.specs.declared.fault.ReplayFault.{ReplayFault}
+use Rattle.wt_trace.specs.declared.fault.ReplayFault.TheVariants.{Cache, BadLine, LineTooLong, TooManyLines, ReadFault, WriteFault, GateShut}
+use Rattle.wt_trace.specs.declared.line.Act.{Act}
+use Rattle.wt_trace.specs.declared.line.Act.TheVariants as act
+use Rattle.wt_trace.specs.declared.line.Line.{Line}
 
 -- whether a line leaves a load open or lands one: no turn has such lines, since there the cache lands what it opens
 abbrev pub opens : {K : Type 0} → Act K → Bool
@@ -44,6 +45,15 @@ faulty_by false lines = faulty 1 (trace_from numbers.read 1 lines)
 -- what is wrong with the bytes of a trace
 abbrev pub turn_fault : List ℕ → Option ReplayFault
 turn_fault bytes = faulty_by (is_header (lines_of bytes)) (lines_of bytes)
+
+-- by whether the first line is a header: each line was let through
+abbrev pub let_through_by : Bool → (ℕ → Type 0) → List (List ℕ) → Type 0
+let_through_by true passed lines = AreAsked (λ _. true) passed 2 (trace_from names.read 2 (drop 1 lines)).lines
+let_through_by false passed lines = AreAsked (λ _. true) passed 1 (trace_from numbers.read 1 lines).lines
+
+-- and so of the bytes of a trace
+abbrev pub IsLetThrough : (ℕ → Type 0) → List ℕ → Type 0
+IsLetThrough passed bytes = let_through_by (is_header (lines_of bytes)) passed (lines_of bytes)
 
 -- numbers whose hits and misses are the look-ups
 abbrev pub AreLooked : Stats → Type 0

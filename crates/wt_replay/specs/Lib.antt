@@ -1,16 +1,2 @@
-pub mod Tally
-pub mod Options
-pub mod FaultLine
-pub mod Keys
-pub mod Line
-pub mod Trace
-pub mod Words
-pub mod Answers
-pub mod Calls
-pub mod Pieces
-pub mod Report
-pub mod Stops
-pub mod Parts
-pub mod Replayed
 pub mod Turns
 pub mod ByTurn

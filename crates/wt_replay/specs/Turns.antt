@@ -1,14 +1,15 @@
 -- What one thread does of a replay turn by turn.
-use Rattle.std.specs.Prelude.{◌≡◌, ◌⊎◌, ℕ, ◌+◌, ◌-◌, ◌%◌, ◌==◌, Bool, true, false, List, [], ◌∷◌, Result, Err, IfOk, IfErr}
+use Rattle.std.specs.Prelude.{◌≡◌, ◌⊎◌, ℕ, ◌+◌, ◌-◌, ◌<◌, ◌%◌, ◌==◌, Bool, true, false, List, [], ◌∷◌, Result, Err, IfOk, IfErr, get_or}
+use Rattle.wt_cache.specs.Cached.{Cached}
 use Rattle.wt_cache.specs.Moves.{HasGot, HasTried}
 use Rattle.wt_cache.specs.declared.got.How.{How}
-use Rattle.wt_replay.specs.declared.line.Act.{Act}
-use Rattle.wt_replay.specs.declared.line.Act.TheVariants as act
-use Rattle.wt_replay.specs.declared.line.Line.{Line}
+use Rattle.wt_trace.specs.declared.line.Act.{Act}
+use Rattle.wt_trace.specs.declared.line.Act.TheVariants as act
+use Rattle.wt_trace.specs.declared.line.Line.{Line}
 use Rattle.wt_replay.specs.declared.turns.RunFault.{RunFault}
 use Rattle.wt_replay.specs.declared.turns.RunFault.TheVariants as run
 use Rattle.wt_keys.specs.declared.fault.Fault.TheVariants.{NoMemory}
-use Rattle.wt_shards.specs.Passes.{Passed, with_step, with_steps}
+use Rattle.wt_shards.specs.Passes.{Passed, new_pass, with_step, with_steps}
 use Rattle.wt_shards.specs.Place.{Layout, home_of}
 
 -- whether line n is thread t's: lines are dealt out in turn
@@ -53,3 +54,11 @@ unmade = Err (run.Cache NoMemory)
 -- a thread did so with its pass, or it stopped
 abbrev pub IsShare : (Passed → Type 0) → (ℕ → Type 0) → Result Passed RunFault → Type 0
 IsShare did shut share = IfOk share did × IfErr share (IsRunStop shut)
+
+-- what thread t hands back: the pass with which it did its turns, or why it stopped
+abbrev pub IsDone : {K : Type 0} → (K → ℕ) → Cached → (ℕ → Bool → Type 0) → ℕ → List (Line K) → ℕ → ℕ → Result Passed RunFault → Type 0
+IsDone word c answers first lines threads t = IsShare (AreTurns (is_turn threads t) (λ n. answers n true) (HasActed word c.layout c.lined) first lines (new_pass c.layout.shards)) (λ n. answers n false)
+
+-- what all threads hand back
+abbrev pub AreDone : {K : Type 0} → (K → ℕ) → Cached → (ℕ → Bool → Type 0) → ℕ → List (Line K) → ℕ → List (Result Passed RunFault) → Type 0
+AreDone word c answers first lines threads ran = (t : ℕ) → t < threads → IsDone word c answers first lines threads t (get_or ran t unmade)

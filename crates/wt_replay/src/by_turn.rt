@@ -5,33 +5,27 @@
 //                                                        └──► a line of 64 ──► workers, each with a pass
 //
 // When all threads have ended the line is closed, the workers end, and all passes are settled.
-ghost use Rattle.std.specs.Prelude.{◌≡◌, ◌*◌, ◌+◌, ◌<◌, ◌≤◌, ℕ, length, vec_len, get_or, IfOk, IfErr, OnOk, IsOk, IfSome, IsNone, None, Err, true, false};
+ghost use Rattle.std.specs.Prelude.{◌≡◌, ◌+◌, ◌≤◌, length, IfOk, IfErr, OnOk, IfSome, None, true};
 ghost use Rattle.wt_core.specs.Lawful.{AreSmall};
-ghost use Rattle.wt_replay.specs.Turns.{AreTurns, HasActed, IsShare, is_turn, unmade};
 ghost use Rattle.wt_shards.specs.Opening.{AreBlanksOf};
-ghost use Rattle.wt_shards.specs.Passes.{new_pass};
-ghost use Rattle.wt_replay.specs.Options.{config_of, option_fault};
-ghost use Rattle.wt_replay.specs.Trace.{lines_of, trace_from};
-ghost use Rattle.wt_replay.specs.ByTurn.{AreLooked, AreSums, IsReady, IsGood};
+ghost use Rattle.wt_trace.specs.Options.{config_of, option_fault};
+ghost use Rattle.wt_trace.specs.Stops.{AreAsked};
+ghost use Rattle.wt_trace.specs.Trace.{lines_of, trace_from};
+ghost use Rattle.wt_replay.specs.ByTurn.{AreLooked, AreSums, IsGood};
 ghost use Rattle.wt_replay.specs.ByTurn as spec;
 
-use crate::fault::ReplayFault;
-use crate::gate::Gate;
-use crate::key::TraceKey;
-use crate::line::{Act, Line, Version};
-use crate::options::Options;
-use crate::report::behind_header;
-use crate::trace::read_lines;
-use crate::turns::{Rules, RunFault, run_loads, run_thread};
-use std::alloc::{AllocError, Global};
+use crate::crew::{gather, stop_of, work_all};
+use crate::turns::{Rules, RunFault};
+use std::alloc::Global;
 use std::marker::Brand;
 use std::sync::Wait;
-use std::thread;
 use std::thread::Threads;
 use wt_cache::{JobLine, LoadingCache};
 use wt_core::Stats;
 use wt_keys::{Fault, Name};
 use wt_shards::{Blanks, Books, Names, Of, Pass, Shards, Total, Totals};
+use wt_trace::{Act, Gate, Line, Options, ReplayFault, TraceKey, Version};
+use wt_trace::{behind_header, read_lines};
 
 // How many loads may wait for a worker.
 const MOST_WAITING: u32 = 64;
@@ -81,157 +75,6 @@ fn sum_of<B: Books>(totals: &Totals<B>) -> Stats
         entries: zero.entries + one.entries + two.entries + three.entries,
         weight: zero.weight + one.weight + two.weight + three.weight,
     }
-}
-
-// What each thread handed back, or why it stopped.
-type Ran<B> = Vec<Result<Pass<B>, RunFault>>;
-
-// What each worker handed back, or its fault.
-type Worked<B> = Vec<Result<Pass<B>, Fault>>;
-
-// Has the threads do their turns.
-fn turns<K: TraceKey, N: Names + Send + Sync, G: Gate, R: Threads + Wait + Sync>(
-    rt: &R,
-    alloc: Global,
-    cache: &LoadingCache<K, Version<K>, Rules, Of<N>>,
-    rules: &Rules,
-    first: u64,
-    lines: &[Line<K>],
-    threads: usize,
-    gate: &G,
-    room: usize,
-) -> Result<Ran<Of<N>>, AllocError>
-    requires { IsReady cache.now.layout.shards cache.now.layout.config.entries room first (length lines.now) threads }
-    ensures each { IfOk result (λ ran. (t : ℕ) → t < threads → IsShare (AreTurns (is_turn threads t) (λ n. G.answers gate.now n true) (HasActed K.word cache.now.layout cache.now.lined) first lines.now (new_pass cache.now.layout.shards)) (λ n. G.answers gate.now n false) (get_or ran.items t unmade)) }
-    ensures len { IfOk result (λ ran. vec_len ran ≡ threads) }
-{
-    thread::map_indices(
-        rt,
-        alloc,
-        threads,
-        &|t: usize| -> Result<Pass<Of<N>>, RunFault>
-            requires { IsReady cache.now.layout.shards cache.now.layout.config.entries room first (length lines.now) threads × (t < threads) }
-            ensures { IsShare (AreTurns (is_turn threads t) (λ n. G.answers gate.entry.now n true) (HasActed K.word cache.entry.now.layout cache.entry.now.lined) first lines.entry.now (new_pass cache.entry.now.layout.shards)) (λ n. G.answers gate.entry.now n false) result }
-        {
-            run_thread(
-                rt, alloc, cache, rules, first, lines, t, threads, gate, room,
-            )
-        },
-    )
-}
-
-// Has the threads do their turns, and closes the line of loads then.
-fn handle_all<K: TraceKey, N: Names + Send + Sync, G: Gate, R: Threads + Wait + Sync>(
-    rt: &R,
-    alloc: Global,
-    cache: &LoadingCache<K, Version<K>, Rules, Of<N>>,
-    rules: &Rules,
-    first: u64,
-    lines: &[Line<K>],
-    threads: usize,
-    gate: &G,
-    room: usize,
-) -> Result<Ran<Of<N>>, AllocError>
-    requires { IsReady cache.now.layout.shards cache.now.layout.config.entries room first (length lines.now) threads }
-    ensures each { IfOk result (λ ran. (t : ℕ) → t < threads → IsShare (AreTurns (is_turn threads t) (λ n. G.answers gate.now n true) (HasActed K.word cache.now.layout cache.now.lined) first lines.now (new_pass cache.now.layout.shards)) (λ n. G.answers gate.now n false) (get_or ran.items t unmade)) }
-    ensures len { IfOk result (λ ran. vec_len ran ≡ threads) }
-{
-    let ran = turns(rt, alloc, cache, rules, first, lines, threads, gate, room);
-    if let Some(line) = cache.line() {
-        line.close(rt);
-    }
-    ran
-}
-
-// Has the workers run loads until the line is closed.
-fn load_all<K: TraceKey, N: Names + Send + Sync, R: Threads + Wait + Sync>(
-    rt: &R,
-    alloc: Global,
-    cache: &LoadingCache<K, Version<K>, Rules, Of<N>>,
-    workers: usize,
-    room: usize,
-) -> Result<Worked<Of<N>>, AllocError>
-    requires room { 4 * cache.now.layout.config.entries ≤ room }
-{
-    thread::map_indices(
-        rt,
-        alloc,
-        workers,
-        &|_worker: usize| -> Result<Pass<Of<N>>, Fault>
-            requires { 4 * cache.now.layout.config.entries ≤ room }
-        { run_loads(rt, alloc, cache, room) },
-    )
-}
-
-// Has the threads do their turns while the workers run loads.
-fn work_all<K: TraceKey, N: Names + Send + Sync, G: Gate, R: Threads + Wait + Sync>(
-    rt: &R,
-    alloc: Global,
-    cache: &LoadingCache<K, Version<K>, Rules, Of<N>>,
-    rules: &Rules,
-    first: u64,
-    lines: &[Line<K>],
-    threads: usize,
-    workers: usize,
-    gate: &G,
-    room: usize,
-) -> (
-    Result<Ran<Of<N>>, AllocError>,
-    Result<Worked<Of<N>>, AllocError>,
-)
-    requires { IsReady cache.now.layout.shards cache.now.layout.config.entries room first (length lines.now) threads }
-    ensures each { IfOk result.0 (λ ran. (t : ℕ) → t < threads → IsShare (AreTurns (is_turn threads t) (λ n. G.answers gate.now n true) (HasActed K.word cache.now.layout cache.now.lined) first lines.now (new_pass cache.now.layout.shards)) (λ n. G.answers gate.now n false) (get_or ran.items t unmade)) }
-    ensures len { IfOk result.0 (λ ran. vec_len ran ≡ threads) }
-{
-    thread::join(
-        rt,
-        || -> Result<Ran<Of<N>>, AllocError>
-            requires { IsReady cache.now.layout.shards cache.now.layout.config.entries room first (length lines.now) threads }
-            ensures { IfOk result (λ ran. (vec_len ran ≡ threads) × ((t : ℕ) → t < threads → IsShare (AreTurns (is_turn threads t) (λ n. G.answers gate.entry.now n true) (HasActed K.word cache.entry.now.layout cache.entry.now.lined) first lines.entry.now (new_pass cache.entry.now.layout.shards)) (λ n. G.answers gate.entry.now n false) (get_or ran.items t unmade))) }
-        { handle_all(rt, alloc, cache, rules, first, lines, threads, gate, room) },
-        || -> Result<Worked<Of<N>>, AllocError>
-            requires { 4 * cache.now.layout.config.entries ≤ room }
-        { load_all(rt, alloc, cache, workers, room) },
-    )
-}
-
-// Why the first thread stopped that did, if one did.
-fn stop_of<P>(ran: &Vec<Result<P, RunFault>>) -> Option<RunFault>
-    ensures none { IsNone result → (t : ℕ) → t < vec_len ran.now → IsOk (get_or ran.now.items t unmade) }
-    ensures some { IfSome result (λ fault. (t : ℕ) × (t < vec_len ran.now) × (get_or ran.now.items t unmade ≡ Err fault)) }
-{
-    for t in 0..ran.len() {
-        if let Err(fault) = &ran[t] {
-            return Some(*fault);
-        }
-    }
-    None
-}
-
-// The passes of the threads, of which none stopped, and of the workers, or the fault of one of these.
-fn gather<P: Drop>(
-    alloc: Global,
-    ran: Vec<Result<P, RunFault>>,
-    worked: Vec<Result<P, Fault>>,
-) -> Result<Vec<P>, Fault> {
-    let mut passes = Vec::new(alloc);
-    for one in ran {
-        if let Ok(pass) = one {
-            if passes.push(pass).is_err() {
-                return Err(Fault::NoMemory);
-            }
-        }
-    }
-    for one in worked {
-        let pass = match one {
-            Ok(pass) => pass,
-            Err(fault) => return Err(fault),
-        };
-        if passes.push(pass).is_err() {
-            return Err(Fault::NoMemory);
-        }
-    }
-    Ok(passes)
 }
 
 // A new cache at given ledgers, with a line where there are workers.
@@ -300,7 +143,8 @@ fn session<K: TraceKey, N: Names + Send + Sync, G: Gate, R: Threads + Wait + Syn
     requires first { (1 ≤ first) × (first ≤ 2) }
     requires lines { length lines.now ≤ 1000000 }
     requires threads { (1 ≤ threads) × (threads ≤ 64) }
-    ensures { IfOk result AreLooked }
+    ensures asked { OnOk result (AreAsked (λ _. true) (λ n. G.answers gate.now n true) first lines.now) }
+    ensures looked { IfOk result AreLooked }
 {
     let cache: LoadingCache<K, Version<K>, Rules, Of<N>> = match opened(
         rt, alloc, blanks, options,
@@ -345,7 +189,8 @@ fn totals_by_turn<K: TraceKey, G: Gate, R: Threads + Wait + Sync>(
     requires first { (1 ≤ first) × (first ≤ 2) }
     requires lines { length lines.now ≤ 1000000 }
     requires threads { (1 ≤ threads) × (threads ≤ 64) }
-    ensures { IfOk result AreLooked }
+    ensures asked { OnOk result (AreAsked (λ _. true) (λ n. G.answers gate.now n true) first lines.now) }
+    ensures looked { IfOk result AreLooked }
 {
     session::<K, Brand, G, R>(
         rt,
@@ -389,6 +234,7 @@ fn sums_of_trace<K: TraceKey, G: Gate, R: Threads + Wait + Sync>(
     requires options { option_fault options.now ≡ None }
     requires first { (1 ≤ first) × (first ≤ 2) }
     requires threads { (1 ≤ threads) × (threads ≤ 64) }
+    ensures asked { OnOk result (AreAsked (λ _. true) (λ n. G.answers gate.now n true) first (trace_from K.read first (lines_of bytes.now)).lines) }
     ensures looked { IfOk result AreLooked }
     ensures sound { OnOk result (spec.faulty first (trace_from K.read first (lines_of bytes.now)) ≡ None) }
     ensures faults { IfErr result (spec.IsTurnFault (spec.faulty first (trace_from K.read first (lines_of bytes.now)))) }
@@ -425,6 +271,7 @@ pub fn sums_by_turn<G: Gate, R: Threads + Wait + Sync>(
 ) -> Result<Stats, ReplayFault>
     requires options { option_fault options.now ≡ None }
     requires threads { (1 ≤ threads) × (threads ≤ 64) }
+    ensures asked { OnOk result (spec.IsLetThrough (λ n. G.answers gate.now n true) bytes.now) }
     ensures looked { IfOk result AreLooked }
     ensures sound { OnOk result (spec.turn_fault bytes.now ≡ None) }
     ensures faults { IfErr result (spec.IsTurnFault (spec.turn_fault bytes.now)) }

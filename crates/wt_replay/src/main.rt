@@ -3,35 +3,20 @@
 
 ghost use Rattle.std.specs.Prelude.{◌≡◌, IfOk, is_ok, if◌then◌else◌};
 
-mod answers;
-mod by_shard;
 mod by_turn;
-mod fault;
-mod gate;
-mod key;
-mod laws;
-mod line;
-mod options;
+mod crew;
 mod replay;
-mod report;
-mod rules;
-mod shard;
-mod tallied;
 #[cfg(test)]
 mod tests;
-mod trace;
 mod turns;
-mod words;
 
 use clap::{Arg, ArgAction, ArgMatches, Command, value_parser};
-use fault::ReplayFault;
-use gate::Open;
-use options::{MOST_THREADS, Options};
-use replay::{replay, replay_by_shard, replay_by_turn};
+use replay::replay_by_turn;
 use std::alloc::Global;
 use std::io;
 use std::process::ExitCode;
-use tallied::Tallied;
+use wt_trace::{MOST_THREADS, Open, Options, ReplayFault, Tallied};
+use wt_trace::{replay, replay_by_shard, status_and_line};
 
 // What `--version` prints.
 const VERSION: &str = "0.1.0";
@@ -122,7 +107,7 @@ fn status_of<R: Eprint>(rt: &R, alloc: Global, outcome: Result<(), ReplayFault>)
     let Err(fault) = outcome else {
         return Ok(0);
     };
-    match fault::status_and_line(alloc, &fault) {
+    match status_and_line(alloc, &fault) {
         Ok((status, line)) => {
             eprint!(rt; "{line}")?;
             Ok(status)

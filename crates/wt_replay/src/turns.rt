@@ -1,22 +1,20 @@
 // What one thread of a replay turn by turn does.
 ghost use Rattle.std.specs.Prelude.{◌≡◌, ◌*◌, ◌+◌, ◌<◌, ◌≤◌, false, true, length, IfOk, OnOk, IfErr};
 ghost use Rattle.wt_core.specs.State.{is_zero};
-ghost use Rattle.wt_replay.specs.Options.{option_fault};
+ghost use Rattle.wt_trace.specs.Options.{option_fault};
 ghost use Rattle.wt_replay.specs.ByTurn.{IsReady};
 ghost use Rattle.wt_replay.specs.Turns.{HasActed, AreTurns, IsTurn, IsRunStop, is_turn};
 ghost use Rattle.wt_shards.specs.Passes.{new_pass};
 
-use crate::gate::Gate;
-use crate::key::TraceKey;
-use crate::line::{Act, Line, Version};
-use crate::options::Options;
-use crate::rules::{fails_by, weight_by};
 use std::alloc::Global;
 use std::sync::Wait;
+use std::sync::atomic::{AtomicBool, Ordering};
 use wt_cache::{Loader, LoadingCache};
 use wt_core::Notices;
 use wt_keys::{CacheKey, Fault};
 use wt_shards::{Books, Pass};
+use wt_trace::{Act, Gate, Line, Options, TraceKey, Version};
+use wt_trace::{fails_by, weight_by};
 
 /// Why a run ended before its last line.
 #[derive(Clone, Copy, Debug)]
@@ -268,11 +266,14 @@ pub(crate) fn run_thread<K: TraceKey, B: Books, G: Gate, R: Wait>(
 }
 
 /// Runs loads with a pass of its own until the line of loads is closed and empty, and hands the pass back.
+///
+/// All that can be refused comes before the line is told to be manned, so that a manned line is served to its end.
 pub(crate) fn run_loads<K: TraceKey, B: Books, R: Wait>(
     rt: &R,
     alloc: Global,
     cache: &LoadingCache<K, Version<K>, Rules, B>,
     room: usize,
+    manned: &AtomicBool,
 ) -> Result<Pass<B>, Fault>
     requires room { 4 * cache.now.layout.config.entries ≤ room }
 {
@@ -289,6 +290,7 @@ pub(crate) fn run_loads<K: TraceKey, B: Books, R: Wait>(
     let Ok(mut notices) = Notices::new(alloc, room) else {
         return Err(Fault::NoMemory);
     };
+    manned.store(true, Ordering::SeqCst);
     let _report = cache.run_worker(rt, &mut pass, &mut hand, &mut notices);
     Ok(pass)
 }

@@ -1,8 +1,8 @@
 // What the words of a command line become.
-use crate::options::Options;
 use crate::{command, options_of};
 use std::alloc::Global;
 use std::test::*;
+use wt_trace::Options;
 
 // The options that these words give, or `None` where the command line refuses them.
 fn options_by(alloc: Global, words: &[&str]) -> Option<Options> {

@@ -1,16 +1,11 @@
 // Replays shard by shard on threads.
-use super::{four_but, replayed};
-use crate::fault::ReplayFault;
-use crate::gate::{Gate, Open};
-use crate::options::Options;
-use crate::replay::replay_by_shard;
-use crate::tallied::Tallied;
+use super::of_four;
 use std::alloc::Global;
 use std::sync::atomic::{AtomicU64, Ordering};
 use std::test::*;
 use std::thread;
 use std::thread::Threads;
-use wt_keys::Field;
+use wt_trace::{Gate, Open, Options, ReplayFault, Tallied, replay, replay_by_shard};
 
 // What is written for an input on so many threads, and how the run ends.
 fn by_shard<H: Threads + Sync + Alloc<A = Global>, G: Gate>(
@@ -28,9 +23,12 @@ fn by_shard<H: Threads + Sync + Alloc<A = Global>, G: Gate>(
     (writer.into_inner(), outcome)
 }
 
-// Four entries a shard, four shards.
-fn four_shards() -> Options {
-    four_but(Field::Shards, 4)
+// What is written for an input on one thread, and how the run ends.
+fn alone(alloc: Global, input: &[u8], options: &Options) -> (Vec<u8>, Result<(), ReplayFault>) {
+    let mut reader = Tallied::new(input);
+    let mut writer = Tallied::new(Vec::new(alloc));
+    let outcome = replay(alloc, &mut reader, &mut writer, options);
+    (writer.into_inner(), outcome)
 }
 
 #[test]
@@ -50,11 +48,11 @@ fn any_number_of_threads_writes_the_same(rt: HostRuntime) {
         ),
     ];
     for (input, report) in rows {
-        let (text, outcome) = replayed(rt.alloc(), input, &four_shards());
+        let (text, outcome) = alone(rt.alloc(), input, &of_four(4));
         assert_eq!(rt; text.as_slice(), report);
         assert_eq!(rt; outcome, Ok(()));
         for threads in [1, 2, 3, 8, 64] {
-            let (text, outcome) = by_shard(&rt, input, &four_shards(), threads, &Open);
+            let (text, outcome) = by_shard(&rt, input, &of_four(4), threads, &Open);
             assert_eq!(rt; text.as_slice(), report);
             assert_eq!(rt; outcome, Ok(()));
         }
@@ -63,7 +61,7 @@ fn any_number_of_threads_writes_the_same(rt: HostRuntime) {
 
 #[test]
 fn a_bad_line_ends_the_report_on_threads_too(rt: HostRuntime) {
-    let (text, outcome) = by_shard(&rt, b"0 P 1\n0 L 1\n0 Q 1\n", &four_shards(), 2, &Open);
+    let (text, outcome) = by_shard(&rt, b"0 P 1\n0 L 1\n0 Q 1\n", &of_four(4), 2, &Open);
     assert_eq!(rt; text.as_slice(), b"1 put\n2 hit 1\n".as_slice());
     assert_eq!(rt; outcome, Err(ReplayFault::BadLine { n: 3 }));
 }
@@ -87,11 +85,11 @@ fn a_shut_gate_is_told_and_nothing_is_written(rt: HostRuntime) {
     let input = b"0 P 1\n0 P 2\n0 P 3\n0 P 4\n";
     // Key 4 is of shard 0, key 3 of shard 1.
     for (threads, gate, n) in [(1, 3, 4), (2, 3, 4), (4, 3, 4), (4, 4, 4)] {
-        let (text, outcome) = by_shard(&rt, input, &four_shards(), threads, &Before(gate));
+        let (text, outcome) = by_shard(&rt, input, &of_four(4), threads, &Before(gate));
         assert!(rt; text.is_empty());
         assert_eq!(rt; outcome, Err(ReplayFault::GateShut { n }));
     }
-    let (_, outcome) = by_shard(&rt, input, &four_shards(), 4, &Before(5));
+    let (_, outcome) = by_shard(&rt, input, &of_four(4), 4, &Before(5));
     assert_eq!(rt; outcome, Ok(()));
 }
 
@@ -136,7 +134,7 @@ impl Gate for Pair {
 
 #[test]
 fn shards_of_two_threads_run_beside_each_other(rt: HostRuntime) {
-    let (text, outcome) = by_shard(&rt, b"0 P 4\n0 P 3\n", &four_shards(), 2, &Pair::new());
+    let (text, outcome) = by_shard(&rt, b"0 P 4\n0 P 3\n", &of_four(4), 2, &Pair::new());
     assert_eq!(rt;
         text.as_slice(),
         b"1 put\n2 put\nlookups 0 hits 0 misses 0 loads 0 failed 0 evicted 0 entries 2 weight 2\n".as_slice()

@@ -1,16 +1,12 @@
 // Replays turn by turn on one shared cache.
+use super::of_four;
 use super::threads::{Before, Pair};
-use super::{four, four_but};
-use crate::fault::ReplayFault;
-use crate::gate::{Gate, Open};
-use crate::options::Options;
 use crate::replay::replay_by_turn;
-use crate::tallied::Tallied;
 use std::alloc::Global;
 use std::sync::Wait;
 use std::test::*;
 use std::thread::Threads;
-use wt_keys::Field;
+use wt_trace::{Gate, Open, Options, ReplayFault, Tallied};
 
 // What is written for an input by so many threads in turn, and how the run ends.
 fn by_turn<H: Threads + Wait + Sync + Alloc<A = Global>, G: Gate>(
@@ -48,7 +44,7 @@ fn one_thread_in_turn_has_the_summary_of_the_report(rt: HostRuntime) {
         ),
     ];
     for (input, summary) in rows {
-        let (text, outcome) = by_turn(&rt, input, &four(), 1, &Open);
+        let (text, outcome) = by_turn(&rt, input, &of_four(1), 1, &Open);
         assert_eq!(rt; outcome, Ok(()));
         assert_eq!(rt; text.as_slice(), summary);
     }
@@ -56,7 +52,7 @@ fn one_thread_in_turn_has_the_summary_of_the_report(rt: HostRuntime) {
 
 #[test]
 fn threads_in_turn_look_each_key_up_once_a_line(rt: HostRuntime) {
-    let mut options = four_but(Field::Shards, 4);
+    let mut options = of_four(4);
     options.turn = 8;
     for workers in [0, 2] {
         options.workers = workers;
@@ -79,7 +75,7 @@ fn a_line_that_no_turn_has_ends_it_with_nothing_written(rt: HostRuntime) {
         ),
     ];
     for (input, fault) in rows {
-        let (text, outcome) = by_turn(&rt, input, &four(), 2, &Open);
+        let (text, outcome) = by_turn(&rt, input, &of_four(1), 2, &Open);
         assert_eq!(rt; outcome, Err(fault));
         assert!(rt; text.is_empty());
     }
@@ -87,14 +83,14 @@ fn a_line_that_no_turn_has_ends_it_with_nothing_written(rt: HostRuntime) {
 
 #[test]
 fn a_shut_gate_ends_the_turns(rt: HostRuntime) {
-    let (text, outcome) = by_turn(&rt, GETS, &four(), 1, &Before(3));
+    let (text, outcome) = by_turn(&rt, GETS, &of_four(1), 1, &Before(3));
     assert_eq!(rt; outcome, Err(ReplayFault::GateShut { n: 3 }));
     assert!(rt; text.is_empty());
 }
 
 #[test]
 fn two_threads_take_turns_beside_each_other(rt: HostRuntime) {
-    let (text, outcome) = by_turn(&rt, b"0 P 4\n0 P 3\n", &four(), 2, &Pair::new());
+    let (text, outcome) = by_turn(&rt, b"0 P 4\n0 P 3\n", &of_four(1), 2, &Pair::new());
     assert_eq!(rt; outcome, Ok(()));
     assert_eq!(rt;
         text.as_slice(),

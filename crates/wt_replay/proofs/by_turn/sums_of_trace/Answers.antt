@@ -1,8 +1,8 @@
 use Rattle.std.proofs.Common.{rules, ◌≡◌, ◌∙◌, ap, sym, None, Err}
 use Rattle.wt_replay.specs.ByTurn.{first_open}
-use Rattle.wt_replay.specs.Trace.{lines_of, trace_from}
+use Rattle.wt_trace.specs.Trace.{lines_of, trace_from}
 use Rattle.wt_replay.proofs.Faulty.{faulty_verdict, not_there}
-use Rattle.wt_replay.proofs.Traces.{verdict_of-trace}
+use Rattle.wt_trace.proofs.Traces.{verdict_of-trace}
 use Rattle.wt_replay.proofs.by_turn.sums_of_trace.Goals as goal
 
 pub returns-in-Err-clause-faults : goal.returns-in-Err-clause-faults

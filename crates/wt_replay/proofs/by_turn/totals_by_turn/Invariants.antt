@@ -1,5 +1,5 @@
 use Rattle.wt_shards.specs.Opening.{names_of}
-use Rattle.wt_replay.specs.Options.{config_of}
+use Rattle.wt_trace.specs.Options.{config_of}
 use Rattle.wt_replay.proofs.by_turn.totals_by_turn.Given as goal
 
 abbrev pub ghosts-session : goal.ghosts-session

@@ -1,4 +1,4 @@
-use Rattle.wt_replay.proofs.Ranges.{divisor_fits, modulus_fits}
+use Rattle.wt_trace.proofs.Ranges.{divisor_fits, modulus_fits}
 use Rattle.wt_replay.proofs.turns.Rules.of.Goals as goal
 
 pub invariant_of-result-clause-some : goal.invariant_of-result-clause-some

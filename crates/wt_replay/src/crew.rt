@@ -1,0 +1,200 @@
+// The threads of a replay turn by turn, and its workers.
+ghost use Rattle.std.specs.Prelude.{◌≡◌, ◌*◌, ◌<◌, ◌≤◌, ℕ, length, vec_len, get_or, IfOk, IfSome, IsOk, IsNone, Err};
+ghost use Rattle.wt_replay.specs.ByTurn.{IsReady};
+ghost use Rattle.wt_replay.specs.Turns.{AreDone, IsDone, unmade};
+
+use crate::turns::{Rules, RunFault, run_loads, run_thread};
+use std::alloc::{AllocError, Global};
+use std::sync::Wait;
+use std::sync::atomic::{AtomicBool, Ordering};
+use std::thread;
+use std::thread::Threads;
+use wt_cache::LoadingCache;
+use wt_keys::Fault;
+use wt_shards::{Names, Of, Pass};
+use wt_trace::{Gate, Line, TraceKey, Version};
+
+// How often is looked for a worker before the lines begin.
+const MOST_LOOKS: u32 = 1_000_000;
+
+/// What each thread handed back, or why it stopped.
+pub(crate) type Ran<B> = Vec<Result<Pass<B>, RunFault>>;
+
+/// What each worker handed back, or its fault.
+pub(crate) type Worked<B> = Vec<Result<Pass<B>, Fault>>;
+
+// Has the threads do their turns.
+fn turns<K: TraceKey, N: Names + Send + Sync, G: Gate, R: Threads + Wait + Sync>(
+    rt: &R,
+    alloc: Global,
+    cache: &LoadingCache<K, Version<K>, Rules, Of<N>>,
+    rules: &Rules,
+    first: u64,
+    lines: &[Line<K>],
+    threads: usize,
+    gate: &G,
+    room: usize,
+) -> Result<Ran<Of<N>>, AllocError>
+    requires { IsReady cache.now.layout.shards cache.now.layout.config.entries room first (length lines.now) threads }
+    ensures each { IfOk result (λ ran. AreDone K.word cache.now (G.answers gate.now) first lines.now threads ran.items) }
+    ensures len { IfOk result (λ ran. vec_len ran ≡ threads) }
+{
+    thread::map_indices(
+        rt,
+        alloc,
+        threads,
+        &|t: usize| -> Result<Pass<Of<N>>, RunFault>
+            requires { IsReady cache.now.layout.shards cache.now.layout.config.entries room first (length lines.now) threads × (t < threads) }
+            ensures { IsDone K.word cache.entry.now (G.answers gate.entry.now) first lines.entry.now threads t result }
+        {
+            run_thread(
+                rt, alloc, cache, rules, first, lines, t, threads, gate, room,
+            )
+        },
+    )
+}
+
+// Closes the line of loads where no worker comes to it, so that each caller loads for itself.
+fn await_worker<K: TraceKey, N: Names + Send + Sync, R: Wait>(
+    rt: &R,
+    cache: &LoadingCache<K, Version<K>, Rules, Of<N>>,
+    manned: &AtomicBool,
+) {
+    let Some(line) = cache.line() else {
+        return;
+    };
+    for _ in 0..MOST_LOOKS {
+        if manned.load(Ordering::SeqCst) {
+            return;
+        }
+        thread::yield_now();
+    }
+    line.close(rt);
+}
+
+// Has the threads do their turns, and closes the line of loads then.
+fn handle_all<K: TraceKey, N: Names + Send + Sync, G: Gate, R: Threads + Wait + Sync>(
+    rt: &R,
+    alloc: Global,
+    cache: &LoadingCache<K, Version<K>, Rules, Of<N>>,
+    rules: &Rules,
+    first: u64,
+    lines: &[Line<K>],
+    threads: usize,
+    gate: &G,
+    room: usize,
+    manned: &AtomicBool,
+) -> Result<Ran<Of<N>>, AllocError>
+    requires { IsReady cache.now.layout.shards cache.now.layout.config.entries room first (length lines.now) threads }
+    ensures each { IfOk result (λ ran. AreDone K.word cache.now (G.answers gate.now) first lines.now threads ran.items) }
+    ensures len { IfOk result (λ ran. vec_len ran ≡ threads) }
+{
+    await_worker(rt, cache, manned);
+    let ran = turns(rt, alloc, cache, rules, first, lines, threads, gate, room);
+    if let Some(line) = cache.line() {
+        line.close(rt);
+    }
+    ran
+}
+
+// Has the workers run loads until the line is closed.
+fn load_all<K: TraceKey, N: Names + Send + Sync, R: Threads + Wait + Sync>(
+    rt: &R,
+    alloc: Global,
+    cache: &LoadingCache<K, Version<K>, Rules, Of<N>>,
+    workers: usize,
+    room: usize,
+    manned: &AtomicBool,
+) -> Result<Worked<Of<N>>, AllocError>
+    requires room { 4 * cache.now.layout.config.entries ≤ room }
+{
+    thread::map_indices(
+        rt,
+        alloc,
+        workers,
+        &|_worker: usize| -> Result<Pass<Of<N>>, Fault>
+            requires { 4 * cache.now.layout.config.entries ≤ room }
+        { run_loads(rt, alloc, cache, room, manned) },
+    )
+}
+
+/// Has the threads do their turns while the workers run loads.
+pub(crate) fn work_all<
+    K: TraceKey,
+    N: Names + Send + Sync,
+    G: Gate,
+    R: Threads + Wait + Sync,
+>(
+    rt: &R,
+    alloc: Global,
+    cache: &LoadingCache<K, Version<K>, Rules, Of<N>>,
+    rules: &Rules,
+    first: u64,
+    lines: &[Line<K>],
+    threads: usize,
+    workers: usize,
+    gate: &G,
+    room: usize,
+) -> (
+    Result<Ran<Of<N>>, AllocError>,
+    Result<Worked<Of<N>>, AllocError>,
+)
+    requires { IsReady cache.now.layout.shards cache.now.layout.config.entries room first (length lines.now) threads }
+    ensures each { IfOk result.0 (λ ran. AreDone K.word cache.now (G.answers gate.now) first lines.now threads ran.items) }
+    ensures len { IfOk result.0 (λ ran. vec_len ran ≡ threads) }
+{
+    let manned = AtomicBool::new(false);
+    thread::join(
+        rt,
+        || -> Result<Ran<Of<N>>, AllocError>
+            requires { IsReady cache.now.layout.shards cache.now.layout.config.entries room first (length lines.now) threads }
+            ensures { IfOk result (λ ran. (vec_len ran ≡ threads) × AreDone K.word cache.entry.now (G.answers gate.entry.now) first lines.entry.now threads ran.items) }
+        {
+            handle_all(
+                rt, alloc, cache, rules, first, lines, threads, gate, room, &manned,
+            )
+        },
+        || -> Result<Worked<Of<N>>, AllocError>
+            requires { 4 * cache.now.layout.config.entries ≤ room }
+        { load_all(rt, alloc, cache, workers, room, &manned) },
+    )
+}
+
+/// Returns why the first thread stopped that did, if one did.
+pub(crate) fn stop_of<P>(ran: &Vec<Result<P, RunFault>>) -> Option<RunFault>
+    ensures none { IsNone result → (t : ℕ) → t < vec_len ran.now → IsOk (get_or ran.now.items t unmade) }
+    ensures some { IfSome result (λ fault. (t : ℕ) × (t < vec_len ran.now) × (get_or ran.now.items t unmade ≡ Err fault)) }
+{
+    for t in 0..ran.len() {
+        if let Err(fault) = &ran[t] {
+            return Some(*fault);
+        }
+    }
+    None
+}
+
+/// Returns the passes of the threads, of which none stopped, and of the workers, or the fault of one of these.
+pub(crate) fn gather<P: Drop>(
+    alloc: Global,
+    ran: Vec<Result<P, RunFault>>,
+    worked: Vec<Result<P, Fault>>,
+) -> Result<Vec<P>, Fault> {
+    let mut passes = Vec::new(alloc);
+    for one in ran {
+        if let Ok(pass) = one {
+            if passes.push(pass).is_err() {
+                return Err(Fault::NoMemory);
+            }
+        }
+    }
+    for one in worked {
+        let pass = match one {
+            Ok(pass) => pass,
+            Err(fault) => return Err(fault),
+        };
+        if passes.push(pass).is_err() {
+            return Err(Fault::NoMemory);
+        }
+    }
+    Ok(passes)
+}

@@ -1,0 +1,17 @@
+pub mod Numbers
+pub mod Writes
+pub mod Grammar
+pub mod Traces
+pub mod Ends
+pub mod InOrder
+pub mod Gets
+pub mod Fetches
+pub mod Sums
+pub mod Examples
+pub mod Reports
+pub mod Ranges
+pub mod Passages
+pub mod Places
+pub mod Stopped
+pub mod Others
+pub mod Histories

@@ -1,0 +1,116 @@
+-- What one shard answers to the lines of a trace.
+use Rattle.std.specs.Prelude.{ℕ, ◌+◌, ◌%◌, ◌==◌, Bool, true, false, if◌then◌else◌, List, [], ◌∷◌, ◌++◌, codes}
+use Rattle.std.specs.List.{flat_map}
+use Rattle.std.specs.Option.{option_map_or}
+use Rattle.wt_keys.specs.Hash.{shard_of}
+use Rattle.wt_regions.specs.declared.kinds.Notice.{Notice}
+use Rattle.wt_flights.specs.Rows.{first_of}
+use Rattle.wt_core.specs.declared.kinds.Call.{Call}
+use Rattle.wt_core.specs.declared.kinds.Call.TheVariants as call
+use Rattle.wt_core.specs.declared.kinds.Land.{Land}
+use Rattle.wt_core.specs.declared.kinds.Land.TheVariants as land
+use Rattle.wt_core.specs.declared.kinds.Reply.{Reply}
+use Rattle.wt_core.specs.declared.kinds.Reply.TheVariants as reply
+use Rattle.wt_core.specs.declared.kinds.Stats.{Stats}
+use Rattle.wt_core.specs.State.{State, Made, opening, stats_of}
+use Rattle.wt_core.specs.Run.{taken}
+use Rattle.wt_trace.specs.declared.line.Act.{Act}
+use Rattle.wt_trace.specs.declared.line.Act.TheVariants as act
+use Rattle.wt_trace.specs.declared.line.Line.{Line}
+use Rattle.wt_trace.specs.declared.options.Options.{Options}
+use Rattle.wt_trace.specs.declared.line.Version.{Version}
+use Rattle.wt_trace.specs.Keys.{Keys}
+use Rattle.wt_trace.specs.Line.{key_of}
+use Rattle.wt_trace.specs.Words.{words_of, loaded_words, notice_text}
+use Rattle.wt_trace.specs.Options.{config_of}
+
+-- what a shard answers: the text that it adds to each line, of another shard's line nothing, and its numbers at the end
+pub record Answers : Type 0 where
+  pub texts : List (List ℕ)
+  pub stats : Stats
+
+-- a state, and the text added to a line on the way there
+pub record Shown (K : Type 0) : Type 0 where
+  pub state : State K (Version K)
+  pub text : List ℕ
+
+-- a shard at work: its cache, what its latest call told, and the text so far
+pub record Work (K : Type 0) : Type 0 where
+  pub options : Options
+  pub shard : ℕ
+  pub state : State K (Version K)
+  pub told : List (Notice K (Version K))
+  pub text : List ℕ
+
+module _ {K : Type 0} (keys : Keys K) where
+  -- what a call makes of a state, for values of a trace
+  abbrev pub take : State K (Version K) → Call K (Version K) → Made K (Version K)
+  take s c = taken keys.eq keys.word (λ v. v.weight) s c
+
+  -- the words, then the notices
+  abbrev pub shown : List ℕ → List (Notice K (Version K)) → State K (Version K) → Shown K
+  shown words notices s = record { state = s; text = words ++ flat_map (notice_text keys) notices }
+
+  -- one call: its words and its notices
+  abbrev pub one_call : ℕ → State K (Version K) → Call K (Version K) → Shown K
+  one_call shard s c = let m = take s c in shown (words_of shard m.reply) m.notices m.state
+
+  -- a lead is landed at once: the words, then the seek's notices and the landing's
+  abbrev pub landed_at_once : List ℕ → List (Notice K (Version K)) → Made K (Version K) → Shown K
+  landed_at_once words before m = shown (words ++ loaded_words m.reply) (before ++ m.notices) m.state
+
+module _ {K : Type 0} (keys : Keys K) (o : Options) where
+  -- the value that line n makes
+  abbrev pub version : ℕ → K → Version K
+  version n k = record { key = k; line = n; weight = 1 + keys.word k % o.modulus }
+
+  -- the load of line n, which fails by rule
+  abbrev pub load : ℕ → K → Land (Version K)
+  load n k = if option_map_or (λ f. keys.word k % f == 0) o.fail_mod false then land.Failed else land.Keep (version n k)
+
+  -- the landing of the flight with an id by line n
+  abbrev pub landing_of : ℕ → ℕ → K → ℕ → Call K (Version K)
+  landing_of id n k moment = call.Land id k (load n k) moment
+
+  -- after the seek of a G line
+  abbrev pub fetched : ℕ → ℕ → K → Reply (Version K) → Made K (Version K) → Shown K
+  fetched n moment k (reply.Lead id) m = landed_at_once keys [] m.notices (take keys m.state (landing_of id n k moment))
+  fetched n moment k (reply.HitLead v id) m = landed_at_once keys (words_of 0 (reply.Hit v)) m.notices (take keys m.state (landing_of id n k moment))
+  fetched n moment k r m = shown keys (words_of 0 r) m.notices m.state
+
+  -- line n at the shards that it belongs to
+  abbrev pub act_step : ℕ → ℕ → ℕ → Act K → State K (Version K) → Shown K
+  act_step shard n moment (act.Look k) s = one_call keys shard s (call.Look k moment)
+  act_step shard n moment (act.Put k) s = one_call keys shard s (call.Put k (version n k) moment)
+  act_step shard n moment (act.Seek k) s = one_call keys shard s (call.Seek k moment)
+  act_step shard n moment (act.Get k) s = let m = take keys s (call.Seek k moment) in fetched n moment k m.reply m
+  act_step shard n moment (act.Land k) s = option_map_or (λ row. one_call keys shard s (landing_of row.id n k moment)) (first_of keys.eq k s.flights) (shown keys (codes " none") [] s)
+  act_step shard n moment (act.Drop k) s = one_call keys shard s (call.DropKey k moment)
+  act_step shard n moment (act.Forget k) s = one_call keys shard s (call.Forget k moment)
+  act_step shard n moment act.Clean s = one_call keys shard s (call.Clean moment)
+  act_step shard n moment act.Clear s = one_call keys shard s (call.Clear moment)
+
+  -- whether a line belongs to the shard: one without a key belongs to each
+  abbrev pub belongs : ℕ → Act K → Bool
+  belongs shard a = option_map_or (λ k. shard_of (keys.word k) o.shards == shard) (key_of a) true
+
+  -- by whether the line belongs to the shard
+  abbrev pub line_if : Bool → ℕ → ℕ → Line K → State K (Version K) → Shown K
+  line_if true shard n l s = act_step shard n l.moment l.act s
+  line_if false shard n l s = record { state = s; text = [] }
+
+  -- line n at a shard
+  unfoldable pub line_step : ℕ → ℕ → Line K → State K (Version K) → Shown K
+  line_step shard n l s = line_if (belongs shard l.act) shard n l s
+
+  -- the lines from line n on, at a shard
+  abbrev pub answers_from : ℕ → ℕ → List (Line K) → State K (Version K) → Answers
+  answers_from shard n [] s = record { texts = []; stats = stats_of s }
+  answers_from shard n (l ∷ ls) s =
+      let one = line_step shard n l s in
+      let rest = answers_from shard (n + 1) ls one.state in
+      record rest { texts = one.text ∷ rest.texts }
+
+  -- all of them, at a shard that is new
+  unfoldable pub answers : ℕ → List (Line K) → ℕ → Answers
+  answers n ls shard = answers_from shard n ls (opening (config_of o))

@@ -1,0 +1,26 @@
+-- What threads make of the shards, and how it is put together.
+use Rattle.std.specs.Prelude.{◌≡◌, ℕ, ◌%◌, ◌<◌, ◌==◌, if◌then◌else◌, List, map, get_or, slice_set, Option, None, Some, Result, Ok, Err, IfOk, OnOk, IfErr}
+use Rattle.std.specs.List.{range_with_len}
+use Rattle.wt_trace.specs.Answers.{Answers}
+use Rattle.wt_trace.specs.Stops.{IsStop}
+use Rattle.wt_trace.specs.declared.fault.ReplayFault.{ReplayFault}
+
+-- what thread t of so many makes of a shard: what it answers, where its number modulo the threads is t
+abbrev pub part_at : (ℕ → Answers) → ℕ → ℕ → ℕ → Option Answers
+part_at answers threads t shard = if shard % threads == t then Some (answers shard) else None
+
+-- the place of a shard in what a thread made, or why it stopped
+abbrev pub place_at : ℕ → Result (List (Option Answers)) ReplayFault → Result (Option Answers) ReplayFault
+place_at shard (Ok places) = Ok (get_or places shard None)
+place_at shard (Err fault) = Err fault
+
+-- the same, once that place was emptied
+abbrev pub without : ℕ → Result (List (Option Answers)) ReplayFault → Result (List (Option Answers)) ReplayFault
+without shard (Ok places) = Ok (slice_set places shard None)
+without shard (Err fault) = Err fault
+
+-- thread t made what its shards answer, of whose lines each was let through, or it stopped
+abbrev pub IsPart : (ℕ → Answers) → (ℕ → Type 0) → (ℕ → Type 0) → ℕ → ℕ → ℕ → Result (List (Option Answers)) ReplayFault → Type 0
+IsPart answers stops asked shards threads t part =
+    IfOk part (λ places. places ≡ map (part_at answers threads t) (range_with_len 0 shards)) × IfErr part (IsStop stops)
+    × OnOk part ((shard : ℕ) → shard < shards → shard % threads ≡ t → asked shard)

@@ -1,0 +1,92 @@
+-- The report of a trace.
+use Rattle.std.specs.Prelude.{◌≡◌, ℕ, ◌+◌, Bool, true, false, if◌then◌else◌, List, [], ◌++◌, map, length, get_or, drop, sum_by, is_ok, Ok, Err, codes, decimal}
+use Rattle.std.specs.List.{flat_map, range_with_len}
+use Rattle.wt_core.specs.declared.kinds.Stats.{Stats}
+use Rattle.wt_trace.specs.declared.fault.ReplayFault.TheVariants.{BadLine, LineTooLong, TooManyLines}
+use Rattle.wt_trace.specs.declared.options.Options.{Options}
+use Rattle.wt_trace.specs.Keys.{Keys, numbers, names}
+use Rattle.wt_trace.specs.Trace.{Verdict, Trace, lines_of, is_header, trace_from}
+use Rattle.wt_trace.specs.Answers.{Answers, answers}
+
+-- what is printed, and how the run ends
+pub record Report : Type 0 where
+  pub text : List ℕ
+  pub verdict : Verdict
+
+-- the i-th line of the report: what each shard adds to it, in order
+unfoldable pub line_text : ℕ → List Answers → ℕ → List ℕ
+line_text first all i = decimal (first + i) ++ (flat_map (λ (a : Answers). get_or a.texts i []) all ++ codes "\n")
+
+-- so many lines from line i on
+abbrev pub lines_text : ℕ → List Answers → ℕ → ℕ → List ℕ
+lines_text first all i len = flat_map (line_text first all) (range_with_len i len)
+
+-- a label with a number
+unfoldable pub count_text : List ℕ → ℕ → List ℕ
+count_text label n = label ++ decimal n
+
+-- the summary's line of numbers
+unfoldable pub summary_of : Stats → List ℕ
+summary_of t =
+    count_text (codes "lookups ") t.lookups ++ (count_text (codes " hits ") t.hits ++ (
+    count_text (codes " misses ") t.misses ++ (count_text (codes " loads ") t.loads ++ (
+    count_text (codes " failed ") t.failed ++ (count_text (codes " evicted ") t.evicted ++ (
+    count_text (codes " entries ") t.entries ++ (count_text (codes " weight ") t.weight ++ codes "\n")))))))
+
+-- a label with the sum of a number over the shards
+abbrev pub sum_text : List ℕ → (Stats → ℕ) → List Answers → List ℕ
+sum_text label number all = count_text label (sum_by (λ (a : Answers). number a.stats) all)
+
+-- the sums of the numbers of all shards
+pub record AreTotals (sum : Stats) (all : List Answers) : Type 0 where
+  pub lookups : sum.lookups ≡ sum_by (λ (a : Answers). a.stats.lookups) all
+  pub hits : sum.hits ≡ sum_by (λ (a : Answers). a.stats.hits) all
+  pub misses : sum.misses ≡ sum_by (λ (a : Answers). a.stats.misses) all
+  pub loads : sum.loads ≡ sum_by (λ (a : Answers). a.stats.loads) all
+  pub failed : sum.failed ≡ sum_by (λ (a : Answers). a.stats.failed) all
+  pub evicted : sum.evicted ≡ sum_by (λ (a : Answers). a.stats.evicted) all
+  pub entries : sum.entries ≡ sum_by (λ (a : Answers). a.stats.entries) all
+  pub weight : sum.weight ≡ sum_by (λ (a : Answers). a.stats.weight) all
+
+-- the numbers of all shards
+unfoldable pub summary : List Answers → List ℕ
+summary all =
+    sum_text (codes "lookups ") (λ s. s.lookups) all ++ (sum_text (codes " hits ") (λ s. s.hits) all ++
+    (sum_text (codes " misses ") (λ s. s.misses) all ++ (sum_text (codes " loads ") (λ s. s.loads) all ++
+    (sum_text (codes " failed ") (λ s. s.failed) all ++ (sum_text (codes " evicted ") (λ s. s.evicted) all ++
+    (sum_text (codes " entries ") (λ s. s.entries) all ++ (sum_text (codes " weight ") (λ s. s.weight) all ++ codes "\n")))))))
+
+-- so many lines by what the shards answer, and the summary where no line was at fault
+unfoldable pub printed : ℕ → ℕ → Bool → List Answers → List ℕ
+printed first count complete all = lines_text first all 0 count ++ (if complete then summary all else [])
+
+module _ {K : Type 0} (keys : Keys K) (o : Options) where
+  -- the report of the lines of a trace, the first of which is line n
+  abbrev pub report_of : ℕ → Trace K → Report
+  report_of n t = record {
+    text = printed n (length t.lines) (is_ok t.verdict) (map (answers keys o n t.lines) (range_with_len 0 o.shards));
+    verdict = t.verdict;
+  }
+
+-- by whether the first line is a header, which stands for line 1 and prints nothing
+abbrev pub report_by : Bool → Options → List (List ℕ) → Report
+report_by true o lines = report_of names o 2 (trace_from names.read 2 (drop 1 lines))
+report_by false o lines = report_of numbers o 1 (trace_from numbers.read 1 lines)
+
+-- the report of the bytes of a trace
+abbrev pub report : Options → List ℕ → Report
+report o bytes = report_by (is_header (lines_of bytes)) o (lines_of bytes)
+
+-- the verdicts of a report
+abbrev pub IsVerdict : Verdict → Type 0
+IsVerdict (Ok _) = Unit {0}
+IsVerdict (Err (BadLine n)) = Unit {0}
+IsVerdict (Err (LineTooLong n)) = Unit {0}
+IsVerdict (Err TooManyLines) = Unit {0}
+IsVerdict _ = ⊥
+
+-- a text and a verdict are those of a report
+pub record IsReport (r : Report) (bytes : List ℕ) (end : Verdict) : Type 0 where
+  pub text : bytes ≡ r.text
+  pub verdict : end ≡ r.verdict
+  pub kind : IsVerdict end

@@ -1,0 +1,55 @@
+-- A trace: the lines up to the first fault.
+use Rattle.std.specs.Prelude.{ℕ, ◌+◌, ◌==◌, nat_eq, nat_lt, Bool, false, if◌then◌else◌, List, [], ◌∷◌, length, Option, None, Some, Result, Ok, Err, codes}
+use Rattle.std.specs.List.{onto_first}
+use Rattle.std.specs.Cmp.Lexicographic.{pointwise}
+use Rattle.wt_trace.specs.declared.line.Line.{Line}
+use Rattle.wt_trace.specs.declared.fault.ReplayFault.{ReplayFault}
+use Rattle.wt_trace.specs.declared.fault.ReplayFault.TheVariants.{BadLine, LineTooLong, TooManyLines}
+use Rattle.wt_trace.specs.Line.{line_of}
+
+-- how a report ends
+abbrev pub Verdict : Type 0
+Verdict = Result (Unit {0}) ReplayFault
+
+-- a byte before these lines: an LF ends a line
+abbrev pub onto_lines : ℕ → List (List ℕ) → List (List ℕ)
+onto_lines b ls = if b == 10 then [] ∷ ls else onto_first b ls
+
+-- a line is what stands before an LF, and what stands behind the last LF, unless that is nothing
+abbrev pub lines_of : List ℕ → List (List ℕ)
+lines_of [] = []
+lines_of (b ∷ bs) = onto_lines b (lines_of bs)
+
+-- the first line of a trace of names
+abbrev pub is_header : List (List ℕ) → Bool
+is_header [] = false
+is_header (l ∷ ls) = pointwise nat_eq l (codes "wt 2")
+
+-- the lines up to the first fault, and that fault
+pub record Trace (K : Type 0) : Type 0 where
+  pub lines : List (Line K)
+  pub verdict : Verdict
+
+module _ {K : Type 0} where
+  -- a line that isn't there is a bad one
+  abbrev pub or_bad : ℕ → Option (Line K) → Result (Line K) ReplayFault
+  or_bad n None = Err (BadLine n)
+  or_bad n (Some line) = Ok line
+
+  -- a line before a trace, or a fault that ends it
+  abbrev pub onto_trace : Result (Line K) ReplayFault → Trace K → Trace K
+  onto_trace (Ok line) t = record t { lines = line ∷ t.lines }
+  onto_trace (Err fault) t = record { lines = []; verdict = Err fault }
+
+module _ {K : Type 0} (read : List ℕ → Option K) where
+  -- line n, or what is wrong with it
+  unfoldable pub checked : ℕ → List ℕ → Result (Line K) ReplayFault
+  checked n bytes =
+      if nat_lt 1000000 n then Err TooManyLines else
+      if nat_lt 64 (length bytes) then Err (LineTooLong n) else
+      or_bad n (line_of read bytes)
+
+  -- of the lines, the first of which is line n
+  abbrev pub trace_from : ℕ → List (List ℕ) → Trace K
+  trace_from n [] = record { lines = []; verdict = Ok tt }
+  trace_from n (bytes ∷ more) = onto_trace (checked n bytes) (trace_from (n + 1) more)

@@ -1,0 +1,79 @@
+// What one shard answers to the lines of a trace, as texts that stand one behind the other.
+ghost use Rattle.std.specs.Prelude.{◌≡◌, ◌<◌, ◌≤◌, length, slice_range, get_or, [], ◌∷◌};
+ghost use Rattle.wt_trace.specs.Pieces.{pieces, AreEnds};
+
+use std::marker::Model;
+use wt_core::Stats;
+
+/// What a shard answers: the text that it adds to each line, and its numbers at the end.
+///
+/// The texts stand one behind the other, so that a line costs its bytes and a number.
+#[derive(Drop)]
+pub struct Answers {
+    pub(crate) text: Vec<u8>,
+    // where the text of each line ends
+    pub(crate) ends: Vec<usize>,
+    pub(crate) stats: Stats,
+}
+
+impl Model for Answers {
+    ghost use Rattle.std.specs.Prelude.{length};
+    ghost use Rattle.wt_core.specs.Lawful.{AreSmall};
+    ghost use Rattle.wt_trace.specs.Answers.{Answers};
+    ghost use Rattle.wt_trace.specs.Pieces.{pieces, AreEnds};
+
+    ghost Value = { Answers };
+
+    ghost view = { λ a. record { texts = pieces a.text.items 0 a.ends.items; stats = a.stats } };
+
+    ghost invariant = { λ a. AreEnds (length a.text.items) 0 a.ends.items × AreSmall a.stats };
+}
+
+impl Answers {
+    ghost use Rattle.wt_core.specs.Lawful.{AreSmall};
+
+    /// Returns the text that is added to the i-th line, from 0.
+    pub fn text(&self, i: usize) -> &[u8]
+        requires { i < length self.now.texts }
+        ensures { result.now ≡ get_or self.now.texts i [] }
+    {
+        piece(&self.text, &self.ends, i)
+    }
+
+    /// Returns the numbers at the end.
+    pub fn stats(&self) -> Stats
+        ensures numbers { result ≡ self.now.stats }
+        ensures small { AreSmall self.now.stats }
+    {
+        self.stats
+    }
+}
+
+// Where the piece before the i-th ends, from 0.
+fn start_of(ends: &[usize], i: usize) -> usize
+    requires { i ≤ length ends.now }
+    ensures { result ≡ get_or (0 ∷ ends.now) i 0 }
+{
+    if i == 0 {
+        return 0;
+    }
+    ends[i - 1]
+}
+
+// The i-th piece of a text.
+fn piece<'a>(text: &'a [u8], ends: &[usize], i: usize) -> &'a [u8]
+    requires ends { AreEnds (length text.now) 0 ends.now }
+    requires within { i < length ends.now }
+    ensures { result.now ≡ get_or (pieces text.now 0 ends.now) i [] }
+{
+    part(text, start_of(ends, i), ends[i])
+}
+
+// What stands from one place to another.
+fn part(text: &[u8], start: usize, end: usize) -> &[u8]
+    requires order { start ≤ end }
+    requires within { end ≤ length text.now }
+    ensures { result.now ≡ slice_range text.now start end }
+{
+    &text[start..end]
+}

@@ -1,0 +1,198 @@
+// The shards on threads: thread t runs those whose number modulo the threads is t, each shard's lines in order.
+ghost use Rattle.std.specs.Prelude.{◌≡◌, ◌≤◌, ◌<◌, ℕ, ◌%◌, [], Ok, IfOk, OnOk, IfErr, None, map, length, vec_len, get_or, slice_set, true, false};
+ghost use Rattle.std.specs.List.{range_with_len};
+ghost use Rattle.wt_trace.specs.Answers as spec;
+ghost use Rattle.wt_trace.specs.Keys.{keys_by};
+ghost use Rattle.wt_trace.specs.Options.{option_fault};
+ghost use Rattle.wt_trace.specs.Parts.{IsPart, part_at, place_at, without};
+ghost use Rattle.wt_trace.specs.Report as report;
+ghost use Rattle.wt_trace.specs.Stops.{IsStop, AreAsked, AllAsked, Asked};
+ghost use Rattle.wt_trace.specs.Trace.{lines_of, trace_from};
+
+use crate::answers::Answers;
+use crate::fault::ReplayFault;
+use crate::gate::Gate;
+use crate::key::TraceKey;
+use crate::line::Line;
+use crate::options::Options;
+use crate::printing::text_on_threads;
+use crate::report::behind_header;
+use crate::shard::shard_answers;
+use crate::trace::read_lines;
+use std::alloc::{AllocError, Global};
+use std::marker::Model;
+use std::thread;
+use std::thread::Threads;
+use wt_keys::Name;
+
+// What a thread makes: a place for each shard, where its own stand as what they answer.
+#[derive(Drop)]
+struct Part {
+    places: Vec<Option<Answers>>,
+}
+
+impl Model for Part {
+    ghost use Rattle.std.specs.Prelude.{List, Option};
+    ghost use Rattle.wt_trace.specs.Answers.{Answers};
+
+    ghost Value = { List (Option Answers) };
+
+    ghost view = { λ p. p.places.items };
+}
+
+// Lets the shards of thread t answer, one after another: those whose number modulo the threads is t.
+fn part_of<K: TraceKey, G: Gate>(
+    alloc: Global,
+    options: &Options,
+    first: u64,
+    lines: &[Line<K>],
+    gate: &G,
+    threads: usize,
+    t: usize,
+) -> Result<Part, ReplayFault>
+    requires options { option_fault options.now ≡ None }
+    requires first { first ≤ 1000001 }
+    requires threads { 0 < threads }
+    ensures asked { OnOk result ((s : ℕ) → s < options.now.shards → s % threads ≡ t → AreAsked (spec.belongs (keys_by K.eq K.word K.read K.shown) options.now s) (λ n. G.answers gate.now n true) first lines.now) }
+    ensures answers { IfOk result (λ part. part ≡ map (part_at (spec.answers (keys_by K.eq K.word K.read K.shown) options.now first lines.now) threads t) (range_with_len 0 options.now.shards)) }
+    ensures err { IfErr result (IsStop (λ n. G.answers gate.now n false)) }
+{
+    let mut places = Vec::new(alloc);
+    for shard in 0..options.shards() {
+        if shard % threads != t {
+            places.push(None)?;
+            continue;
+        }
+        let one = shard_answers(alloc, options, shard, first, lines, gate)?;
+        places.push(Some(one))?;
+    }
+    Ok(Part { places })
+}
+
+// Takes a shard's answers out of the part of its thread.
+fn take(part: &mut Result<Part, ReplayFault>, shard: usize) -> Result<Option<Answers>, ReplayFault>
+    requires { IfOk part.old (λ places. shard < length places) }
+    ensures taken { result ≡ place_at shard part.old }
+    ensures left { part.new ≡ without shard part.old }
+{
+    match part {
+        Ok(part) => Ok(part.places[shard].take()),
+        Err(fault) => Err(*fault),
+    }
+}
+
+// Takes a shard's answers out of the t-th part.
+fn take_at(
+    parts: &mut Vec<Result<Part, ReplayFault>>,
+    t: usize,
+    shard: usize,
+) -> Result<Option<Answers>, ReplayFault>
+    requires within { t < vec_len parts.old }
+    requires place { IfOk (get_or parts.old.items t (Ok [])) (λ places. shard < length places) }
+    ensures taken { result ≡ place_at shard (get_or parts.old.items t (Ok [])) }
+    ensures left { parts.new.items ≡ slice_set parts.old.items t (without shard (get_or parts.old.items t (Ok []))) }
+{
+    take(&mut parts[t], shard)
+}
+
+// The parts of all threads.
+fn parts<H: Threads + Sync, K: TraceKey, G: Gate>(
+    rt: &H,
+    alloc: Global,
+    options: &Options,
+    first: u64,
+    lines: &[Line<K>],
+    gate: &G,
+    threads: usize,
+) -> Result<Vec<Result<Part, ReplayFault>>, AllocError>
+    requires options { option_fault options.now ≡ None }
+    requires first { first ≤ 1000001 }
+    requires threads { 0 < threads }
+    ensures len { IfOk result (λ parts. vec_len parts ≡ threads) }
+    ensures each { IfOk result (λ parts. (t : ℕ) → t < threads → IsPart (spec.answers (keys_by K.eq K.word K.read K.shown) options.now first lines.now) (λ n. G.answers gate.now n false) (λ s. AreAsked (spec.belongs (keys_by K.eq K.word K.read K.shown) options.now s) (λ n. G.answers gate.now n true) first lines.now) options.now.shards threads t (get_or parts.items t (Ok []))) }
+{
+    thread::map_indices(
+        rt,
+        alloc,
+        threads,
+        &|t: usize| -> Result<Part, ReplayFault>
+            requires { (option_fault options.now ≡ None) × (first ≤ 1000001) × (0 < threads) }
+            ensures { IsPart (spec.answers (keys_by K.eq K.word K.read K.shown) options.entry.now first lines.entry.now) (λ n. G.answers gate.entry.now n false) (λ s. AreAsked (spec.belongs (keys_by K.eq K.word K.read K.shown) options.entry.now s) (λ n. G.answers gate.entry.now n true) first lines.entry.now) options.entry.now.shards threads t result }
+        { part_of(alloc, options, first, lines, gate, threads, t) },
+    )
+}
+
+// What each shard answers to the lines, the first of which is line `first`, in the order of the shards. Where threads
+// stop, the thread of the least shard that has no answer tells why.
+fn answers_by_shard<H: Threads + Sync, K: TraceKey, G: Gate>(
+    rt: &H,
+    alloc: Global,
+    options: &Options,
+    first: u64,
+    lines: &[Line<K>],
+    gate: &G,
+    threads: usize,
+) -> Result<Vec<Answers>, ReplayFault>
+    requires options { option_fault options.now ≡ None }
+    requires first { first ≤ 1000001 }
+    requires threads { 0 < threads }
+    ensures asked { OnOk result (AllAsked (keys_by K.eq K.word K.read K.shown) options.now (λ n. G.answers gate.now n true) first lines.now) }
+    ensures answers { IfOk result (λ all. all.items ≡ map (spec.answers (keys_by K.eq K.word K.read K.shown) options.now first lines.now) (range_with_len 0 options.now.shards)) }
+    ensures err { IfErr result (IsStop (λ n. G.answers gate.now n false)) }
+{
+    let mut parts = parts(rt, alloc, options, first, lines, gate, threads)?;
+    let mut all = Vec::new(alloc);
+    for shard in 0..options.shards() {
+        let Some(one) = take_at(&mut parts, shard % threads, shard)? else {
+            continue;
+        };
+        all.push(one)?;
+    }
+    Ok(all)
+}
+
+// The report of a trace whose first line is line `first`, whatever its keys are. So many threads print it, too.
+fn report_of<H: Threads + Sync, K: TraceKey, G: Gate>(
+    rt: &H,
+    alloc: Global,
+    options: &Options,
+    first: u64,
+    bytes: &[u8],
+    gate: &G,
+    threads: usize,
+) -> Result<(Vec<u8>, Result<(), ReplayFault>), ReplayFault>
+    requires options { option_fault options.now ≡ None }
+    requires first { first ≤ 1000001 }
+    requires threads { (0 < threads) × (threads ≤ 64) }
+    ensures asked { OnOk result (AllAsked (keys_by K.eq K.word K.read K.shown) options.now (λ n. G.answers gate.now n true) first (trace_from K.read first (lines_of bytes.now)).lines) }
+    ensures report { IfOk result (λ r. report.IsReport (report.report_of (keys_by K.eq K.word K.read K.shown) options.now first (trace_from K.read first (lines_of bytes.now))) r.0.items r.1) }
+    ensures err { IfErr result (IsStop (λ n. G.answers gate.now n false)) }
+{
+    let read = read_lines::<K>(alloc, first, bytes)?;
+    let all = answers_by_shard(rt, alloc, options, first, &read.lines, gate, threads)?;
+    let text = text_on_threads(rt, alloc, options, first, &read, &all, threads)?;
+    Ok((text, read.verdict))
+}
+
+/// Returns the report of the bytes of a trace, and the verdict, as `report` does, with the shards on so many threads.
+///
+/// `GateShut` of a line before which the gate was shut, for a thread that stopped there.
+pub fn report_by_shard<H: Threads + Sync, G: Gate>(
+    rt: &H,
+    alloc: Global,
+    bytes: &[u8],
+    options: &Options,
+    threads: usize,
+    gate: &G,
+) -> Result<(Vec<u8>, Result<(), ReplayFault>), ReplayFault>
+    requires options { option_fault options.now ≡ None }
+    requires threads { (0 < threads) × (threads ≤ 64) }
+    ensures asked { OnOk result (Asked options.now (λ n. G.answers gate.now n true) bytes.now) }
+    ensures report { IfOk result (λ r. report.IsReport (report.report options.now bytes.now) r.0.items r.1) }
+    ensures err { IfErr result (IsStop (λ n. G.answers gate.now n false)) }
+{
+    let Some(rest) = behind_header(bytes) else {
+        return report_of::<H, u64, G>(rt, alloc, options, 1, bytes, gate, threads);
+    };
+    report_of::<H, Name, G>(rt, alloc, options, 2, rest, gate, threads)
+}

@@ -1,0 +1,119 @@
+// Lines of a report printed on threads: each prints a piece, and the pieces are put together in their order.
+ghost use Rattle.std.specs.Prelude.{◌≡◌, ◌+◌, ◌-◌, ◌*◌, ◌/◌, ◌<◌, ◌≤◌, ◌^◌, ℕ, All, IfOk, Err, alloc_error, get_or, length, min, vec_len, map, None};
+ghost use Rattle.std.specs.List.{range_with_len};
+ghost use Rattle.wt_trace.specs.Answers.{answers};
+ghost use Rattle.wt_trace.specs.Keys.{keys_by};
+ghost use Rattle.wt_trace.specs.Options.{option_fault};
+ghost use Rattle.wt_trace.specs.Report.{lines_text};
+ghost use Rattle.wt_trace.specs.Report as spec;
+
+use crate::answers::Answers;
+use crate::key::TraceKey;
+use crate::options::Options;
+use crate::report::{show_lines, show_summary};
+use crate::trace::Lines;
+use std::alloc::{AllocError, Global};
+use std::thread;
+use std::thread::Threads;
+use wt_keys::NoMemory;
+
+// Piece t, of at most so many lines.
+fn piece(
+    alloc: Global,
+    first: u64,
+    all: &[Answers],
+    count: usize,
+    most: usize,
+    t: usize,
+) -> Result<Vec<u8>, AllocError>
+    requires whole { All (λ a. length a.texts ≡ count) all.now }
+    requires fits { first + count < 2 ^ 64 }
+    requires most { most ≤ 1000002 }
+    requires t { t < 64 }
+    ensures { IfOk result (λ out. out.items ≡ lines_text first all.now (min (t * most) count) (min most (count - min (t * most) count))) }
+{
+    let from = (t * most).min(count);
+    let mut out = Vec::new(alloc);
+    show_lines(&mut out, first, all, from, most.min(count - from))?;
+    Ok(out)
+}
+
+// All pieces.
+fn pieces<H: Threads + Sync>(
+    rt: &H,
+    alloc: Global,
+    first: u64,
+    all: &[Answers],
+    count: usize,
+    most: usize,
+    threads: usize,
+) -> Result<Vec<Result<Vec<u8>, AllocError>>, AllocError>
+    requires whole { All (λ a. length a.texts ≡ count) all.now }
+    requires fits { first + count < 2 ^ 64 }
+    requires most { most ≤ 1000002 }
+    requires threads { threads ≤ 64 }
+    ensures len { IfOk result (λ pieces. vec_len pieces ≡ threads) }
+    ensures each { IfOk result (λ pieces. (t : ℕ) → t < threads → IfOk (get_or pieces.items t (Err alloc_error)) (λ out. out.items ≡ lines_text first all.now (min (t * most) count) (min most (count - min (t * most) count)))) }
+{
+    thread::map_indices(
+        rt,
+        alloc,
+        threads,
+        &|t: usize| -> Result<Vec<u8>, AllocError>
+            requires { All (λ a. length a.texts ≡ count) all.now × (first + count < 2 ^ 64) × (most ≤ 1000002) × (t < 64) }
+            ensures { IfOk result (λ out. out.items ≡ lines_text first all.entry.now (min (t * most) count) (min most (count - min (t * most) count))) }
+        { piece(alloc, first, all, count, most, t) },
+    )
+}
+
+// The lines of a report, each thread's piece behind the piece before it.
+fn lines_on_threads<H: Threads + Sync>(
+    rt: &H,
+    alloc: Global,
+    first: u64,
+    all: &[Answers],
+    count: usize,
+    threads: usize,
+) -> Result<Vec<u8>, NoMemory>
+    requires whole { All (λ a. length a.texts ≡ count) all.now }
+    requires fits { first + count ≤ 1000001 }
+    requires threads { (0 < threads) × (threads ≤ 64) }
+    ensures { IfOk result (λ out. out.items ≡ lines_text first all.now 0 count) }
+{
+    let most = count / threads + 1;
+    let pieces = pieces(rt, alloc, first, all, count, most, threads)?;
+    let mut out = Vec::new(alloc);
+    for t in 0..pieces.len() {
+        match &pieces[t] {
+            Ok(piece) => out.extend_from_slice(piece.as_slice())?,
+            Err(_) => return Err(NoMemory),
+        }
+    }
+    Ok(out)
+}
+
+/// Returns the text of a report, as `text_of` does, with the lines printed on so many threads.
+///
+/// Takes memory for the text, and meanwhile for its pieces.
+#[tactic(auto, unfolding(crate::specs::Report::printed))]
+pub fn text_on_threads<H: Threads + Sync, K: TraceKey>(
+    rt: &H,
+    alloc: Global,
+    options: &Options,
+    first: u64,
+    read: &Lines<K>,
+    all: &[Answers],
+    threads: usize,
+) -> Result<Vec<u8>, NoMemory>
+    requires options { option_fault options.now ≡ None }
+    requires few { first + length read.now.lines.items ≤ 1000001 }
+    requires threads { (0 < threads) × (threads ≤ 64) }
+    requires all { all.now ≡ map (answers (keys_by K.eq K.word K.read K.shown) options.now first read.now.lines.items) (range_with_len 0 options.now.shards) }
+    ensures { IfOk result (λ out. out.items ≡ (spec.report_of (keys_by K.eq K.word K.read K.shown) options.now first (record { lines = read.now.lines.items; verdict = read.now.verdict })).text) }
+{
+    let mut out = lines_on_threads(rt, alloc, first, all, read.lines.len(), threads)?;
+    if read.verdict.is_ok() {
+        show_summary(&mut out, all)?;
+    }
+    Ok(out)
+}

@@ -1,0 +1,145 @@
+// From a reader to a writer.
+ghost use Rattle.std.specs.Prelude.{◌≡◌, ◌+◌, ◌-◌, ◌<◌, ◌≤◌, ◌^◌, ◌⊎◌, ◌↔◌, length, vec_len, MatchResult, MatchOption, IfOk, OnOk, OnErr, IfErr, Ok, Err, true, false};
+ghost use Rattle.std.specs.Io.KnownBytes.{Keeps, Appends, Consumes, IsAtEnd};
+ghost use Rattle.wt_trace.specs.Replayed.{Replayed, AppendsFront, Rises, ShutsOnly, LetThrough, is_config_fault};
+ghost use Rattle.wt_trace.specs.Options.{option_fault};
+ghost use Rattle.wt_keys.specs.declared.fault.Fault.TheVariants as cache;
+ghost use Rattle.wt_trace.specs.declared.fault.ReplayFault.TheVariants as fault;
+
+use crate::by_shard::report_by_shard;
+use crate::fault::ReplayFault;
+use crate::gate::Gate;
+use crate::options::Options;
+use crate::report::report;
+use crate::tallied::Tallied;
+use std::alloc::Global;
+use std::io::{Read, Write};
+use std::thread::Threads;
+use wt_keys::Fault;
+
+/// The most bytes that are read: no trace of 1,000,000 lines of 64 bytes has more, each with its LF, so that one byte
+/// more shows a fault.
+pub const MOST_BYTES: usize = 65_000_001;
+
+/// Returns all that the reader gives, or its first bytes up to a limit, which takes memory for them.
+///
+/// `ReadFault` exactly where the reader failed; `NoMemory`, after which what was read is lost. The reader is asked at
+/// most once for each byte of the limit, and once more.
+pub fn read_up_to<R: Read>(
+    alloc: Global,
+    reader: &mut Tallied<R>,
+    most: usize,
+) -> Result<Vec<u8>, ReplayFault>
+    ensures given { IfOk result (λ bytes. Consumes (R.remaining reader.old.inner) (R.remaining reader.new.inner) bytes.items) }
+    ensures few { IfOk result (λ bytes. vec_len bytes ≤ most) }
+    ensures all { IfOk result (λ bytes. (vec_len bytes ≡ most) ⊎ IsAtEnd (R.remaining reader.new.inner)) }
+    ensures turns { reader.new.reads ≤ reader.old.reads + most + 1 }
+    ensures faults { IfErr result (λ e. (e ≡ fault.Cache cache.NoMemory) ⊎ (e ≡ fault.ReadFault)) }
+    ensures kind { IfErr result (λ e. is_config_fault e ≡ false) }
+    ensures failed { Rises reader.old.failures reader.new.failures result fault.ReadFault }
+{
+    let mut bytes = Vec::new(alloc);
+    let mut part = [0u8; 16384];
+    while bytes.len() < most {
+        let room = part.len().min(most - bytes.len());
+        match reader.read(&mut part[..room]) {
+            Ok(0) => return Ok(bytes),
+            Ok(n) => {
+                if bytes.extend_from_slice(&part[..n]).is_err() {
+                    return Err(ReplayFault::Cache(Fault::NoMemory));
+                }
+            }
+            Err(_) => return Err(ReplayFault::ReadFault),
+        }
+    }
+    Ok(bytes)
+}
+
+/// Writes all of the bytes. Takes no memory.
+///
+/// `WriteFault` exactly where the writer failed or took nothing: a front of the bytes was written.
+pub fn write_out<W: Write>(writer: &mut Tallied<W>, bytes: &[u8]) -> Result<(), ReplayFault>
+    ensures ok { OnOk result (Appends (W.contents writer.old.inner) (W.contents writer.new.inner) bytes.now) }
+    ensures err { IfErr result (λ e. (e ≡ fault.WriteFault) × AppendsFront (W.contents writer.old.inner) (W.contents writer.new.inner) bytes.now) }
+    ensures kind { IfErr result (λ e. is_config_fault e ≡ false) }
+    ensures failed { Rises writer.old.failures writer.new.failures result fault.WriteFault }
+{
+    let mut rest = bytes;
+    while !rest.is_empty() {
+        match writer.write(rest) {
+            Ok(0) | Err(_) => return Err(ReplayFault::WriteFault),
+            Ok(n) => rest = rest.split_at(n).1,
+        }
+    }
+    Ok(())
+}
+
+/// Replays the trace that a reader gives, and writes the report.
+///
+/// Reads until the reader's end, its failure or 65,000,001 bytes, and makes the whole report before it writes.
+/// Faults in their order: an option out of its range (nothing was read or written); `ReadFault`, exactly where the
+/// reader failed, and no memory (nothing was written); `WriteFault`, exactly where the writer failed or took nothing (a
+/// front of the report was written); then the fault of the first faulty line (the report of the lines before it was
+/// written). Takes memory for the bytes, the lines, what the shards answer and the report.
+pub fn replay<R: Read, W: Write>(
+    alloc: Global,
+    reader: &mut Tallied<R>,
+    writer: &mut Tallied<W>,
+    options: &Options,
+) -> Result<(), ReplayFault>
+    ensures config { MatchOption (option_fault options.now) (IfErr result (λ e. is_config_fault e ≡ false)) (λ field. (result ≡ Err (fault.Cache (cache.BadConfig field))) × (reader.new ≡ reader.old) × (writer.new ≡ writer.old)) }
+    ensures replayed { Replayed options.now (R.remaining reader.old.inner) (R.remaining reader.new.inner) (W.contents writer.old.inner) (W.contents writer.new.inner) result }
+    ensures reads { Rises reader.old.failures reader.new.failures result fault.ReadFault }
+    ensures turns { reader.new.reads ≤ reader.old.reads + 65000002 }
+    ensures writes { Rises writer.old.failures writer.new.failures result fault.WriteFault }
+    ensures shut { ShutsOnly (λ _. ⊥) result }
+{
+    if let Some(field) = options.fault() {
+        return Err(ReplayFault::Cache(Fault::BadConfig { field }));
+    }
+    let bytes = read_up_to(alloc, reader, MOST_BYTES)?;
+    let (text, verdict) = report(alloc, bytes.as_slice(), options)?;
+    write_out(writer, text.as_slice())?;
+    verdict
+}
+
+/// Replays as `replay` does, with so many threads: thread t runs the lines of the shards whose number modulo `threads`
+/// is t, each shard's lines in order, and asks the gate before each of them.
+///
+/// A line that the gate doesn't let through ends the run with `GateShut` of such a line, after all threads have
+/// ended; nothing was written. Where several threads fail, that of the least shard tells its fault. Takes memory as
+/// `replay` does, and for the threads. It isn't promised that the threads run at the same time: where one can't be
+/// made, its lines are run after those of another.
+pub fn replay_by_shard<H: Threads + Sync, R: Read, W: Write, G: Gate>(
+    rt: &H,
+    alloc: Global,
+    reader: &mut Tallied<R>,
+    writer: &mut Tallied<W>,
+    options: &Options,
+    threads: u64,
+    gate: &G,
+) -> Result<(), ReplayFault>
+    requires { (0 < threads) × (threads ≤ 64) }
+    ensures config { MatchOption (option_fault options.now) (IfErr result (λ e. is_config_fault e ≡ false)) (λ field. (result ≡ Err (fault.Cache (cache.BadConfig field))) × (reader.new ≡ reader.old) × (writer.new ≡ writer.old)) }
+    ensures replayed { Replayed options.now (R.remaining reader.old.inner) (R.remaining reader.new.inner) (W.contents writer.old.inner) (W.contents writer.new.inner) result }
+    ensures reads { Rises reader.old.failures reader.new.failures result fault.ReadFault }
+    ensures turns { reader.new.reads ≤ reader.old.reads + 65000002 }
+    ensures writes { Rises writer.old.failures writer.new.failures result fault.WriteFault }
+    ensures shut { ShutsOnly (λ n. G.answers gate.now n false) result }
+    ensures asked { LetThrough options.now (λ n. G.answers gate.now n true) (R.remaining reader.old.inner) (R.remaining reader.new.inner) result }
+{
+    if let Some(field) = options.fault() {
+        return Err(ReplayFault::Cache(Fault::BadConfig { field }));
+    }
+    let bytes = read_up_to(alloc, reader, MOST_BYTES)?;
+    let (text, verdict) = report_by_shard(
+        rt,
+        alloc,
+        bytes.as_slice(),
+        options,
+        threads as usize,
+        gate,
+    )?;
+    write_out(writer, text.as_slice())?;
+    verdict
+}

@@ -1,0 +1,74 @@
+// Options out of their ranges.
+use super::{FIRST, four_but};
+use crate::fault::ReplayFault;
+use crate::options::Options;
+use crate::run::replay;
+use crate::tallied::Tallied;
+use std::test::*;
+use wt_keys::{Fault, Field};
+
+// A field, a value, and whether it is in the field's range.
+const ROWS: [(Field, u64, bool); 40] = [
+    (Field::Entries, 0, false),
+    (Field::Entries, 1, true),
+    (Field::Entries, 65536, true),
+    (Field::Entries, 65537, false),
+    (Field::Shards, 0, false),
+    (Field::Shards, 1, true),
+    (Field::Shards, 2, true),
+    (Field::Shards, 3, false),
+    (Field::Shards, 4, true),
+    (Field::Shards, 5, false),
+    (Field::Window, 0, false),
+    (Field::Window, 4, true),
+    (Field::Window, 5, false),
+    (Field::Bound, 0, false),
+    (Field::Bound, 1 << 48, true),
+    (Field::Bound, (1 << 48) + 1, false),
+    (Field::Modulus, 0, false),
+    (Field::Modulus, 1000000, true),
+    (Field::Modulus, 1000001, false),
+    (Field::AfterWrite, 0, false),
+    (Field::AfterWrite, 1, true),
+    (Field::AfterAccess, 0, false),
+    (Field::AfterAccess, u64::MAX, true),
+    (Field::Refresh, 0, false),
+    (Field::Refresh, 1, true),
+    (Field::FailMod, 0, false),
+    (Field::FailMod, 1, true),
+    (Field::Flights, 0, false),
+    (Field::Flights, 4096, true),
+    (Field::Flights, 4097, false),
+    (Field::Ring, 32, false),
+    (Field::Ring, 33, true),
+    (Field::Ring, 65536, true),
+    (Field::Ring, 65537, false),
+    (Field::Threads, 64, true),
+    (Field::Threads, 65, false),
+    (Field::Turn, 1, true),
+    (Field::Turn, 64, true),
+    (Field::Turn, 65, false),
+    (Field::Workers, 1, false),
+];
+
+#[test]
+fn an_option_out_of_its_range_is_named_and_nothing_is_read(rt: HostRuntime) {
+    assert_eq!(rt; Options::default().check(), Ok(()));
+    for (field, value, is_in_range) in ROWS {
+        let options = four_but(field, value);
+        if is_in_range {
+            assert_eq!(rt; options.check(), Ok(()));
+            continue;
+        }
+        let outcome = Err(ReplayFault::Cache(Fault::BadConfig { field }));
+        assert_eq!(rt; options.check(), outcome);
+        let mut reader = Tallied::new(FIRST);
+        let mut writer = Tallied::new(Vec::new(rt.alloc()));
+        assert_eq!(rt;
+            replay(rt.alloc(), &mut reader, &mut writer, &options),
+            outcome
+        );
+        assert_eq!(rt; reader.into_inner().len(), FIRST.len());
+        assert!(rt; writer.into_inner().is_empty());
+    }
+}

@@ -1,0 +1,74 @@
+// A trace, read line by line up to the first fault.
+ghost use Rattle.std.specs.Prelude.{◌≡◌, ◌+◌, ◌≤◌, IfOk, length};
+ghost use Rattle.wt_trace.specs.Trace.{lines_of, trace_from};
+ghost use Rattle.wt_trace.specs.Trace as spec;
+
+use crate::fault::ReplayFault;
+use crate::key::TraceKey;
+use crate::line::{Line, cut, line_of};
+use std::alloc::Global;
+use wt_keys::NoMemory;
+
+const MOST_LINES: u64 = 1000000;
+
+const MOST_LENGTH: usize = 64;
+
+/// The lines up to the first fault, and that fault.
+#[derive(Drop)]
+pub struct Lines<K> {
+    /// The lines.
+    pub lines: Vec<Line<K>>,
+    /// What is wrong with the line behind them, if something is.
+    pub verdict: Result<(), ReplayFault>,
+}
+
+// Line n, or what is wrong with it: too many lines, too long a line, no line, in this order.
+#[tactic(auto, unfolding(crate::specs::Trace::checked))]
+fn checked<K: TraceKey>(n: u64, bytes: &[u8]) -> Result<Line<K>, ReplayFault>
+    ensures { result ≡ spec.checked K.read n bytes.now }
+{
+    if MOST_LINES < n {
+        return Err(ReplayFault::TooManyLines);
+    }
+    if MOST_LENGTH < bytes.len() {
+        return Err(ReplayFault::LineTooLong { n });
+    }
+    match line_of(bytes) {
+        Some(line) => Ok(line),
+        None => Err(ReplayFault::BadLine { n }),
+    }
+}
+
+/// Reads the lines of the bytes, the first of which is line `first`.
+pub fn read_lines<K: TraceKey>(
+    alloc: Global,
+    first: u64,
+    bytes: &[u8],
+) -> Result<Lines<K>, NoMemory>
+    requires { first ≤ 1000001 }
+    ensures few { IfOk result (λ read. first + length read.lines.items ≤ 1000001) }
+    ensures lines { IfOk result (λ read. read.lines.items ≡ (trace_from K.read first (lines_of bytes.now)).lines) }
+    ensures verdict { IfOk result (λ read. read.verdict ≡ (trace_from K.read first (lines_of bytes.now)).verdict) }
+{
+    let mut lines = Vec::new(alloc);
+    let mut rest = bytes;
+    let mut n = first;
+    while !rest.is_empty() {
+        let (line, after) = cut(rest, b'\n');
+        match checked(n, line) {
+            Ok(line) => lines.push(line)?,
+            Err(fault) => {
+                return Ok(Lines {
+                    lines,
+                    verdict: Err(fault),
+                });
+            }
+        }
+        rest = after;
+        n += 1;
+    }
+    Ok(Lines {
+        lines,
+        verdict: Ok(()),
+    })
+}
