@@ -12,6 +12,7 @@ mod refusals;
 mod ring;
 mod run;
 mod settling;
+mod soak;
 
 use wt_core::{Call, Config, Land, Reply, Weighs};
 use wt_keys::{Answers, Fault, NoMemory, Share};
