@@ -73,7 +73,7 @@ class Cache:
         self._weigh, self._on_leave = weigh or (lambda key, value: 1), on_leave
         self._clock = clock or (lambda: int(time.monotonic() * 1000))
         self._values, self._loads, self._last = {}, {}, 0  # by token: (key, value); by a load's id: _Load
-        self._ids, self._last_id, self._held = {}, 0, {}  # by key: its number; by number: how many entries and loads use it
+        self._ids, self._held = {}, {}  # by key: its number; by number: how many entries and loads use it, and the key
         setup = _Setup(entries, window or max(1, entries // 100), flights, bound, after_write, after_access, refresh)
         self._check(self._library.rd_open(setup, self._handle))
 
@@ -184,12 +184,17 @@ class Cache:
             raise Refused(fault)
 
     def _number(self, key):
-        """The number of the key, which stays its own while an entry, a load or a call uses it."""
+        """The number of the key, which stays its own while an entry, a load or a call uses it.
+
+        It is made of the key's hash, so that a key that comes again is counted with its earlier uses; where another key has that
+        number, it is the next that is free.
+        """
         number = self._ids.get(key)
         if number is None:
-            self._last_id += 1
-            number = self._ids[key] = self._last_id
-            self._held[number] = [0, key]
+            number = hash(key) % 2 ** 64
+            while number in self._held:
+                number = (number + 1) % 2 ** 64
+            self._ids[key], self._held[number] = number, [0, key]
         self._held[number][0] += 1
         return number
 

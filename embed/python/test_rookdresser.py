@@ -112,6 +112,28 @@ class Rules(unittest.TestCase):
             self.assertLessEqual(numbers["entries"], 100)
             self.assertLessEqual(numbers["weight"], 1500)
 
+    def test_keys_are_of_any_kind_and_those_of_one_hash_are_told_apart(self):
+        class Alike(str):
+            def __hash__(self):
+                return 5
+
+        with Cache(entries=10) as cache:
+            for i, key in enumerate((Alike("a"), Alike("b"), 5, "text", b"text", ("a", 1), 2 ** 70, -1)):
+                cache.put(key, i)
+            cache.drop(Alike("a"))
+            cache.put(Alike("c"), 8)
+            found = [cache.look(key) for key in (Alike("a"), Alike("b"), 5, "text", b"text", ("a", 1), 2 ** 70, -1, Alike("c"))]
+        self.assertEqual(found, [None, 1, 2, 3, 4, 5, 6, 7, 8])
+
+    def test_a_key_that_comes_often_is_let_in(self):
+        with Cache(entries=16, window=1) as cache:
+            for key in [str(i) for i in range(16)] * 3:
+                cache.get(key, lambda key: key)
+            for _ in range(8):
+                cache.get("often", lambda key: key)
+                cache.get("too", lambda key: key)
+            self.assertEqual(cache.look("often"), "often")
+
     def test_a_closed_cache_refuses(self):
         cache = Cache(entries=10)
         cache.close()
