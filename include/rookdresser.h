@@ -1,8 +1,9 @@
 /* rookdresser: the proved sequential cache, for C and whatever calls C.
  *
- * Keys are numbers of 64 bits. A value is a token, a number of the caller's with a weight: the caller keeps the real
- * values by their tokens, and lets go of a token when a notice says that it left. Moments and durations are
- * milliseconds by a clock of the caller's; a moment before the latest one counts as the latest.
+ * Keys are numbers of 64 bits, or names of at most 24 bytes: a cache has one kind, by how it was opened. A value is a
+ * token, a number of the caller's with a weight: the caller keeps the real values by their tokens, and lets go of a token
+ * when a notice says that it left. Moments and durations are milliseconds by a clock of the caller's; a moment before the
+ * latest one counts as the latest.
  *
  *     rd_setup setup = {.entries = 1000, .window = 10, .flights = 64, .bound = 1 << 20};
  *     rd_cache cache = RD_CACHE_INIT;
@@ -12,8 +13,8 @@
  *     rd_look(&cache, 1, 0, &answer);                      answer.kind is RD_HIT, answer.token 7
  *     rd_close(&cache);
  *
- * The functions are proved, for any numbers that they are handed. This header is not: its structs and signatures are
- * written by hand to fit them. What the caller owes, and nothing checks:
+ * The functions are proved, for any numbers and names that they are handed. This header is not: its structs and
+ * signatures, and rd_name_of, are written by hand to fit them. What the caller owes, and nothing checks:
  *
  *  - no pointer is null; each leads to one whole, aligned, live object of its type; no two of one call overlap;
  *  - an rd_cache begins as RD_CACHE_INIT, and from then on only these functions write it. It may be moved, but not
@@ -26,7 +27,9 @@
 #ifndef ROOKDRESSER_H
 #define ROOKDRESSER_H
 #include <stdbool.h>
+#include <stddef.h>
 #include <stdint.h>
+#include <string.h>
 #ifdef __cplusplus
 extern "C" {
 #endif
@@ -43,6 +46,20 @@ typedef struct rd_token {
     uint64_t token;
     uint32_t weight;
 } rd_token;
+
+/* A key of at most 24 bytes, which need not be text; a null byte is one like any other. The bytes from length on say
+ * nothing. With a length above 24 it is no name, and each call refuses it. */
+typedef struct rd_name {
+    uint8_t bytes[24];
+    uint64_t length;
+} rd_name;
+
+/* The name of these bytes. Of more than 24 it is one that each call refuses. */
+static inline rd_name rd_name_of(const void *bytes, size_t length) {
+    rd_name name = {{0}, length};
+    if (length <= sizeof name.bytes) memcpy(name.bytes, bytes, length);
+    return name;
+}
 
 /* What a cache is opened for. */
 typedef struct rd_setup {
@@ -66,7 +83,9 @@ enum rd_fault {
     RD_STEPS_SPENT = 5,      /* 2^60 steps were made */
     RD_CLOSED = 100,
     RD_OPEN_ALREADY = 101,
-    RD_NO_SUCH_NOTICE = 102
+    RD_NO_SUCH_NOTICE = 102,
+    RD_OTHER_KEYS = 103,     /* a call by number on a cache of names, or by name on one of numbers */
+    RD_NAME_TOO_LONG = 104   /* the name has more than 24 bytes */
 };
 
 /* Which answer a call gave, with what its other fields say; those not named are 0. */
@@ -113,6 +132,14 @@ typedef struct rd_notice {
     uint32_t cause; /* an rd_cause */
 } rd_notice;
 
+/* The same of a cache of names. */
+typedef struct rd_name_notice {
+    rd_name key; /* with zeros behind it */
+    uint64_t token;
+    uint32_t weight;
+    uint32_t cause;
+} rd_name_notice;
+
 /* The numbers of a cache. At all times hits and misses together are the look-ups, entries and weight are within the
  * setup's entries and bound, flights is within its flights, and no number wraps. */
 typedef struct rd_numbers {
@@ -133,15 +160,19 @@ typedef struct rd_numbers {
  * 6 after_access, 7 refresh. */
 uint64_t rd_check(const rd_setup *setup);
 
-/* Opens an empty cache. RD_OPEN_ALREADY, RD_BAD_SETUP, or RD_OUT_OF_MEMORY, in this order; the cache is then as it was. */
+/* Opens an empty cache whose keys are numbers. RD_OPEN_ALREADY, RD_BAD_SETUP, or RD_OUT_OF_MEMORY, in this order; the cache
+ * is then as it was. */
 uint64_t rd_open(const rd_setup *setup, rd_cache *cache);
+
+/* Opens an empty cache whose keys are names, likewise. */
+uint64_t rd_open_names(const rd_setup *setup, rd_cache *cache);
 
 /* Closes the cache and frees its memory; its tokens are all the caller's again, with no notices. RD_CLOSED where it is
  * closed already. */
 uint64_t rd_close(rd_cache *cache);
 
 /* Each of the ten calls below makes one step at the moment now and writes its answer, or is refused. Closed, it returns
- * RD_CLOSED and writes nothing. */
+ * RD_CLOSED and writes nothing; on a cache of names, those with a key return RD_OTHER_KEYS and write nothing. */
 
 /* Looks the key up: RD_HIT, which is a use, or RD_ABSENT. A look-up that misses takes no memory. */
 uint64_t rd_look(rd_cache *cache, uint64_t key, uint64_t now, rd_answer *answer);
@@ -178,8 +209,23 @@ uint64_t rd_clear(rd_cache *cache, uint64_t now, rd_answer *answer);
 /* Takes every expired entry out: RD_CLEANED. Takes no memory. */
 uint64_t rd_clean(rd_cache *cache, uint64_t now, rd_answer *answer);
 
-/* Tells notice i, from 0, of the latest of the ten calls; RD_NO_SUCH_NOTICE where there is none. */
+/* The eight of them that have a key, by name. Each does on a cache of names what its namesake does on one of numbers, or
+ * writes nothing and returns RD_NAME_TOO_LONG, RD_CLOSED, or RD_OTHER_KEYS, in this order. */
+uint64_t rd_look_name(rd_cache *cache, const rd_name *key, uint64_t now, rd_answer *answer);
+uint64_t rd_seek_name(rd_cache *cache, const rd_name *key, uint64_t now, rd_answer *answer);
+uint64_t rd_land_keep_name(rd_cache *cache, uint64_t id, const rd_name *key, rd_token value, uint64_t now,
+                           rd_answer *answer);
+uint64_t rd_land_loose_name(rd_cache *cache, uint64_t id, const rd_name *key, uint64_t now, rd_answer *answer);
+uint64_t rd_land_failed_name(rd_cache *cache, uint64_t id, const rd_name *key, uint64_t now, rd_answer *answer);
+uint64_t rd_put_name(rd_cache *cache, const rd_name *key, rd_token value, uint64_t now, rd_answer *answer);
+uint64_t rd_drop_name(rd_cache *cache, const rd_name *key, uint64_t now, rd_answer *answer);
+uint64_t rd_forget_name(rd_cache *cache, const rd_name *key, uint64_t now, rd_answer *answer);
+
+/* Tells notice i, from 0, of the latest of these eighteen calls; RD_NO_SUCH_NOTICE where there is none. */
 uint64_t rd_get_notice(rd_cache *cache, uint64_t i, rd_notice *notice);
+
+/* The same of a cache of names. Each of the two returns RD_OTHER_KEYS on a cache of the other kind. */
+uint64_t rd_get_notice_name(rd_cache *cache, uint64_t i, rd_name_notice *notice);
 
 /* Tells the numbers of the cache. */
 uint64_t rd_get_numbers(rd_cache *cache, rd_numbers *numbers);

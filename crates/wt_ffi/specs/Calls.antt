@@ -1,5 +1,5 @@
 -- What C is told of a call.
-use Rattle.std.specs.Prelude.{IsSome, ℕ, ◌==◌, nat_eq, Bool, if◌then◌else◌, length}
+use Rattle.std.specs.Prelude.{IsSome, ℕ, ◌==◌, Bool, if◌then◌else◌, length}
 use Rattle.wt_keys.specs.Faults.{fault_number}
 use Rattle.wt_regions.specs.Notices.{appended, emptied}
 use Rattle.wt_core.specs.declared.kinds.Call.{Call}
@@ -48,34 +48,36 @@ abbrev pub number_of : Reply Token → ℕ
 number_of (Refused f) = fault_number f
 number_of _ = 0
 
--- what the definition makes of a call
-abbrev pub made_of : Call ℕ Token → Open → Made ℕ Token
-made_of call c = taken nat_eq (λ k. k) (λ v. v.weight) c.core call
-
 -- with the notices of no call
-abbrev pub quiet : Open → Open
+abbrev pub quiet : {K : Type 0} → Open K → Open K
 quiet c = record { core = c.core; notices = emptied c.notices }
 
--- after the call: the definition's state, with the notices of this call alone
-abbrev pub called : Call ℕ Token → Open → Open
-called call c = let made = made_of call c in record { core = made.state; notices = appended made.notices (emptied c.notices) }
+-- keys are compared by eq, and counted by their words
+module _ {K : Type 0} (eq : K → K → Bool) (word : K → ℕ) where
+  -- what the definition makes of a call
+  abbrev pub made_of : Call K Token → Open K → Made K Token
+  made_of call c = taken eq word (λ v. v.weight) c.core call
 
--- where memory was refused nothing has changed, but that the notices are gone
-abbrev pub after : ℕ → Call ℕ Token → Open → Open
-after kind call c = if kind == 0 then quiet c else called call c
+  -- after the call: the definition's state, with the notices of this call alone
+  abbrev pub called : Call K Token → Open K → Open K
+  called call c = let made = made_of call c in record { core = made.state; notices = appended made.notices (emptied c.notices) }
 
--- the number that is returned
-abbrev pub number_after : ℕ → Call ℕ Token → Open → ℕ
-number_after kind call c = if kind == 0 then 1 else number_of (made_of call c).reply
+  -- where memory was refused nothing has changed, but that the notices are gone
+  abbrev pub after : ℕ → Call K Token → Open K → Open K
+  after kind call c = if kind == 0 then quiet c else called call c
 
--- the answer that is told
-abbrev pub answer_after : ℕ → Call ℕ Token → Open → Answer
-answer_after kind call c = if kind == 0 then plain 0 1 0 else answer_of (made_of call c).reply (length (made_of call c).notices)
+  -- the number that is returned
+  abbrev pub number_after : ℕ → Call K Token → Open K → ℕ
+  number_after kind call c = if kind == 0 then 1 else number_of (made_of call c).reply
 
--- the state refuses the call
-abbrev pub IsRefused : Call ℕ Token → Open → Type 0
-IsRefused call c = IsSome (refusal_of nat_eq (λ k. k) (λ v. v.weight) c.core call)
+  -- the answer that is told
+  abbrev pub answer_after : ℕ → Call K Token → Open K → Answer
+  answer_after kind call c = if kind == 0 then plain 0 1 0 else answer_of (made_of call c).reply (length (made_of call c).notices)
+
+  -- the state refuses the call
+  abbrev pub IsRefused : Call K Token → Open K → Type 0
+  IsRefused call c = IsSome (refusal_of eq word (λ v. v.weight) c.core call)
 
 -- the call takes no memory
-abbrev pub IsFree : Call ℕ Token → Open → Type 0
-IsFree call c = TakesNone nat_eq (λ v. v.weight) c.core call
+abbrev pub IsFree : {K : Type 0} → (K → K → Bool) → Call K Token → Open K → Type 0
+IsFree eq call c = TakesNone eq (λ v. v.weight) c.core call

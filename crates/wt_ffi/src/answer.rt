@@ -15,7 +15,7 @@ pub struct Answer {
     pub weight: u32,
     /// The token of a hit.
     pub token: u64,
-    /// The id of a load, the number of its sharers, whether there was something, or the fault's number.
+    /// A load's id, the number of its sharers, whether there was something, or the fault's number.
     pub number: u64,
     /// How many notices the call told.
     pub notices: u64,

@@ -1,7 +1,9 @@
 // Looking up and storing, each one step of the definition.
-ghost use Rattle.std.specs.Prelude.{◌≡◌, ◌<◌, Some, IfSome, IsNone, None};
+ghost use Rattle.std.specs.Prelude.{◌≡◌, ◌<◌, Some, IfSome, IsNone, IsSome, None};
 ghost use Rattle.wt_core.specs.declared.kinds.Call.TheVariants as call;
-ghost use Rattle.wt_ffi.specs.Calls.{after, number_after, answer_after, IsRefused, IsFree};
+ghost use Rattle.wt_ffi.specs.declared.opened.Opened.TheVariants as opened;
+ghost use Rattle.wt_ffi.specs.Kinds.{numbered, named};
+ghost use Rattle.wt_ffi.specs.Numbered.{after, number_after, answer_after, IsRefused, IsFree};
 
 use crate::answer::Answer;
 use crate::handle::Handle;
@@ -21,18 +23,20 @@ pub extern "C" fn rd_look(
     now: u64,
     answer: &mut Answer,
 ) -> u64
-    ensures state { IfSome handle.old.pointer.cache (λ c. handle.new.pointer.cache
-        ≡ Some (after answer.new.kind (call.Look key now) c)) }
-    ensures number { IfSome handle.old.pointer.cache (λ c. result
+    ensures state { IfSome (numbered handle.old.pointer.cache) (λ c. handle.new.pointer.cache
+        ≡ Some (opened.Numbers (after answer.new.kind (call.Look key now) c))) }
+    ensures number { IfSome (numbered handle.old.pointer.cache) (λ c. result
         ≡ number_after answer.new.kind (call.Look key now) c) }
-    ensures answer { IfSome handle.old.pointer.cache (λ c. answer.new
+    ensures answer { IfSome (numbered handle.old.pointer.cache) (λ c. answer.new
         ≡ answer_after answer.new.kind (call.Look key now) c) }
-    ensures refusal { IfSome handle.old.pointer.cache (λ c.
+    ensures refusal { IfSome (numbered handle.old.pointer.cache) (λ c.
         IsRefused (call.Look key now) c → 0 < answer.new.kind) }
-    ensures memory { IfSome handle.old.pointer.cache (λ c.
+    ensures memory { IfSome (numbered handle.old.pointer.cache) (λ c.
         IsFree (call.Look key now) c → 0 < answer.new.kind) }
     ensures closed { IsNone handle.old.pointer.cache
         → (result ≡ 100) × (handle.new.pointer.cache ≡ None) × (answer.new ≡ answer.old) }
+    ensures other { IsSome (named handle.old.pointer.cache) → (result ≡ 103)
+        × (handle.new.pointer.cache ≡ handle.old.pointer.cache) × (answer.new ≡ answer.old) }
 {
     make(alloc, handle, Call::Look(key, now), answer)
 }
@@ -50,18 +54,20 @@ pub extern "C" fn rd_seek(
     now: u64,
     answer: &mut Answer,
 ) -> u64
-    ensures state { IfSome handle.old.pointer.cache (λ c. handle.new.pointer.cache
-        ≡ Some (after answer.new.kind (call.Seek key now) c)) }
-    ensures number { IfSome handle.old.pointer.cache (λ c. result
+    ensures state { IfSome (numbered handle.old.pointer.cache) (λ c. handle.new.pointer.cache
+        ≡ Some (opened.Numbers (after answer.new.kind (call.Seek key now) c))) }
+    ensures number { IfSome (numbered handle.old.pointer.cache) (λ c. result
         ≡ number_after answer.new.kind (call.Seek key now) c) }
-    ensures answer { IfSome handle.old.pointer.cache (λ c. answer.new
+    ensures answer { IfSome (numbered handle.old.pointer.cache) (λ c. answer.new
         ≡ answer_after answer.new.kind (call.Seek key now) c) }
-    ensures refusal { IfSome handle.old.pointer.cache (λ c.
+    ensures refusal { IfSome (numbered handle.old.pointer.cache) (λ c.
         IsRefused (call.Seek key now) c → 0 < answer.new.kind) }
-    ensures memory { IfSome handle.old.pointer.cache (λ c.
+    ensures memory { IfSome (numbered handle.old.pointer.cache) (λ c.
         IsFree (call.Seek key now) c → 0 < answer.new.kind) }
     ensures closed { IsNone handle.old.pointer.cache
         → (result ≡ 100) × (handle.new.pointer.cache ≡ None) × (answer.new ≡ answer.old) }
+    ensures other { IsSome (named handle.old.pointer.cache) → (result ≡ 103)
+        × (handle.new.pointer.cache ≡ handle.old.pointer.cache) × (answer.new ≡ answer.old) }
 {
     make(alloc, handle, Call::Seek(key, now), answer)
 }
@@ -80,18 +86,20 @@ pub extern "C" fn rd_put(
     now: u64,
     answer: &mut Answer,
 ) -> u64
-    ensures state { IfSome handle.old.pointer.cache (λ c. handle.new.pointer.cache
-        ≡ Some (after answer.new.kind (call.Put key value now) c)) }
-    ensures number { IfSome handle.old.pointer.cache (λ c. result
+    ensures state { IfSome (numbered handle.old.pointer.cache) (λ c. handle.new.pointer.cache
+        ≡ Some (opened.Numbers (after answer.new.kind (call.Put key value now) c))) }
+    ensures number { IfSome (numbered handle.old.pointer.cache) (λ c. result
         ≡ number_after answer.new.kind (call.Put key value now) c) }
-    ensures answer { IfSome handle.old.pointer.cache (λ c. answer.new
+    ensures answer { IfSome (numbered handle.old.pointer.cache) (λ c. answer.new
         ≡ answer_after answer.new.kind (call.Put key value now) c) }
-    ensures refusal { IfSome handle.old.pointer.cache (λ c.
+    ensures refusal { IfSome (numbered handle.old.pointer.cache) (λ c.
         IsRefused (call.Put key value now) c → 0 < answer.new.kind) }
-    ensures memory { IfSome handle.old.pointer.cache (λ c.
+    ensures memory { IfSome (numbered handle.old.pointer.cache) (λ c.
         IsFree (call.Put key value now) c → 0 < answer.new.kind) }
     ensures closed { IsNone handle.old.pointer.cache
         → (result ≡ 100) × (handle.new.pointer.cache ≡ None) × (answer.new ≡ answer.old) }
+    ensures other { IsSome (named handle.old.pointer.cache) → (result ≡ 103)
+        × (handle.new.pointer.cache ≡ handle.old.pointer.cache) × (answer.new ≡ answer.old) }
 {
     make(alloc, handle, Call::Put(key, value, now), answer)
 }

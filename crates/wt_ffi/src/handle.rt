@@ -8,12 +8,17 @@ use crate::raw_box::RawBox;
 use std::alloc::Global;
 use std::{mem, ptr};
 
-// What a call returns where the cache is closed, where it is open already, and where there is no such notice.
+// What a call returns where the cache is closed, where it is open already, where there is no such
+// notice, where the cache has keys of the other kind, and where a name is longer than 24 bytes.
 pub(crate) const CLOSED: u64 = 100;
 
 pub(crate) const OPEN: u64 = 101;
 
 pub(crate) const NONE: u64 = 102;
+
+pub(crate) const OTHER_KEYS: u64 = 103;
+
+pub(crate) const TOO_LONG: u64 = 104;
 
 /// What C holds of a cache: `rd_cache` of the header. All bytes zero, it is closed.
 #[repr(C)]
@@ -57,7 +62,7 @@ impl Handle {
 
 fn sendable<T: Send>() {}
 
-/// Proves, by being checked, that an open cache may go to another thread: so C may hand a handle to one.
+/// Proves, by being checked, that an open cache may go to another thread, and so C's handle too.
 pub fn cache_is_sendable() {
     sendable::<Box<Opened, Global>>();
 }

@@ -1,8 +1,10 @@
 // Closing a load, each call one step of the definition.
-ghost use Rattle.std.specs.Prelude.{◌≡◌, ◌<◌, Some, IfSome, IsNone, None};
+ghost use Rattle.std.specs.Prelude.{◌≡◌, ◌<◌, Some, IfSome, IsNone, IsSome, None};
 ghost use Rattle.wt_core.specs.declared.kinds.Call.TheVariants as call;
 ghost use Rattle.wt_core.specs.declared.kinds.Land.TheVariants as land;
-ghost use Rattle.wt_ffi.specs.Calls.{after, number_after, answer_after, IsRefused, IsFree};
+ghost use Rattle.wt_ffi.specs.declared.opened.Opened.TheVariants as opened;
+ghost use Rattle.wt_ffi.specs.Kinds.{numbered, named};
+ghost use Rattle.wt_ffi.specs.Numbered.{after, number_after, answer_after, IsRefused, IsFree};
 
 use crate::answer::Answer;
 use crate::handle::Handle;
@@ -11,7 +13,7 @@ use crate::token::Token;
 use std::alloc::Global;
 use wt_core::{Call, Land};
 
-/// Closes a load with a value, which is stored where the load is current and the value not too heavy.
+/// Closes a load with a value, which is stored where the load is current and it isn't too heavy.
 ///
 /// `RD_KEPT` where it was stored, else `RD_LOOSE`, both with the number of sharers; `RD_GONE` where no such
 /// load of the key is open. Takes memory only where it stores. Expected O(1) for keys that nobody
@@ -26,18 +28,20 @@ pub extern "C" fn rd_land_keep(
     now: u64,
     answer: &mut Answer,
 ) -> u64
-    ensures state { IfSome handle.old.pointer.cache (λ c. handle.new.pointer.cache
-        ≡ Some (after answer.new.kind (call.Land id key (land.Keep value) now) c)) }
-    ensures number { IfSome handle.old.pointer.cache (λ c. result
+    ensures state { IfSome (numbered handle.old.pointer.cache) (λ c. handle.new.pointer.cache
+        ≡ Some (opened.Numbers (after answer.new.kind (call.Land id key (land.Keep value) now) c))) }
+    ensures number { IfSome (numbered handle.old.pointer.cache) (λ c. result
         ≡ number_after answer.new.kind (call.Land id key (land.Keep value) now) c) }
-    ensures answer { IfSome handle.old.pointer.cache (λ c. answer.new
+    ensures answer { IfSome (numbered handle.old.pointer.cache) (λ c. answer.new
         ≡ answer_after answer.new.kind (call.Land id key (land.Keep value) now) c) }
-    ensures refusal { IfSome handle.old.pointer.cache (λ c.
+    ensures refusal { IfSome (numbered handle.old.pointer.cache) (λ c.
         IsRefused (call.Land id key (land.Keep value) now) c → 0 < answer.new.kind) }
-    ensures memory { IfSome handle.old.pointer.cache (λ c.
+    ensures memory { IfSome (numbered handle.old.pointer.cache) (λ c.
         IsFree (call.Land id key (land.Keep value) now) c → 0 < answer.new.kind) }
     ensures closed { IsNone handle.old.pointer.cache
         → (result ≡ 100) × (handle.new.pointer.cache ≡ None) × (answer.new ≡ answer.old) }
+    ensures other { IsSome (named handle.old.pointer.cache) → (result ≡ 103)
+        × (handle.new.pointer.cache ≡ handle.old.pointer.cache) × (answer.new ≡ answer.old) }
 {
     make(
         alloc,
@@ -47,7 +51,8 @@ pub extern "C" fn rd_land_keep(
     )
 }
 
-/// Closes a load with a value that isn't to be stored: `RD_LOOSE` with the number of sharers, or `RD_GONE`.
+/// Closes a load with a value that isn't to be stored: `RD_LOOSE` with the number of sharers, or
+/// `RD_GONE`.
 ///
 /// Takes no memory. Expected O(1) for keys that nobody picks.
 #[unsafe(no_mangle)]
@@ -59,18 +64,20 @@ pub extern "C" fn rd_land_loose(
     now: u64,
     answer: &mut Answer,
 ) -> u64
-    ensures state { IfSome handle.old.pointer.cache (λ c. handle.new.pointer.cache
-        ≡ Some (after answer.new.kind (call.Land id key land.Loose now) c)) }
-    ensures number { IfSome handle.old.pointer.cache (λ c. result
+    ensures state { IfSome (numbered handle.old.pointer.cache) (λ c. handle.new.pointer.cache
+        ≡ Some (opened.Numbers (after answer.new.kind (call.Land id key land.Loose now) c))) }
+    ensures number { IfSome (numbered handle.old.pointer.cache) (λ c. result
         ≡ number_after answer.new.kind (call.Land id key land.Loose now) c) }
-    ensures answer { IfSome handle.old.pointer.cache (λ c. answer.new
+    ensures answer { IfSome (numbered handle.old.pointer.cache) (λ c. answer.new
         ≡ answer_after answer.new.kind (call.Land id key land.Loose now) c) }
-    ensures refusal { IfSome handle.old.pointer.cache (λ c.
+    ensures refusal { IfSome (numbered handle.old.pointer.cache) (λ c.
         IsRefused (call.Land id key land.Loose now) c → 0 < answer.new.kind) }
-    ensures memory { IfSome handle.old.pointer.cache (λ c.
+    ensures memory { IfSome (numbered handle.old.pointer.cache) (λ c.
         IsFree (call.Land id key land.Loose now) c → 0 < answer.new.kind) }
     ensures closed { IsNone handle.old.pointer.cache
         → (result ≡ 100) × (handle.new.pointer.cache ≡ None) × (answer.new ≡ answer.old) }
+    ensures other { IsSome (named handle.old.pointer.cache) → (result ≡ 103)
+        × (handle.new.pointer.cache ≡ handle.old.pointer.cache) × (answer.new ≡ answer.old) }
 {
     make(alloc, handle, Call::Land(id, key, Land::Loose, now), answer)
 }
@@ -87,18 +94,20 @@ pub extern "C" fn rd_land_failed(
     now: u64,
     answer: &mut Answer,
 ) -> u64
-    ensures state { IfSome handle.old.pointer.cache (λ c. handle.new.pointer.cache
-        ≡ Some (after answer.new.kind (call.Land id key land.Failed now) c)) }
-    ensures number { IfSome handle.old.pointer.cache (λ c. result
+    ensures state { IfSome (numbered handle.old.pointer.cache) (λ c. handle.new.pointer.cache
+        ≡ Some (opened.Numbers (after answer.new.kind (call.Land id key land.Failed now) c))) }
+    ensures number { IfSome (numbered handle.old.pointer.cache) (λ c. result
         ≡ number_after answer.new.kind (call.Land id key land.Failed now) c) }
-    ensures answer { IfSome handle.old.pointer.cache (λ c. answer.new
+    ensures answer { IfSome (numbered handle.old.pointer.cache) (λ c. answer.new
         ≡ answer_after answer.new.kind (call.Land id key land.Failed now) c) }
-    ensures refusal { IfSome handle.old.pointer.cache (λ c.
+    ensures refusal { IfSome (numbered handle.old.pointer.cache) (λ c.
         IsRefused (call.Land id key land.Failed now) c → 0 < answer.new.kind) }
-    ensures memory { IfSome handle.old.pointer.cache (λ c.
+    ensures memory { IfSome (numbered handle.old.pointer.cache) (λ c.
         IsFree (call.Land id key land.Failed now) c → 0 < answer.new.kind) }
     ensures closed { IsNone handle.old.pointer.cache
         → (result ≡ 100) × (handle.new.pointer.cache ≡ None) × (answer.new ≡ answer.old) }
+    ensures other { IsSome (named handle.old.pointer.cache) → (result ≡ 103)
+        × (handle.new.pointer.cache ≡ handle.old.pointer.cache) × (answer.new ≡ answer.old) }
 {
     make(
         alloc,

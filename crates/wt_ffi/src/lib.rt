@@ -2,20 +2,29 @@
 #![tactic(auto)]
 
 mod answer;
+mod cached;
 mod calls;
 mod handle;
 mod landings;
 mod make;
+mod name_calls;
+mod name_landings;
+mod name_removals;
+mod names;
 mod opened;
 mod pointer;
 mod raw_box;
 mod removals;
 mod setup;
 mod shows;
+mod sweeps;
+mod text;
 mod token;
 
 pub use answer::Answer;
 pub use handle::Handle;
+pub use names::NameLeft;
 pub use setup::Setup;
 pub use shows::{Left, Numbers};
+pub use text::Text;
 pub use token::Token;

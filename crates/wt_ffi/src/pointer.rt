@@ -1,6 +1,6 @@
 // A box, or none, as a pointer that C may hold.
 ghost use Rattle.std.specs.Prelude.{◌≡◌, Option, Some, None, IsSome};
-ghost use Rattle.wt_ffi.specs.Open.{Open};
+ghost use Rattle.wt_ffi.specs.declared.opened.Opened.{Opened};
 ghost use Rattle.wt_ffi.specs.Pointer.{pointer_owns};
 
 use crate::opened::Opened;
@@ -16,7 +16,7 @@ use std::marker::Model;
 pub struct Pointer {
     at: *mut u8,
     alloc: Global,
-    pub ghost cache: { Option Open },
+    pub ghost cache: { Option Opened },
 }
 
 impl Model for Pointer {

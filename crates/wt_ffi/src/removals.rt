@@ -1,7 +1,9 @@
 // Taking entries out and letting loads go, each call one step of the definition.
-ghost use Rattle.std.specs.Prelude.{◌≡◌, ◌<◌, Some, IfSome, IsNone, None};
+ghost use Rattle.std.specs.Prelude.{◌≡◌, ◌<◌, Some, IfSome, IsNone, IsSome, None};
 ghost use Rattle.wt_core.specs.declared.kinds.Call.TheVariants as call;
-ghost use Rattle.wt_ffi.specs.Calls.{after, number_after, answer_after, IsRefused, IsFree};
+ghost use Rattle.wt_ffi.specs.declared.opened.Opened.TheVariants as opened;
+ghost use Rattle.wt_ffi.specs.Kinds.{numbered, named};
+ghost use Rattle.wt_ffi.specs.Numbered.{after, number_after, answer_after, IsRefused, IsFree};
 
 use crate::answer::Answer;
 use crate::handle::Handle;
@@ -21,23 +23,26 @@ pub extern "C" fn rd_drop_key(
     now: u64,
     answer: &mut Answer,
 ) -> u64
-    ensures state { IfSome handle.old.pointer.cache (λ c. handle.new.pointer.cache
-        ≡ Some (after answer.new.kind (call.DropKey key now) c)) }
-    ensures number { IfSome handle.old.pointer.cache (λ c. result
+    ensures state { IfSome (numbered handle.old.pointer.cache) (λ c. handle.new.pointer.cache
+        ≡ Some (opened.Numbers (after answer.new.kind (call.DropKey key now) c))) }
+    ensures number { IfSome (numbered handle.old.pointer.cache) (λ c. result
         ≡ number_after answer.new.kind (call.DropKey key now) c) }
-    ensures answer { IfSome handle.old.pointer.cache (λ c. answer.new
+    ensures answer { IfSome (numbered handle.old.pointer.cache) (λ c. answer.new
         ≡ answer_after answer.new.kind (call.DropKey key now) c) }
-    ensures refusal { IfSome handle.old.pointer.cache (λ c.
+    ensures refusal { IfSome (numbered handle.old.pointer.cache) (λ c.
         IsRefused (call.DropKey key now) c → 0 < answer.new.kind) }
-    ensures memory { IfSome handle.old.pointer.cache (λ c.
+    ensures memory { IfSome (numbered handle.old.pointer.cache) (λ c.
         IsFree (call.DropKey key now) c → 0 < answer.new.kind) }
     ensures closed { IsNone handle.old.pointer.cache
         → (result ≡ 100) × (handle.new.pointer.cache ≡ None) × (answer.new ≡ answer.old) }
+    ensures other { IsSome (named handle.old.pointer.cache) → (result ≡ 103)
+        × (handle.new.pointer.cache ≡ handle.old.pointer.cache) × (answer.new ≡ answer.old) }
 {
     make(alloc, handle, Call::DropKey(key, now), answer)
 }
 
-/// Lets no further caller join the key's current load: `RD_FORGOT`, with 1 where there was one, else 0.
+/// Lets no further caller join the key's current load: `RD_FORGOT`, with 1 where there was one,
+/// else 0.
 ///
 /// That load stores nothing. Takes no memory. Expected O(1) for keys that nobody picks.
 #[unsafe(no_mangle)]
@@ -48,60 +53,20 @@ pub extern "C" fn rd_forget(
     now: u64,
     answer: &mut Answer,
 ) -> u64
-    ensures state { IfSome handle.old.pointer.cache (λ c. handle.new.pointer.cache
-        ≡ Some (after answer.new.kind (call.Forget key now) c)) }
-    ensures number { IfSome handle.old.pointer.cache (λ c. result
+    ensures state { IfSome (numbered handle.old.pointer.cache) (λ c. handle.new.pointer.cache
+        ≡ Some (opened.Numbers (after answer.new.kind (call.Forget key now) c))) }
+    ensures number { IfSome (numbered handle.old.pointer.cache) (λ c. result
         ≡ number_after answer.new.kind (call.Forget key now) c) }
-    ensures answer { IfSome handle.old.pointer.cache (λ c. answer.new
+    ensures answer { IfSome (numbered handle.old.pointer.cache) (λ c. answer.new
         ≡ answer_after answer.new.kind (call.Forget key now) c) }
-    ensures refusal { IfSome handle.old.pointer.cache (λ c.
+    ensures refusal { IfSome (numbered handle.old.pointer.cache) (λ c.
         IsRefused (call.Forget key now) c → 0 < answer.new.kind) }
-    ensures memory { IfSome handle.old.pointer.cache (λ c.
+    ensures memory { IfSome (numbered handle.old.pointer.cache) (λ c.
         IsFree (call.Forget key now) c → 0 < answer.new.kind) }
     ensures closed { IsNone handle.old.pointer.cache
         → (result ≡ 100) × (handle.new.pointer.cache ≡ None) × (answer.new ≡ answer.old) }
+    ensures other { IsSome (named handle.old.pointer.cache) → (result ≡ 103)
+        × (handle.new.pointer.cache ≡ handle.old.pointer.cache) × (answer.new ≡ answer.old) }
 {
     make(alloc, handle, Call::Forget(key, now), answer)
-}
-
-/// Takes every entry out: `RD_CLEARED`. The loads that are open store nothing.
-///
-/// Takes no memory. O(entries).
-#[unsafe(no_mangle)]
-pub extern "C" fn rd_clear(alloc: Global, handle: &mut Handle, now: u64, answer: &mut Answer) -> u64
-    ensures state { IfSome handle.old.pointer.cache (λ c. handle.new.pointer.cache
-        ≡ Some (after answer.new.kind (call.Clear now) c)) }
-    ensures number { IfSome handle.old.pointer.cache (λ c. result
-        ≡ number_after answer.new.kind (call.Clear now) c) }
-    ensures answer { IfSome handle.old.pointer.cache (λ c. answer.new
-        ≡ answer_after answer.new.kind (call.Clear now) c) }
-    ensures refusal { IfSome handle.old.pointer.cache (λ c.
-        IsRefused (call.Clear now) c → 0 < answer.new.kind) }
-    ensures memory { IfSome handle.old.pointer.cache (λ c.
-        IsFree (call.Clear now) c → 0 < answer.new.kind) }
-    ensures closed { IsNone handle.old.pointer.cache
-        → (result ≡ 100) × (handle.new.pointer.cache ≡ None) × (answer.new ≡ answer.old) }
-{
-    make(alloc, handle, Call::Clear(now), answer)
-}
-
-/// Takes every expired entry out: `RD_CLEANED`.
-///
-/// Takes no memory. O(entries).
-#[unsafe(no_mangle)]
-pub extern "C" fn rd_clean(alloc: Global, handle: &mut Handle, now: u64, answer: &mut Answer) -> u64
-    ensures state { IfSome handle.old.pointer.cache (λ c. handle.new.pointer.cache
-        ≡ Some (after answer.new.kind (call.Clean now) c)) }
-    ensures number { IfSome handle.old.pointer.cache (λ c. result
-        ≡ number_after answer.new.kind (call.Clean now) c) }
-    ensures answer { IfSome handle.old.pointer.cache (λ c. answer.new
-        ≡ answer_after answer.new.kind (call.Clean now) c) }
-    ensures refusal { IfSome handle.old.pointer.cache (λ c.
-        IsRefused (call.Clean now) c → 0 < answer.new.kind) }
-    ensures memory { IfSome handle.old.pointer.cache (λ c.
-        IsFree (call.Clean now) c → 0 < answer.new.kind) }
-    ensures closed { IsNone handle.old.pointer.cache
-        → (result ≡ 100) × (handle.new.pointer.cache ≡ None) × (answer.new ≡ answer.old) }
-{
-    make(alloc, handle, Call::Clean(now), answer)
 }

@@ -1,16 +1,19 @@
 // Opening and closing.
-ghost use Rattle.std.specs.Prelude.{◌≡◌, ◌<◌, None, Some, IfOk, IsOk, IsNone, IsSome, IsOkUnless};
+ghost use Rattle.std.specs.Prelude.{◌≡◌, ◌⊎◌, ◌<◌, None, Some};
+ghost use Rattle.std.specs.Prelude.{IfOk, IsOk, IsNone, IsSome, IsOkUnless};
 ghost use Rattle.std.specs.Prelude.{Err, MatchOption};
 ghost use Rattle.wt_keys.specs.declared.fault.Fault.TheVariants as fault;
 ghost use Rattle.wt_core.specs.State.{config_fault, opening};
 ghost use Rattle.wt_regions.specs.Notices.{no_notices};
+ghost use Rattle.wt_ffi.specs.declared.opened.Opened.TheVariants as opened;
 ghost use Rattle.wt_ffi.specs.Setups.{config_of, duration, field_number, opened_by, Opens};
 
+use crate::cached::Cached;
 use crate::handle::{CLOSED, Handle, OPEN};
 use crate::opened::Opened;
 use std::alloc::Global;
 use wt_core::{Config, Core};
-use wt_keys::{Fault, Field};
+use wt_keys::{CacheKey, Fault, Field};
 use wt_regions::Notices;
 
 /// What a cache is opened for: `rd_setup` of the header.
@@ -43,7 +46,7 @@ fn duration(milliseconds: u64) -> Option<u64>
     }
 }
 
-fn config_of(setup: &Setup) -> Config
+pub(crate) fn config_of(setup: &Setup) -> Config
     ensures { result ≡ config_of setup.now }
 {
     Config {
@@ -59,7 +62,7 @@ fn config_of(setup: &Setup) -> Config
     }
 }
 
-fn opened(alloc: Global, config: &Config) -> Result<Opened, Fault>
+pub(crate) fn cached<K: CacheKey>(alloc: Global, config: &Config) -> Result<Cached<K>, Fault>
     ensures ok { IfOk result (λ o. o ≡ opened_by config.now) }
     ensures lawful { IsOk result → config_fault config.now ≡ None }
     ensures refusal { MatchOption (config_fault config.now)
@@ -67,21 +70,38 @@ fn opened(alloc: Global, config: &Config) -> Result<Opened, Fault>
 {
     match Core::new(alloc, config) {
         Ok(core) => match Notices::new(alloc, config.entries as usize) {
-            Ok(notices) => Ok(Opened { core, notices }),
+            Ok(notices) => Ok(Cached { core, notices }),
             Err(_refused) => Err(Fault::NoMemory),
         },
         Err(fault) => Err(fault),
     }
 }
 
-/// Opens an empty cache, and returns 0.
+// Puts the cache into a closed handle, and answers 0; where memory is refused the handle stays
+// closed, and it is 1.
+pub(crate) fn hold(alloc: Global, handle: &mut Handle, opened: Opened) -> u64
+    requires { IsNone handle.old.pointer.cache }
+    ensures state { result ≡ 0 → handle.new.pointer.cache ≡ Some opened }
+    ensures number { (result ≡ 0) ⊎ (result ≡ 1) }
+    ensures err { 0 < result → handle.new.pointer.cache ≡ None }
+{
+    match Box::new(alloc, opened) {
+        Ok(opened) => {
+            handle.give(opened);
+            0
+        }
+        Err(_refused) => 1,
+    }
+}
+
+/// Opens an empty cache whose keys are numbers, and returns 0.
 ///
-/// 101 where the handle is open already, 2 where the setup is out of its ranges, 1 where memory is refused, in
-/// this order; the handle is then as it was. Takes memory for all the entries.
+/// 101 where the handle is open already, 2 where the setup is out of its ranges, 1 where memory is
+/// refused, in this order; the handle is then as it was. Takes memory for all the entries.
 #[unsafe(no_mangle)]
 pub extern "C" fn rd_open(alloc: Global, setup: &Setup, handle: &mut Handle) -> u64
-    ensures state { result ≡ 0
-        → handle.new.pointer.cache ≡ Some (opened_by (config_of setup.now)) }
+    ensures state { result ≡ 0 → handle.new.pointer.cache
+        ≡ Some (opened.Numbers (opened_by (config_of setup.now))) }
     ensures refusal { IsNone handle.old.pointer.cache
         → Opens (config_fault (config_of setup.now)) result }
     ensures already { IsSome handle.old.pointer.cache → result ≡ 101 }
@@ -90,15 +110,8 @@ pub extern "C" fn rd_open(alloc: Global, setup: &Setup, handle: &mut Handle) -> 
     if handle.is_open {
         return OPEN;
     }
-    let config = config_of(setup);
-    match opened(alloc, &config) {
-        Ok(opened) => match Box::new(alloc, opened) {
-            Ok(opened) => {
-                handle.give(opened);
-                0
-            }
-            Err(_refused) => 1,
-        },
+    match cached(alloc, &config_of(setup)) {
+        Ok(cache) => hold(alloc, handle, Opened::Numbers(cache)),
         Err(fault) => fault.number(),
     }
 }
@@ -118,8 +131,8 @@ pub extern "C" fn rd_close(alloc: Global, handle: &mut Handle) -> u64
     }
 }
 
-/// Returns the number of the first setting that is out of its range: 1 entries, 2 window, 3 flights, 4 bound,
-/// 5 after_write, 6 after_access, 7 refresh; 0 where none is. Takes no memory.
+/// Returns the number of the first setting that is out of its range: 1 entries, 2 window, 3
+/// flights, 4 bound, 5 after_write, 6 after_access, 7 refresh; 0 where none is. Takes no memory.
 #[unsafe(no_mangle)]
 pub extern "C" fn rd_check(setup: &Setup) -> u64
     ensures { MatchOption (config_fault (config_of setup.now))

@@ -1,11 +1,15 @@
 // What C may read of a cache.
-ghost use Rattle.std.specs.Prelude.{◌≡◌, None, Some, IfSome, IsNone};
-ghost use Rattle.wt_ffi.specs.Shows.{numbers_of, left_of, left_at, IsLawfulOpen, Reads};
+ghost use Rattle.std.specs.Prelude.{◌≡◌, None, Some, IfSome, IsNone, IsSome};
+ghost use Rattle.wt_ffi.specs.Kinds.{numbered, named};
+ghost use Rattle.wt_ffi.specs.Shows.{numbers_of, shown_of, IsLawfulOpen, IsLawfulOpened};
+ghost use Rattle.wt_ffi.specs.Shows.{cause_number, left_of, left_at, Reads};
 
-use crate::handle::{CLOSED, Handle, NONE};
+use crate::cached::Cached;
+use crate::handle::{CLOSED, Handle, NONE, OTHER_KEYS};
 use crate::opened::Opened;
 use crate::token::Token;
 use std::alloc::Global;
+use wt_keys::CacheKey;
 use wt_regions::{Cause, Notice};
 
 /// The numbers of a cache: `rd_numbers` of the header.
@@ -50,28 +54,33 @@ pub struct Left {
     pub cause: u32,
 }
 
-fn left_of(notice: &Notice<u64, Token>) -> Left
-    ensures { result ≡ left_of notice.now }
+pub(crate) fn cause_number(cause: Cause) -> u32
+    ensures { result ≡ cause_number cause }
 {
-    let cause = match notice.cause {
+    match cause {
         Cause::Explicit => 1,
         Cause::Replaced => 2,
         Cause::Expired => 3,
         Cause::Size => 4,
-    };
+    }
+}
+
+fn left_of(notice: &Notice<u64, Token>) -> Left
+    ensures { result ≡ left_of notice.now }
+{
     Left {
         key: notice.key,
         token: notice.value.token,
         weight: notice.value.weight,
-        cause,
+        cause: cause_number(notice.cause),
     }
 }
 
-impl Opened {
+impl<K: CacheKey> Cached<K> {
     // All numbers at once.
     fn numbers(&self) -> Numbers
         ensures answer { result ≡ numbers_of self.now.core }
-        ensures lawful { IsLawfulOpen self.now }
+        ensures lawful { IsLawfulOpen K.eq self.now }
     {
         let stats = self.core.stats();
         Numbers {
@@ -88,56 +97,63 @@ impl Opened {
             flights: self.core.open_flights() as u64,
         }
     }
-
-    // One of the notices.
-    fn notice(&self, i: u64) -> Option<Left>
-        ensures { result ≡ left_at i self.now.notices.list }
-    {
-        let notice = self.notices.list().get(i as usize)?;
-        Some(left_of(notice))
-    }
 }
 
 /// Tells the numbers of the cache, and returns 0; 100 where it is closed.
 ///
-/// At all times hits and misses together are the look-ups, the entries and their weight are within the setup's
-/// limits, and no number wraps. Takes no memory. O(1).
+/// At all times hits and misses together are the look-ups, the entries and their weight are within
+/// the setup's limits, and no number wraps. Takes no memory. O(1).
 #[unsafe(no_mangle)]
 pub extern "C" fn rd_get_numbers(alloc: Global, handle: &mut Handle, numbers: &mut Numbers) -> u64
     ensures answer { IfSome handle.old.pointer.cache (λ c.
-        (result ≡ 0) × (numbers.new ≡ numbers_of c.core)) }
+        (result ≡ 0) × (numbers.new ≡ shown_of c)) }
     // What holds of a cache at all times.
-    ensures lawful { IfSome handle.old.pointer.cache IsLawfulOpen }
+    ensures lawful { IfSome handle.old.pointer.cache IsLawfulOpened }
     ensures closed { IsNone handle.old.pointer.cache → (result ≡ 100) × (numbers.new ≡ numbers.old) }
     ensures same { handle.new.pointer.cache ≡ handle.old.pointer.cache }
 {
     let Some(opened) = handle.take(alloc) else {
         return CLOSED;
     };
-    *numbers = opened.numbers();
+    *numbers = match &*opened {
+        Opened::Numbers(cache) => cache.numbers(),
+        Opened::Names(cache) => cache.numbers(),
+    };
     handle.give(opened);
     0
 }
 
-/// Tells a notice of the latest of the ten calls, by its place from 0, and returns 0.
-///
-/// 100 where the cache is closed, 102 where there is no such notice. Takes no memory. O(1).
-#[unsafe(no_mangle)]
-pub extern "C" fn rd_get_notice(alloc: Global, handle: &mut Handle, i: u64, left: &mut Left) -> u64
-    ensures answer { IfSome handle.old.pointer.cache (λ c.
-        Reads (left_at i c.notices.list) result left.old left.new) }
-    ensures closed { IsNone handle.old.pointer.cache → (result ≡ 100) × (left.new ≡ left.old) }
-    ensures same { handle.new.pointer.cache ≡ handle.old.pointer.cache }
+// What a reading of a notice returns, and writes where there is one.
+pub(crate) fn tell<L: Copy>(found: Option<L>, left: &mut L) -> u64
+    ensures { Reads found result left.old left.new }
 {
-    let Some(opened) = handle.take(alloc) else {
-        return CLOSED;
-    };
-    let number = match opened.notice(i) {
+    match found {
         Some(found) => {
             *left = found;
             0
         }
         None => NONE,
+    }
+}
+
+/// Tells a notice of the latest call on a cache of numbers, by its place from 0, and returns 0.
+///
+/// 100 where the cache is closed, 103 where its keys are names, 102 where there is no such notice.
+/// Takes no memory. O(1).
+#[unsafe(no_mangle)]
+pub extern "C" fn rd_get_notice(alloc: Global, handle: &mut Handle, i: u64, left: &mut Left) -> u64
+    ensures answer { IfSome (numbered handle.old.pointer.cache) (λ c.
+        Reads (left_at i c.notices.list) result left.old left.new) }
+    ensures closed { IsNone handle.old.pointer.cache → (result ≡ 100) × (left.new ≡ left.old) }
+    ensures other { IsSome (named handle.old.pointer.cache) → (result ≡ 103) × (left.new ≡ left.old) }
+    ensures same { handle.new.pointer.cache ≡ handle.old.pointer.cache }
+{
+    let Some(opened) = handle.take(alloc) else {
+        return CLOSED;
+    };
+    let number = match &*opened {
+        Opened::Numbers(cache) => tell(cache.notices.list().get(i as usize).map(left_of), left),
+        Opened::Names(_) => OTHER_KEYS,
     };
     handle.give(opened);
     number

@@ -1,7 +1,6 @@
 -- The two fields move back. The cache that is asked for says that the pointer owns its box.
 use Rattle.std.proofs.Common.{Option, Some, IsSome}
 use Rattle.wt_ffi.proofs.Steps.{◌≡◌, List, [], ◌∷◌, ◌++◌, refl, sym, subst, Val, SProp, ent, emp, id⊢, ftrue, fsep, WpFn, fact, fact_i, tables, ‵, raw, ◌⊛◌, ◌$◌, ◌∵◌, !, qed, by, move, keep, split, fsplit, fjoin, suffices, use0, use1, rewrite, agg, sub, whole, stop, fld, of_opd, no_more, and_then, returns, enter, alloc_all, pass_all, free_all, look_at, get, get_in, sets, yes, nothing, heard, Stays, stay_dropped, Goes-dropped, walk_of, proved_at, leaves, B, D, box_typed, word, box_in, box_out}
-use Rattle.wt_ffi.specs.Open.{Open}
 use Rattle.wt_ffi.proofs.AsBox.{cache_box, Owned, found_in}
 use Rattle.wt_ffi.specs.contracts.raw_box.RawBox as parts
 use Rattle.wt_ffi.specs.contracts.opened.Opened as Opened
@@ -31,7 +30,7 @@ into_raw_box_spec 𝓤 𝓛 𝓜 𝓡 wired =
     let boxed : D cache_box = record { ptr = held.at; alloc = held.alloc; value = found.0 } in
     let made : Made.Denot = record { at = held.at; alloc = held.alloc; value = found.0 } in
     split ! $ move ! (1 ∷ []) $ fsplit ! $
-    rewrite ! 0 (λ (c : Option Open). ‵ (pointer.the_row.own_val (record { at = held.at; alloc = held.alloc; cache = c }) z.0.4.0)) found.1 refl $
+    rewrite ! 0 (λ (c : Option Opened.the_row.Denot). ‵ (pointer.the_row.own_val (record { at = held.at; alloc = held.alloc; cache = c }) z.0.4.0)) found.1 refl $
     use1 𝓛 (‵ ((B cache_box).own_val boxed z.0.4.0)) (id⊢ 𝓤 _) $
     box_out cache_box ! boxed z.0.4.0 (λ b o h is_at is_word fits.
     box_in cache_box ! boxed b o boxed.value is_at refl $

@@ -1,0 +1,9 @@
+use Rattle.wt_core.specs.State.{config_fault}
+use Rattle.wt_core.specs.declared.cache.Core.{Core}
+use Rattle.wt_ffi.specs.declared.token.Token.{Token}
+use Rattle.wt_ffi.specs.declared.cached.Cached.{Cached}
+use Rattle.wt_ffi.proofs.Refusals.{passed-on}
+use Rattle.wt_ffi.proofs.setup.cached.Goals as goal
+
+pub returns-in-Err-clause-refusal : goal.returns-in-Err-clause-refusal
+returns-in-Err-clause-refusal g c = passed-on (Core g.row.K.Denot Token) (Cached g.row.K.Denot) (config_fault c.args.config.now) c.in-Err.fault c.in-Err.ensures.refusal

@@ -1,0 +1,29 @@
+-- What C is told of a call where keys are names.
+use Rattle.std.specs.Prelude.{ℕ, nat_eq, List}
+use Rattle.std.specs.Cmp.Lexicographic.{pointwise}
+use Rattle.wt_keys.specs.Hash.{word_of_name}
+use Rattle.wt_core.specs.declared.kinds.Call.{Call}
+use Rattle.wt_ffi.specs.declared.token.Token.{Token}
+use Rattle.wt_ffi.specs.declared.answer.Answer.{Answer}
+use Rattle.wt_ffi.specs.Calls as calls
+use Rattle.wt_ffi.specs.Open.{Open}
+
+-- the cache after a call
+abbrev pub after : ℕ → Call (List ℕ) Token → Open (List ℕ) → Open (List ℕ)
+after = calls.after (pointwise nat_eq) word_of_name
+
+-- the number that is returned
+abbrev pub number_after : ℕ → Call (List ℕ) Token → Open (List ℕ) → ℕ
+number_after = calls.number_after (pointwise nat_eq) word_of_name
+
+-- the answer that is told
+abbrev pub answer_after : ℕ → Call (List ℕ) Token → Open (List ℕ) → Answer
+answer_after = calls.answer_after (pointwise nat_eq) word_of_name
+
+-- the state refuses the call
+abbrev pub IsRefused : Call (List ℕ) Token → Open (List ℕ) → Type 0
+IsRefused = calls.IsRefused (pointwise nat_eq) word_of_name
+
+-- the call takes no memory
+abbrev pub IsFree : Call (List ℕ) Token → Open (List ℕ) → Type 0
+IsFree = calls.IsFree (pointwise nat_eq)

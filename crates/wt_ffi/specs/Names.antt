@@ -1,0 +1,40 @@
+-- Names, as C hands them in and reads them.
+use Rattle.std.specs.Prelude.{ℕ, ◌-◌, nat_le, if◌then◌else◌, List, ◌++◌, length, take, replicate, Option, Some, None}
+use Rattle.wt_ffi.specs.declared.text.Text.{Text}
+use Rattle.wt_ffi.specs.declared.opened.Opened.{Opened}
+use Rattle.wt_ffi.specs.declared.opened.Opened.TheVariants as kind
+use Rattle.wt_ffi.specs.Open.{Open}
+
+-- the name that a text stands for: its first bytes, where they are at most 24
+abbrev pub name_of : Text → Option (List ℕ)
+name_of t = if nat_le t.length 24 then Some (take t.length t.bytes) else None
+
+-- a name with zeros behind it
+abbrev pub text_of : List ℕ → Text
+text_of name = record { bytes = name ++ replicate (24 - length name) 0; length = length name }
+
+-- a name and the cache that is asked for it
+pub record Asked : Type 0 where
+  pub name : List ℕ
+  pub cache : Open (List ℕ)
+
+-- what a call by name goes to: there is such a name, and an open cache of names
+abbrev pub asked_for : Option (List ℕ) → Option Opened → Option Asked
+asked_for (Some name) (Some (kind.Names c)) = Some (record { name = name; cache = c })
+asked_for (Some name) (Some (kind.Numbers c)) = None
+asked_for (Some name) None = None
+asked_for None opened = None
+
+-- what a call with this text goes to
+abbrev pub asked : Text → Option Opened → Option Asked
+asked t opened = asked_for (name_of t) opened
+
+-- the number that is returned where it goes to nothing: the name is too long, the cache closed, or its keys numbers
+abbrev pub number_for_none : Option (List ℕ) → Option Opened → ℕ
+number_for_none None opened = 104
+number_for_none (Some name) None = 100
+number_for_none (Some name) (Some opened) = 103
+
+-- the same of a text
+abbrev pub number_unasked : Text → Option Opened → ℕ
+number_unasked t opened = number_for_none (name_of t) opened

@@ -1,0 +1,27 @@
+-- What C is told of a call where keys are numbers.
+use Rattle.std.specs.Prelude.{ℕ, nat_eq}
+use Rattle.wt_core.specs.declared.kinds.Call.{Call}
+use Rattle.wt_ffi.specs.declared.token.Token.{Token}
+use Rattle.wt_ffi.specs.declared.answer.Answer.{Answer}
+use Rattle.wt_ffi.specs.Calls as calls
+use Rattle.wt_ffi.specs.Open.{Open}
+
+-- the cache after a call
+abbrev pub after : ℕ → Call ℕ Token → Open ℕ → Open ℕ
+after = calls.after nat_eq (λ k. k)
+
+-- the number that is returned
+abbrev pub number_after : ℕ → Call ℕ Token → Open ℕ → ℕ
+number_after = calls.number_after nat_eq (λ k. k)
+
+-- the answer that is told
+abbrev pub answer_after : ℕ → Call ℕ Token → Open ℕ → Answer
+answer_after = calls.answer_after nat_eq (λ k. k)
+
+-- the state refuses the call
+abbrev pub IsRefused : Call ℕ Token → Open ℕ → Type 0
+IsRefused = calls.IsRefused nat_eq (λ k. k)
+
+-- the call takes no memory
+abbrev pub IsFree : Call ℕ Token → Open ℕ → Type 0
+IsFree = calls.IsFree nat_eq

@@ -1,0 +1,37 @@
+-- What C is told of a call that goes through all entries.
+use Rattle.std.specs.Prelude.{ℕ}
+use Rattle.wt_core.specs.declared.kinds.Call.{Call}
+use Rattle.wt_core.specs.declared.kinds.Call.TheVariants as call
+use Rattle.wt_ffi.specs.declared.token.Token.{Token}
+use Rattle.wt_ffi.specs.declared.answer.Answer.{Answer}
+use Rattle.wt_ffi.specs.declared.opened.Opened.{Opened}
+use Rattle.wt_ffi.specs.declared.opened.Opened.TheVariants.{Numbers, Names}
+use Rattle.wt_ffi.specs.declared.sweeps.Sweep.{Sweep}
+use Rattle.wt_ffi.specs.declared.sweeps.Sweep.TheVariants.{Clear, Clean}
+use Rattle.wt_ffi.specs.Numbered as numbers
+use Rattle.wt_ffi.specs.Named as names
+
+-- the call, for keys of any kind
+abbrev pub sweep_call : {K : Type 0} → Sweep → ℕ → Call K Token
+sweep_call Clear now = call.Clear now
+sweep_call Clean now = call.Clean now
+
+-- the cache after the call, by the kind of its answer
+abbrev pub after : ℕ → Sweep → ℕ → Opened → Opened
+after kind sweep now (Numbers c) = Numbers (numbers.after kind (sweep_call sweep now) c)
+after kind sweep now (Names c) = Names (names.after kind (sweep_call sweep now) c)
+
+-- the number that is returned
+abbrev pub number_after : ℕ → Sweep → ℕ → Opened → ℕ
+number_after kind sweep now (Numbers c) = numbers.number_after kind (sweep_call sweep now) c
+number_after kind sweep now (Names c) = names.number_after kind (sweep_call sweep now) c
+
+-- the answer that is told
+abbrev pub answer_after : ℕ → Sweep → ℕ → Opened → Answer
+answer_after kind sweep now (Numbers c) = numbers.answer_after kind (sweep_call sweep now) c
+answer_after kind sweep now (Names c) = names.answer_after kind (sweep_call sweep now) c
+
+-- the state refuses the call
+abbrev pub IsRefused : Sweep → ℕ → Opened → Type 0
+IsRefused sweep now (Numbers c) = numbers.IsRefused (sweep_call sweep now) c
+IsRefused sweep now (Names c) = names.IsRefused (sweep_call sweep now) c

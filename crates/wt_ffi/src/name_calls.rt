@@ -1,0 +1,113 @@
+// Looking up and storing by name, each one step of the definition.
+ghost use Rattle.std.specs.Prelude.{◌≡◌, ◌<◌, Some, IfSome, IsNone};
+ghost use Rattle.wt_core.specs.declared.kinds.Call.TheVariants as call;
+ghost use Rattle.wt_ffi.specs.declared.opened.Opened.TheVariants as opened;
+ghost use Rattle.wt_ffi.specs.Names.{asked, number_unasked};
+ghost use Rattle.wt_ffi.specs.Named.{after, number_after, answer_after, IsRefused, IsFree};
+
+use crate::answer::Answer;
+use crate::handle::{Handle, TOO_LONG};
+use crate::names::make_named;
+use crate::text::{Text, name_of};
+use crate::token::Token;
+use std::alloc::Global;
+use wt_core::Call;
+
+/// Looks the name up at the moment `now`: `RD_HIT` with its token, which is a use, or `RD_ABSENT`.
+///
+/// Here as in the other seven calls by name nothing happens, and 104 is returned where the name is
+/// too long, 100 where the cache is closed, 103 where its keys are numbers, in this order. Takes
+/// memory only for a hit. Expected O(1).
+#[unsafe(no_mangle)]
+pub extern "C" fn rd_look_name(
+    alloc: Global,
+    handle: &mut Handle,
+    key: &Text,
+    now: u64,
+    answer: &mut Answer,
+) -> u64
+    ensures state { IfSome (asked key.now handle.old.pointer.cache) (λ a. handle.new.pointer.cache
+        ≡ Some (opened.Names (after answer.new.kind (call.Look a.name now) a.cache))) }
+    ensures number { IfSome (asked key.now handle.old.pointer.cache) (λ a. result
+        ≡ number_after answer.new.kind (call.Look a.name now) a.cache) }
+    ensures answer { IfSome (asked key.now handle.old.pointer.cache) (λ a. answer.new
+        ≡ answer_after answer.new.kind (call.Look a.name now) a.cache) }
+    ensures refusal { IfSome (asked key.now handle.old.pointer.cache) (λ a.
+        IsRefused (call.Look a.name now) a.cache → 0 < answer.new.kind) }
+    ensures memory { IfSome (asked key.now handle.old.pointer.cache) (λ a.
+        IsFree (call.Look a.name now) a.cache → 0 < answer.new.kind) }
+    // Where the name is too long, the cache closed or its keys numbers, nothing happens.
+    ensures unasked { IsNone (asked key.now handle.old.pointer.cache)
+        → (result ≡ number_unasked key.now handle.old.pointer.cache)
+        × (handle.new.pointer.cache ≡ handle.old.pointer.cache) × (answer.new ≡ answer.old) }
+{
+    let Some(name) = name_of(key) else {
+        return TOO_LONG;
+    };
+    make_named(alloc, handle, Call::Look(name, now), answer)
+}
+
+/// Looks the name up, and where it isn't there joins its current load or opens one.
+///
+/// It answers as `rd_seek` does. Expected O(1).
+#[unsafe(no_mangle)]
+pub extern "C" fn rd_seek_name(
+    alloc: Global,
+    handle: &mut Handle,
+    key: &Text,
+    now: u64,
+    answer: &mut Answer,
+) -> u64
+    ensures state { IfSome (asked key.now handle.old.pointer.cache) (λ a. handle.new.pointer.cache
+        ≡ Some (opened.Names (after answer.new.kind (call.Seek a.name now) a.cache))) }
+    ensures number { IfSome (asked key.now handle.old.pointer.cache) (λ a. result
+        ≡ number_after answer.new.kind (call.Seek a.name now) a.cache) }
+    ensures answer { IfSome (asked key.now handle.old.pointer.cache) (λ a. answer.new
+        ≡ answer_after answer.new.kind (call.Seek a.name now) a.cache) }
+    ensures refusal { IfSome (asked key.now handle.old.pointer.cache) (λ a.
+        IsRefused (call.Seek a.name now) a.cache → 0 < answer.new.kind) }
+    ensures memory { IfSome (asked key.now handle.old.pointer.cache) (λ a.
+        IsFree (call.Seek a.name now) a.cache → 0 < answer.new.kind) }
+    // Where the name is too long, the cache closed or its keys numbers, nothing happens.
+    ensures unasked { IsNone (asked key.now handle.old.pointer.cache)
+        → (result ≡ number_unasked key.now handle.old.pointer.cache)
+        × (handle.new.pointer.cache ≡ handle.old.pointer.cache) × (answer.new ≡ answer.old) }
+{
+    let Some(name) = name_of(key) else {
+        return TOO_LONG;
+    };
+    make_named(alloc, handle, Call::Seek(name, now), answer)
+}
+
+/// Stores the value under the name, in place of one that is there, as `rd_put` does: `RD_STORED`.
+///
+/// Expected O(1), O(entries) in a trim.
+#[unsafe(no_mangle)]
+pub extern "C" fn rd_put_name(
+    alloc: Global,
+    handle: &mut Handle,
+    key: &Text,
+    value: Token,
+    now: u64,
+    answer: &mut Answer,
+) -> u64
+    ensures state { IfSome (asked key.now handle.old.pointer.cache) (λ a. handle.new.pointer.cache
+        ≡ Some (opened.Names (after answer.new.kind (call.Put a.name value now) a.cache))) }
+    ensures number { IfSome (asked key.now handle.old.pointer.cache) (λ a. result
+        ≡ number_after answer.new.kind (call.Put a.name value now) a.cache) }
+    ensures answer { IfSome (asked key.now handle.old.pointer.cache) (λ a. answer.new
+        ≡ answer_after answer.new.kind (call.Put a.name value now) a.cache) }
+    ensures refusal { IfSome (asked key.now handle.old.pointer.cache) (λ a.
+        IsRefused (call.Put a.name value now) a.cache → 0 < answer.new.kind) }
+    ensures memory { IfSome (asked key.now handle.old.pointer.cache) (λ a.
+        IsFree (call.Put a.name value now) a.cache → 0 < answer.new.kind) }
+    // Where the name is too long, the cache closed or its keys numbers, nothing happens.
+    ensures unasked { IsNone (asked key.now handle.old.pointer.cache)
+        → (result ≡ number_unasked key.now handle.old.pointer.cache)
+        × (handle.new.pointer.cache ≡ handle.old.pointer.cache) × (answer.new ≡ answer.old) }
+{
+    let Some(name) = name_of(key) else {
+        return TOO_LONG;
+    };
+    make_named(alloc, handle, Call::Put(name, value, now), answer)
+}

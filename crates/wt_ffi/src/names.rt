@@ -1,0 +1,128 @@
+// A cache of names: opening one, its notices, and the one step of each of C's calls by name.
+ghost use Rattle.std.specs.Prelude.{◌≡◌, ◌<◌, Some, IfSome, IsNone, IsSome, None};
+ghost use Rattle.wt_core.specs.State.{config_fault};
+ghost use Rattle.wt_ffi.specs.declared.opened.Opened.TheVariants as opened;
+ghost use Rattle.wt_ffi.specs.Kinds.{numbered, named};
+ghost use Rattle.wt_ffi.specs.Named.{after, number_after, answer_after, IsRefused, IsFree};
+ghost use Rattle.wt_ffi.specs.Setups.{config_of, opened_by, Opens};
+ghost use Rattle.wt_ffi.specs.Shows.{name_left_of, name_left_at, Reads};
+
+use crate::answer::Answer;
+use crate::handle::{CLOSED, Handle, OPEN, OTHER_KEYS};
+use crate::opened::Opened;
+use crate::setup::{Setup, cached, config_of, hold};
+use crate::shows::{cause_number, tell};
+use crate::text::{Text, text_of};
+use crate::token::Token;
+use std::alloc::Global;
+use wt_core::Call;
+use wt_keys::Name;
+use wt_regions::Notice;
+
+/// Opens an empty cache whose keys are names, and returns 0; else a number as `rd_open` does.
+///
+/// Takes memory for all the entries.
+#[unsafe(no_mangle)]
+pub extern "C" fn rd_open_names(alloc: Global, setup: &Setup, handle: &mut Handle) -> u64
+    ensures state { result ≡ 0 → handle.new.pointer.cache
+        ≡ Some (opened.Names (opened_by (config_of setup.now))) }
+    ensures refusal { IsNone handle.old.pointer.cache
+        → Opens (config_fault (config_of setup.now)) result }
+    ensures already { IsSome handle.old.pointer.cache → result ≡ 101 }
+    ensures err { 0 < result → handle.new.pointer.cache ≡ handle.old.pointer.cache }
+{
+    if handle.is_open {
+        return OPEN;
+    }
+    match cached(alloc, &config_of(setup)) {
+        Ok(cache) => hold(alloc, handle, Opened::Names(cache)),
+        Err(fault) => fault.number(),
+    }
+}
+
+/// A name that left: `rd_name_notice` of the header.
+#[repr(C)]
+#[derive(Clone, Copy, PartialEq, Eq)]
+pub struct NameLeft {
+    /// Its key.
+    pub key: Text,
+    /// Its token, which is the caller's now.
+    pub token: u64,
+    /// Its weight.
+    pub weight: u32,
+    /// Why it left, as a number's.
+    pub cause: u32,
+}
+
+fn name_left_of(notice: &Notice<Name, Token>) -> NameLeft
+    ensures { result ≡ name_left_of notice.now }
+{
+    NameLeft {
+        key: text_of(&notice.key),
+        token: notice.value.token,
+        weight: notice.value.weight,
+        cause: cause_number(notice.cause),
+    }
+}
+
+/// Tells a notice of the latest call on a cache of names, by its place from 0, and returns 0.
+///
+/// 100 where the cache is closed, 103 where its keys are numbers, 102 where there is no such
+/// notice. Takes no memory. O(1).
+#[unsafe(no_mangle)]
+pub extern "C" fn rd_get_notice_name(
+    alloc: Global,
+    handle: &mut Handle,
+    i: u64,
+    left: &mut NameLeft,
+) -> u64
+    ensures answer { IfSome (named handle.old.pointer.cache) (λ c.
+        Reads (name_left_at i c.notices.list) result left.old left.new) }
+    ensures closed { IsNone handle.old.pointer.cache → (result ≡ 100) × (left.new ≡ left.old) }
+    ensures other { IsSome (numbered handle.old.pointer.cache) → (result ≡ 103) × (left.new ≡ left.old) }
+    ensures same { handle.new.pointer.cache ≡ handle.old.pointer.cache }
+{
+    let Some(opened) = handle.take(alloc) else {
+        return CLOSED;
+    };
+    let number = match &*opened {
+        Opened::Names(cache) => tell(cache.notices.list().get(i as usize).map(name_left_of), left),
+        Opened::Numbers(_) => OTHER_KEYS,
+    };
+    handle.give(opened);
+    number
+}
+
+// Makes a call on the handle's cache of names. Where it is closed or one of numbers nothing
+// happens, and `CLOSED` or `OTHER_KEYS` is returned.
+pub(crate) fn make_named(
+    alloc: Global,
+    handle: &mut Handle,
+    call: Call<Name, Token>,
+    answer: &mut Answer,
+) -> u64
+    ensures state { IfSome (named handle.old.pointer.cache) (λ c. handle.new.pointer.cache
+        ≡ Some (opened.Names (after answer.new.kind call c))) }
+    ensures number { IfSome (named handle.old.pointer.cache) (λ c. result
+        ≡ number_after answer.new.kind call c) }
+    ensures answer { IfSome (named handle.old.pointer.cache) (λ c. answer.new
+        ≡ answer_after answer.new.kind call c) }
+    ensures refusal { IfSome (named handle.old.pointer.cache) (λ c.
+        IsRefused call c → 0 < answer.new.kind) }
+    ensures memory { IfSome (named handle.old.pointer.cache) (λ c.
+        IsFree call c → 0 < answer.new.kind) }
+    ensures closed { IsNone handle.old.pointer.cache
+        → (result ≡ 100) × (handle.new.pointer.cache ≡ None) × (answer.new ≡ answer.old) }
+    ensures other { IsSome (numbered handle.old.pointer.cache) → (result ≡ 103)
+        × (handle.new.pointer.cache ≡ handle.old.pointer.cache) × (answer.new ≡ answer.old) }
+{
+    let Some(mut opened) = handle.take(alloc) else {
+        return CLOSED;
+    };
+    let number = match &mut *opened {
+        Opened::Names(cache) => cache.call(call, answer),
+        Opened::Numbers(_) => OTHER_KEYS,
+    };
+    handle.give(opened);
+    number
+}
