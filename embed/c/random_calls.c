@@ -1,8 +1,6 @@
 /* A million random operations beside a plain model of what must hold: the model keeps the tokens by key, in
  * step with the notices, and compares each hit, each number and each notice with it. */
-#include "rookdresser.h"
-#include <stdio.h>
-#include <stdlib.h>
+#include "keys.h"
 #define KEYS 512
 #define CHECK(x)                                                                                             \
     do {                                                                                                     \
@@ -28,7 +26,7 @@ static int loads;
 
 int main(int argc, char **argv) {
     long n = argc > 1 ? atol(argv[1]) : 1000000, i;
-    rd_setup setup = {.entries = 64,
+    rd_setup setup = {.entries = 40,
                       .window = 8,
                       .flights = 16,
                       .bound = 900,
@@ -36,7 +34,7 @@ int main(int argc, char **argv) {
                       .after_access = 3000,
                       .refresh = 700};
     rd_cache cache = RD_CACHE_INIT;
-    if (rd_open(&setup, &cache)) return 1;
+    if (OPEN(&setup, &cache)) return 1;
     uint64_t now = 0, latest = 0, token = 1, hits = 0, left = 0, entries = 0, weight = 0, refused = 0,
              evicted = 0, misses = 0;
     for (i = 0; i < n; i++) {
@@ -50,10 +48,10 @@ int main(int argc, char **argv) {
         if (next() % 500 == 0) v.weight = 5000;
         bool stores = false;
         if (what < 45) {
-            f = rd_look(&cache, k, now, &a);
+            f = LOOK(&cache, GIVEN(k), now, &a);
             CHECK(f == 0);
         } else if (what < 70) {
-            f = rd_seek(&cache, k, now, &a);
+            f = SEEK(&cache, GIVEN(k), now, &a);
             CHECK(f == 0 || f == RD_TOO_MANY_FLIGHTS);
             if (f) {
                 refused++;
@@ -78,15 +76,15 @@ int main(int argc, char **argv) {
             int j = next() % loads;
             k = key_of[j];
             if (what < 80) {
-                f = rd_land_keep(&cache, load_left[j], k, v, now, &a);
+                f = LAND_KEEP(&cache, load_left[j], GIVEN(k), v, now, &a);
                 stores = a.kind == RD_KEPT;
                 CHECK(a.kind == RD_KEPT || a.kind == RD_LOOSE);
                 if (stores) token++;
             } else if (what < 83) {
-                f = rd_land_failed(&cache, load_left[j], k, now, &a);
+                f = LAND_FAILED(&cache, load_left[j], GIVEN(k), now, &a);
                 CHECK(a.kind == RD_FAILED);
             } else {
-                f = rd_land_loose(&cache, load_left[j], k, now, &a);
+                f = LAND_LOOSE(&cache, load_left[j], GIVEN(k), now, &a);
                 CHECK(a.kind == RD_LOOSE);
             }
             CHECK(f == 0 && a.number == sharers[j]);
@@ -95,7 +93,7 @@ int main(int argc, char **argv) {
             key_of[j] = key_of[loads];
             sharers[j] = sharers[loads];
         } else if (what < 96) {
-            f = rd_put(&cache, k, v, now, &a);
+            f = PUT(&cache, GIVEN(k), v, now, &a);
             if (v.weight > 900) {
                 CHECK(f == RD_TOO_HEAVY && a.kind == RD_REFUSED);
                 refused++;
@@ -105,10 +103,10 @@ int main(int argc, char **argv) {
                 token++;
             }
         } else if (what < 98) {
-            f = rd_drop_key(&cache, k, now, &a);
+            f = DROP(&cache, GIVEN(k), now, &a);
             CHECK(f == 0 && a.kind == RD_DROPPED);
         } else if (what < 99) {
-            f = rd_forget(&cache, k, now, &a);
+            f = FORGET(&cache, GIVEN(k), now, &a);
             CHECK(f == 0);
         } else if (next() % 50 == 0) {
             f = rd_clear(&cache, now, &a);
@@ -125,7 +123,7 @@ int main(int argc, char **argv) {
         /* a store's own key: first what leaves under it, then the new one, which may leave too */
         for (uint64_t j = 0; j < (f ? 0 : a.notices); j++) {
             rd_notice m;
-            CHECK(rd_get_notice(&cache, j, &m) == 0);
+            CHECK(get_notice(&cache, j, &m) == 0);
             CHECK(m.key < KEYS);
             if (stores && m.key == k && m.token == v.token) {
                 stores = false;
@@ -154,7 +152,7 @@ int main(int argc, char **argv) {
         if (f == 0) latest = now; /* a refused call changes nothing, the moment included */
         rd_numbers t;
         CHECK(rd_get_numbers(&cache, &t) == 0);
-        CHECK(t.entries == entries && t.weight == weight && t.entries <= 64 && t.weight <= 900 &&
+        CHECK(t.entries == entries && t.weight == weight && t.entries <= 40 && t.weight <= 900 &&
               t.hits == hits && t.misses == misses && t.evicted == evicted && t.flights == (uint64_t)loads &&
               t.latest == latest);
     }

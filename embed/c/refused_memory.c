@@ -1,9 +1,7 @@
 /* Each allocation fails in turn: link with -Wl,--wrap=malloc,--wrap=realloc. A refused call returns 1, has
  * kind 0 and changes nothing: the numbers are the same, and the call made again succeeds and answers what the
  * twin answers. */
-#include "rookdresser.h"
-#include <stdio.h>
-#include <stdlib.h>
+#include "keys.h"
 #include <string.h>
 #define CHECK(x)                                                                                             \
     do {                                                                                                     \
@@ -39,11 +37,11 @@ static uint64_t next(void) {
 }
 static uint64_t op(rd_cache *c, unsigned what, uint64_t k, uint64_t id, rd_token v, uint64_t now,
                    rd_answer *a) {
-    if (what < 30) return rd_look(c, k, now, a);
-    if (what < 60) return rd_seek(c, k, now, a);
-    if (what < 75) return rd_land_keep(c, id, k, v, now, a);
-    if (what < 95) return rd_put(c, k, v, now, a);
-    if (what < 98) return rd_drop_key(c, k, now, a);
+    if (what < 30) return LOOK(c, GIVEN(k), now, a);
+    if (what < 60) return SEEK(c, GIVEN(k), now, a);
+    if (what < 75) return LAND_KEEP(c, id, GIVEN(k), v, now, a);
+    if (what < 95) return PUT(c, GIVEN(k), v, now, a);
+    if (what < 98) return DROP(c, GIVEN(k), now, a);
     return rd_clean(c, now, a);
 }
 int main(void) {
@@ -53,7 +51,7 @@ int main(void) {
     long i = -1, refused = 0;
     for (fail_in = 0;;) {
         long at = fail_in;
-        uint64_t f = rd_open(&setup, &c);
+        uint64_t f = OPEN(&setup, &c);
         if (f == 0) {
             fail_in = -1;
             break;
@@ -61,7 +59,7 @@ int main(void) {
         CHECK(f == 1 && !c.is_open);
         fail_in = at + 1;
     }
-    CHECK(rd_open(&setup, &twin) == 0);
+    CHECK(OPEN(&setup, &twin) == 0);
     long opens = failed;
     uint64_t now = 0, id = 1;
     for (i = 0; i < 300000; i++) {

@@ -1,10 +1,22 @@
-/* Replays a trace of wt_replay's (docs/FORMATS.md; keys are numbers, no bad lines) through rookdresser.h, and
- * writes the same report. */
-#include "rookdresser.h"
-#include <stdio.h>
-#include <stdlib.h>
+/* Replays a trace of wt_replay's (docs/FORMATS.md; no bad lines) through rookdresser.h, and writes the same report. Keys are
+ * numbers; with -DNAMES they are names that spell a number, as k12. */
+#include "keys.h"
 #include <string.h>
 typedef unsigned long long ull;
+#ifdef NAMES
+#define SHOWN "k%llu"
+/* the 64-bit FNV-1a of the name's bytes */
+static uint64_t word(uint64_t k) {
+    rd_name name = spelled(k);
+    uint64_t word = 0xcbf29ce484222325;
+    for (uint64_t i = 0; i < name.length; i++)
+        word = (word ^ name.bytes[i]) * 0x100000001b3;
+    return word;
+}
+#else
+#define SHOWN "%llu"
+static uint64_t word(uint64_t k) { return k; }
+#endif
 static struct { uint64_t id, key; } open_loads[4096];
 static int loads;
 static rd_cache cache = RD_CACHE_INIT;
@@ -15,18 +27,18 @@ static void notices(const rd_answer *a) {
     static const char *causes[] = {"", "explicit", "replaced", "expired", "size"};
     for (uint64_t i = 0; i < a->notices; i++) {
         rd_notice n;
-        if (rd_get_notice(&cache, i, &n)) exit(9);
-        used += sprintf(left + used, " %llu:%llu:%s", (ull)n.key, (ull)n.token, causes[n.cause]);
+        if (get_notice(&cache, i, &n)) exit(9);
+        used += sprintf(left + used, " " SHOWN ":%llu:%s", (ull)n.key, (ull)n.token, causes[n.cause]);
     }
 }
 static void land(uint64_t id, uint64_t key, uint64_t now, uint64_t line, const char *kept,
                  const char *loose) {
     rd_answer a;
     uint64_t f;
-    if (fail_mod && key % fail_mod == 0)
-        f = rd_land_failed(&cache, id, key, now, &a);
+    if (fail_mod && word(key) % fail_mod == 0)
+        f = LAND_FAILED(&cache, id, GIVEN(key), now, &a);
     else
-        f = rd_land_keep(&cache, id, key, (rd_token){line, 1 + key % mod}, now, &a);
+        f = LAND_KEEP(&cache, id, GIVEN(key), (rd_token){line, 1 + word(key) % mod}, now, &a);
     if (f) exit(8);
     if (a.kind == RD_FAILED)
         printf("fail 7");
@@ -70,13 +82,17 @@ int main(int argc, char **argv) {
             return 7;
     }
     if (!s.window) s.window = s.entries / 100 ? s.entries / 100 : 1;
-    if (rd_open(&s, &cache)) return 6;
+    if (OPEN(&s, &cache)) return 6;
     char text[80];
     uint64_t line = 0;
     while (fgets(text, sizeof text, stdin)) {
         ull now, k = 0;
         char what;
-        if (sscanf(text, "%llu %c %llu", &now, &what, &k) < 2) return 5;
+        if (!line && !strcmp(text, "wt 2\n")) {
+            line++;
+            continue;
+        }
+        if (sscanf(text, "%llu %c " SHOWN, &now, &what, &k) < 2) return 5;
         rd_answer a;
         uint64_t f;
         used = 0;
@@ -84,7 +100,7 @@ int main(int argc, char **argv) {
         printf("%llu ", (ull)++line);
         switch (what) {
         case 'L':
-            f = rd_look(&cache, k, now, &a);
+            f = LOOK(&cache, GIVEN(k), now, &a);
             if (f) return 4;
             if (a.kind == RD_HIT)
                 printf("hit %llu", (ull)a.token);
@@ -94,7 +110,7 @@ int main(int argc, char **argv) {
             break;
         case 'S':
         case 'G':
-            f = rd_seek(&cache, k, now, &a);
+            f = SEEK(&cache, GIVEN(k), now, &a);
             if (f == RD_TOO_MANY_FLIGHTS) {
                 printf("full");
                 break;
@@ -124,7 +140,7 @@ int main(int argc, char **argv) {
             break;
         }
         case 'P':
-            f = rd_put(&cache, k, (rd_token){line, 1 + k % mod}, now, &a);
+            f = PUT(&cache, GIVEN(k), (rd_token){line, 1 + word(k) % mod}, now, &a);
             if (f == RD_TOO_HEAVY) {
                 printf("heavy");
                 break;
@@ -134,13 +150,13 @@ int main(int argc, char **argv) {
             notices(&a);
             break;
         case 'D':
-            f = rd_drop_key(&cache, k, now, &a);
+            f = DROP(&cache, GIVEN(k), now, &a);
             if (f) return 4;
             printf(a.number ? "drop" : "absent");
             notices(&a);
             break;
         case 'F':
-            f = rd_forget(&cache, k, now, &a);
+            f = FORGET(&cache, GIVEN(k), now, &a);
             if (f) return 4;
             printf(a.number ? "forget" : "none");
             notices(&a);

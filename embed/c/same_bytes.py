@@ -1,18 +1,18 @@
 #!/usr/bin/env python3
-"""same_bytes.py TRACES WT_REPLAY REPLAY: random traces with random options, replayed by the proved program and through the
-header. Both must write the same bytes and end with the same status."""
+"""same_bytes.py TRACES WT_REPLAY REPLAY [names]: random traces with random options, replayed by the proved program and through
+the header. Both must write the same bytes and end with the same status. Keys are numbers, or names that spell one."""
 import random
 import subprocess
 import sys
 
 
-def trace_of(r, lines):
+def trace_of(r, lines, names):
     """So many lines, by letters as FORMATS has them, with moments that sometimes go back."""
-    keys, now, text = r.choice([6, 30, 200]), 0, []
+    keys, now, text = r.choice([6, 30, 200]), 0, ["wt 2\n"] * names
     for _ in range(lines):
         now += r.choice([0, 0, 1, 3, 20])
         letter = r.choices("LSGEPDFCX", [10, 20, 15, 15, 15, 4, 3, 2, 0.3])[0]
-        key = "" if letter in "CX" else " %d" % min(r.randrange(keys), r.randrange(keys))
+        key = "" if letter in "CX" else (" k%d" if names else " %d") % min(r.randrange(keys), r.randrange(keys))
         text.append("%d %s%s\n" % (max(0, now - r.choice([0, 0, 0, 7])), letter, key))
     return "".join(text).encode()
 
@@ -30,17 +30,17 @@ def options_of(r):
 
 
 def main():
-    traces, proved, tried = int(sys.argv[1]), sys.argv[2], sys.argv[3]
+    traces, proved, tried, names = int(sys.argv[1]), sys.argv[2], sys.argv[3], sys.argv[4:] == ["names"]
     total = 0
     for seed in range(traces):
         r = random.Random(seed)
         lines = r.choice([50, 300, 2000])
-        trace, options = trace_of(r, lines), options_of(r)
+        trace, options = trace_of(r, lines, names), options_of(r)
         one, two = (subprocess.run([program] + options, input=trace, capture_output=True) for program in (proved, tried))
         if (one.stdout, one.returncode) != (two.stdout, two.returncode):
             sys.exit("seed %d, %s: they differ" % (seed, " ".join(options)))
         total += lines
-    print("%d traces, %d lines: the same bytes" % (traces, total))
+    print("%d traces of %s, %d lines: the same bytes" % (traces, "names" if names else "numbers", total))
 
 
 main()
