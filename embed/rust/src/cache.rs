@@ -1,7 +1,8 @@
 //! A cache of keys and values of any type: they lie in a table of this side's, by their tokens.
 use crate::{Fault, Found, Landed, Notice, Numbers, Setup, Token, Tokens};
+use std::collections::hash_map::RandomState;
 use std::collections::HashMap;
-use std::hash::Hash;
+use std::hash::{BuildHasher, Hash};
 
 /// Why an entry left.
 #[derive(Clone, Copy, Debug, PartialEq, Eq)]
@@ -30,7 +31,7 @@ pub struct Cache<K, V> {
     // A key's number, and how many entries and loads use it.
     numbers: HashMap<K, (u64, u32)>,
     keys: HashMap<u64, K>,
-    last: u64,
+    hasher: RandomState,
 }
 
 // Values by their places, which are the tokens.
@@ -66,7 +67,7 @@ impl<K: Hash + Eq + Clone, V> Cache<K, V> {
             kept: Slots { slots: Vec::new(), free: Vec::new() },
             numbers: HashMap::new(),
             keys: HashMap::new(),
-            last: 0,
+            hasher: RandomState::new(),
         })
     }
 
@@ -165,16 +166,20 @@ impl<K: Hash + Eq + Clone, V> Cache<K, V> {
         (self.kept.slots.iter().flatten().count(), self.keys.len())
     }
 
-    // The key's number, which stays its own while an entry, a load or a call uses it.
+    // The key's number, which stays its own while an entry, a load or a call uses it. It is made of the key's hash, so that a key that
+    // comes again is counted with its earlier uses; where another key has that number, it is the next that is free.
     fn hold(&mut self, key: &K) -> u64 {
         if let Some((number, uses)) = self.numbers.get_mut(key) {
             *uses += 1;
             return *number;
         }
-        self.last += 1;
-        self.numbers.insert(key.clone(), (self.last, 1));
-        self.keys.insert(self.last, key.clone());
-        self.last
+        let mut number = self.hasher.hash_one(key);
+        while self.keys.contains_key(&number) {
+            number = number.wrapping_add(1);
+        }
+        self.numbers.insert(key.clone(), (number, 1));
+        self.keys.insert(number, key.clone());
+        number
     }
 
     fn let_go(&mut self, number: u64) {
@@ -195,7 +200,7 @@ impl<K: Hash + Eq + Clone, V> Cache<K, V> {
 
     // What the latest call told to have left.
     fn left(&mut self) -> Vec<Left<K, V>> {
-        let notices: Vec<Notice> = self.tokens.notices().collect();
+        let notices: Vec<Notice<u64>> = self.tokens.notices().collect();
         notices
             .into_iter()
             .map(|notice| {

@@ -1,5 +1,7 @@
 //! A cache of tokens: safe calls over `rookdresser.h`.
+use crate::key::Key;
 use crate::sys::{self, Answer, Handle, Notice, Numbers, Setup, Token};
+use std::marker::PhantomData;
 
 /// Why a call was refused. Nothing has changed then.
 #[derive(Clone, Copy, Debug, PartialEq, Eq)]
@@ -55,22 +57,23 @@ pub enum Landed {
     Gone,
 }
 
-/// One cache, and the notices of its latest call.
-pub struct Tokens {
+/// One cache, and the notices of its latest call. Its keys are numbers, or names of at most 24 bytes.
+pub struct Tokens<K = u64> {
     handle: Handle,
     told: u64,
+    keys: PhantomData<K>,
 }
 
 // SAFETY: `Box<Opened>`, to which the handle leads, is proved `Send` (`cache_is_sendable` of wt_ffi), and each call
 // takes `&mut self`, so that one call at a time is made, and moving the value orders them.
-unsafe impl Send for Tokens {}
+unsafe impl<K> Send for Tokens<K> {}
 
-impl Tokens {
-    pub fn open(setup: &Setup) -> Result<Tokens, Fault> {
+impl<K: Key> Tokens<K> {
+    pub fn open(setup: &Setup) -> Result<Self, Fault> {
         let mut handle = Handle { at: std::ptr::null_mut(), is_open: false };
         // SAFETY: both lead to whole values that are borrowed for the call, and the handle is closed: all bytes are zero.
-        match unsafe { sys::rd_open(setup, &mut handle) } {
-            0 => Ok(Tokens { handle, told: 0 }),
+        match unsafe { K::open(setup, &mut handle) } {
+            0 => Ok(Tokens { handle, told: 0, keys: PhantomData }),
             number => Err(fault(number)),
         }
     }
@@ -88,36 +91,36 @@ impl Tokens {
         }
     }
 
-    pub fn look(&mut self, key: u64, now: u64) -> Result<Found, Fault> {
-        self.made(|h, a| unsafe { sys::rd_look(h, key, now, a) }).map(found)
+    pub fn look(&mut self, key: K, now: u64) -> Result<Found, Fault> {
+        self.made(|h, a| unsafe { K::look(h, key, now, a) }).map(found)
     }
 
-    pub fn seek(&mut self, key: u64, now: u64) -> Result<Found, Fault> {
-        self.made(|h, a| unsafe { sys::rd_seek(h, key, now, a) }).map(found)
+    pub fn seek(&mut self, key: K, now: u64) -> Result<Found, Fault> {
+        self.made(|h, a| unsafe { K::seek(h, key, now, a) }).map(found)
     }
 
-    pub fn put(&mut self, key: u64, value: Token, now: u64) -> Result<(), Fault> {
-        self.made(|h, a| unsafe { sys::rd_put(h, key, value, now, a) }).map(drop)
+    pub fn put(&mut self, key: K, value: Token, now: u64) -> Result<(), Fault> {
+        self.made(|h, a| unsafe { K::put(h, key, value, now, a) }).map(drop)
     }
 
-    pub fn land_keep(&mut self, id: u64, key: u64, value: Token, now: u64) -> Result<Landed, Fault> {
-        self.made(|h, a| unsafe { sys::rd_land_keep(h, id, key, value, now, a) }).map(landed)
+    pub fn land_keep(&mut self, id: u64, key: K, value: Token, now: u64) -> Result<Landed, Fault> {
+        self.made(|h, a| unsafe { K::land_keep(h, id, key, value, now, a) }).map(landed)
     }
 
-    pub fn land_loose(&mut self, id: u64, key: u64, now: u64) -> Result<Landed, Fault> {
-        self.made(|h, a| unsafe { sys::rd_land_loose(h, id, key, now, a) }).map(landed)
+    pub fn land_loose(&mut self, id: u64, key: K, now: u64) -> Result<Landed, Fault> {
+        self.made(|h, a| unsafe { K::land_loose(h, id, key, now, a) }).map(landed)
     }
 
-    pub fn land_failed(&mut self, id: u64, key: u64, now: u64) -> Result<Landed, Fault> {
-        self.made(|h, a| unsafe { sys::rd_land_failed(h, id, key, now, a) }).map(landed)
+    pub fn land_failed(&mut self, id: u64, key: K, now: u64) -> Result<Landed, Fault> {
+        self.made(|h, a| unsafe { K::land_failed(h, id, key, now, a) }).map(landed)
     }
 
-    pub fn drop_key(&mut self, key: u64, now: u64) -> Result<bool, Fault> {
-        self.made(|h, a| unsafe { sys::rd_drop_key(h, key, now, a) }).map(|a| a.number != 0)
+    pub fn drop_key(&mut self, key: K, now: u64) -> Result<bool, Fault> {
+        self.made(|h, a| unsafe { K::drop_key(h, key, now, a) }).map(|a| a.number != 0)
     }
 
-    pub fn forget(&mut self, key: u64, now: u64) -> Result<bool, Fault> {
-        self.made(|h, a| unsafe { sys::rd_forget(h, key, now, a) }).map(|a| a.number != 0)
+    pub fn forget(&mut self, key: K, now: u64) -> Result<bool, Fault> {
+        self.made(|h, a| unsafe { K::forget(h, key, now, a) }).map(|a| a.number != 0)
     }
 
     pub fn clear(&mut self, now: u64) -> Result<(), Fault> {
@@ -129,10 +132,10 @@ impl Tokens {
     }
 
     /// The notices of the latest call.
-    pub fn notices(&mut self) -> impl Iterator<Item = Notice> + '_ {
+    pub fn notices(&mut self) -> impl Iterator<Item = Notice<K>> + '_ {
         (0..self.told).map(|i| {
             let mut notice = Notice::default();
-            unsafe { sys::rd_get_notice(&mut self.handle, i, &mut notice) };
+            unsafe { K::get_notice(&mut self.handle, i, &mut notice) };
             notice
         })
     }
@@ -144,7 +147,7 @@ impl Tokens {
     }
 }
 
-impl Drop for Tokens {
+impl<K> Drop for Tokens<K> {
     fn drop(&mut self) {
         unsafe { sys::rd_close(&mut self.handle) };
     }

@@ -1,0 +1,108 @@
+//! The two kinds of keys, each with the calls of `rookdresser.h` that have a key.
+use crate::sys::{self, Answer, Handle, Name, Notice, Setup, Token};
+
+mod sealed {
+    pub trait Sealed {}
+}
+
+/// A key of the library's own: a number, or a [`Name`].
+pub trait Key: sealed::Sealed + Copy + Default {
+    // Each call leads to the function of `rookdresser.h` for such keys. The pointers owe what its head says.
+    #[doc(hidden)]
+    unsafe fn open(setup: *const Setup, cache: *mut Handle) -> u64;
+    #[doc(hidden)]
+    unsafe fn look(cache: *mut Handle, key: Self, now: u64, answer: *mut Answer) -> u64;
+    #[doc(hidden)]
+    unsafe fn seek(cache: *mut Handle, key: Self, now: u64, answer: *mut Answer) -> u64;
+    #[doc(hidden)]
+    unsafe fn put(cache: *mut Handle, key: Self, value: Token, now: u64, answer: *mut Answer) -> u64;
+    #[doc(hidden)]
+    unsafe fn land_keep(cache: *mut Handle, id: u64, key: Self, value: Token, now: u64, answer: *mut Answer) -> u64;
+    #[doc(hidden)]
+    unsafe fn land_loose(cache: *mut Handle, id: u64, key: Self, now: u64, answer: *mut Answer) -> u64;
+    #[doc(hidden)]
+    unsafe fn land_failed(cache: *mut Handle, id: u64, key: Self, now: u64, answer: *mut Answer) -> u64;
+    #[doc(hidden)]
+    unsafe fn drop_key(cache: *mut Handle, key: Self, now: u64, answer: *mut Answer) -> u64;
+    #[doc(hidden)]
+    unsafe fn forget(cache: *mut Handle, key: Self, now: u64, answer: *mut Answer) -> u64;
+    #[doc(hidden)]
+    unsafe fn get_notice(cache: *mut Handle, i: u64, notice: *mut Notice<Self>) -> u64;
+}
+
+// A kind of keys: how one is handed over, and the functions.
+macro_rules! key {
+    ($key:ty, $given:expr, $open:ident, $look:ident, $seek:ident, $put:ident, $keep:ident, $loose:ident, $failed:ident, $drop:ident,
+     $forget:ident, $notice:ident) => {
+        impl sealed::Sealed for $key {}
+
+        impl Key for $key {
+            unsafe fn open(setup: *const Setup, cache: *mut Handle) -> u64 {
+                sys::$open(setup, cache)
+            }
+            unsafe fn look(cache: *mut Handle, key: Self, now: u64, answer: *mut Answer) -> u64 {
+                sys::$look(cache, $given(&key), now, answer)
+            }
+            unsafe fn seek(cache: *mut Handle, key: Self, now: u64, answer: *mut Answer) -> u64 {
+                sys::$seek(cache, $given(&key), now, answer)
+            }
+            unsafe fn put(cache: *mut Handle, key: Self, value: Token, now: u64, answer: *mut Answer) -> u64 {
+                sys::$put(cache, $given(&key), value, now, answer)
+            }
+            unsafe fn land_keep(
+                cache: *mut Handle,
+                id: u64,
+                key: Self,
+                value: Token,
+                now: u64,
+                answer: *mut Answer,
+            ) -> u64 {
+                sys::$keep(cache, id, $given(&key), value, now, answer)
+            }
+            unsafe fn land_loose(cache: *mut Handle, id: u64, key: Self, now: u64, answer: *mut Answer) -> u64 {
+                sys::$loose(cache, id, $given(&key), now, answer)
+            }
+            unsafe fn land_failed(cache: *mut Handle, id: u64, key: Self, now: u64, answer: *mut Answer) -> u64 {
+                sys::$failed(cache, id, $given(&key), now, answer)
+            }
+            unsafe fn drop_key(cache: *mut Handle, key: Self, now: u64, answer: *mut Answer) -> u64 {
+                sys::$drop(cache, $given(&key), now, answer)
+            }
+            unsafe fn forget(cache: *mut Handle, key: Self, now: u64, answer: *mut Answer) -> u64 {
+                sys::$forget(cache, $given(&key), now, answer)
+            }
+            unsafe fn get_notice(cache: *mut Handle, i: u64, notice: *mut Notice<Self>) -> u64 {
+                sys::$notice(cache, i, notice)
+            }
+        }
+    };
+}
+
+key!(
+    u64,
+    u64::clone,
+    rd_open,
+    rd_look,
+    rd_seek,
+    rd_put,
+    rd_land_keep,
+    rd_land_loose,
+    rd_land_failed,
+    rd_drop_key,
+    rd_forget,
+    rd_get_notice
+);
+key!(
+    Name,
+    std::ptr::from_ref,
+    rd_open_names,
+    rd_look_name,
+    rd_seek_name,
+    rd_put_name,
+    rd_land_keep_name,
+    rd_land_loose_name,
+    rd_land_failed_name,
+    rd_drop_name,
+    rd_forget_name,
+    rd_get_notice_name
+);
