@@ -20,8 +20,10 @@ func together(goroutines int, work func(int)) {
 	all.Wait()
 }
 
-func open(t *testing.T, s Setup) *Cache[string] {
-	c, err := Open[string](s)
+func open(t *testing.T, s Setup) *Cache[uint64, string] { return openOf[uint64](t, s) }
+
+func openOf[K Key](t *testing.T, s Setup) *Cache[K, string] {
+	c, err := Open[K, string](s)
 	if err != nil {
 		t.Fatal(err)
 	}
@@ -30,16 +32,20 @@ func open(t *testing.T, s Setup) *Cache[string] {
 }
 
 func TestASetupOutOfItsRangesIsRefused(t *testing.T) {
-	if _, err := Open[string](Setup{Entries: 1, Window: 2, Flights: 1, Bound: 1}); err != BadSetup {
+	if _, err := Open[uint64, string](Setup{Entries: 1, Window: 2, Flights: 1, Bound: 1}); err != BadSetup {
 		t.Fatal(err)
 	}
 }
 
 func TestExactlyWhatIsHeldIsKept(t *testing.T) {
-	c := open(t, setup)
+	holdsExactly(t, open(t, setup), func(number uint64) uint64 { return number })
+	holdsExactly(t, openOf[string](t, setup), func(number uint64) string { return fmt.Sprint("page ", number) })
+}
+
+func holdsExactly[K Key](t *testing.T, c *Cache[K, string], keyOf func(uint64) K) {
 	together(4, func(n int) {
 		for i := uint64(0); i < 20000; i++ {
-			key := (i*2654435761 + uint64(n)*40503) >> 7 % 300
+			key := keyOf((i*2654435761 + uint64(n)*40503) >> 7 % 300)
 			if v, found, err := c.Look(key, i); err != nil || found && v != fmt.Sprint("v", key) {
 				t.Error(v, err)
 			} else if !found {
@@ -55,11 +61,30 @@ func TestExactlyWhatIsHeldIsKept(t *testing.T) {
 	}
 }
 
+func TestANameOfMoreThan24BytesIsRefused(t *testing.T) {
+	c, longest := openOf[string](t, setup), "abcdefghijklmnopqrstuvwx"
+	if err := c.Put(longest, "held", 1, 0); err != nil {
+		t.Fatal(err)
+	}
+	if err := c.Put(longest+"y", "refused", 1, 0); err != NameTooLong {
+		t.Fatal(err)
+	}
+	_, err := c.Get(longest+"y", 0, func() (string, uint32, error) { t.Error("loaded"); return "", 1, nil })
+	v, found, _ := c.Look(longest, 0)
+	if err != NameTooLong || v != "held" || !found || len(c.values) != 1 {
+		t.Fatal(v, found, err, len(c.values))
+	}
+}
+
 func TestAKeyIsLoadedOnceForAllWhoAsk(t *testing.T) {
-	c := open(t, setup)
+	loadsOnce(t, open(t, setup), 7)
+	loadsOnce(t, openOf[string](t, setup), "seven")
+}
+
+func loadsOnce[K Key](t *testing.T, c *Cache[K, string], key K) {
 	var made int32
 	together(64, func(int) {
-		v, err := c.Get(7, 0, func() (string, uint32, error) {
+		v, err := c.Get(key, 0, func() (string, uint32, error) {
 			atomic.AddInt32(&made, 1)
 			time.Sleep(50 * time.Millisecond)
 			return "seven", 1, nil
