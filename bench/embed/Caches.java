@@ -1,0 +1,99 @@
+import com.github.benmanes.caffeine.cache.Caffeine;
+import com.google.common.cache.CacheBuilder;
+import java.nio.ByteBuffer;
+import java.nio.ByteOrder;
+import java.nio.file.Files;
+import java.nio.file.Paths;
+import java.util.concurrent.atomic.LongAdder;
+
+/** Caches CACHE KEYS ROUNDS THREADS: as main.rs, on Caffeine or Guava. The first rounds warm the compiler up and don't count. */
+class Caches {
+    interface Work {
+        boolean look(long key);
+        void put(long key);
+        boolean readThrough(long key) throws Exception;
+    }
+
+    interface Call {
+        boolean make(Work cache, long key) throws Exception;
+    }
+
+    static final int ENTRIES = 4096, HELD = 2048;
+
+    static Work caffeine() {
+        com.github.benmanes.caffeine.cache.Cache<Long, Long> cache = Caffeine.newBuilder().maximumSize(ENTRIES).build();
+        return new Work() {
+            public boolean look(long key) { return cache.getIfPresent(key) != null; }
+            public void put(long key) { cache.put(key, key); }
+            public boolean readThrough(long key) {
+                boolean[] there = {true};
+                cache.get(key, k -> { there[0] = false; return k; });
+                return there[0];
+            }
+        };
+    }
+
+    static Work guava() {
+        com.google.common.cache.Cache<Long, Long> cache = CacheBuilder.newBuilder().maximumSize(ENTRIES).build();
+        return new Work() {
+            public boolean look(long key) { return cache.getIfPresent(key) != null; }
+            public void put(long key) { cache.put(key, key); }
+            public boolean readThrough(long key) throws Exception {
+                boolean[] there = {true};
+                cache.get(key, () -> { there[0] = false; return key; });
+                return there[0];
+            }
+        };
+    }
+
+    static double timed(Work cache, long[] keys, int threads, Call call, LongAdder missed) throws Exception {
+        Thread[] running = new Thread[threads];
+        long begun = System.nanoTime();
+        for (int t = 0; t < threads; t++) {
+            int from = (int) ((long) t * keys.length / threads);
+            running[t] = new Thread(() -> {
+                long mine = 0;
+                try {
+                    for (int i = 0; i < keys.length; i++) {
+                        if (!call.make(cache, keys[(from + i) % keys.length])) mine++;
+                    }
+                } catch (Exception fault) {
+                    throw new RuntimeException(fault);
+                }
+                missed.add(mine);
+            });
+            running[t].start();
+        }
+        for (Thread thread : running) thread.join();
+        return (System.nanoTime() - begun) / ((double) keys.length * threads);
+    }
+
+    public static void main(String[] given) throws Exception {
+        ByteBuffer bytes = ByteBuffer.wrap(Files.readAllBytes(Paths.get(given[1]))).order(ByteOrder.LITTLE_ENDIAN);
+        long[] keys = new long[bytes.remaining() / 8];
+        bytes.asLongBuffer().get(keys);
+        int rounds = Integer.parseInt(given[2]), threads = Integer.parseInt(given[3]);
+        String[] names = {"hit", "put", "read-through"};
+        Call[] calls = {
+            (cache, key) -> cache.look(key % HELD),
+            (cache, key) -> { cache.put(key % HELD); return true; },
+            (cache, key) -> cache.readThrough(key)};
+        for (int w = 0; w < 3; w++) {
+            double least = Double.MAX_VALUE;
+            long missed = 0;
+            for (int round = -10; round < rounds; round++) {
+                Work cache = given[0].equals("caffeine") ? caffeine() : guava();
+                for (long key = 0; w < 2 && key < HELD; key++) cache.put(key);
+                LongAdder told = new LongAdder();
+                double each = timed(cache, keys, threads, calls[w], told);
+                if (w < 2 && told.sum() > 0) throw new AssertionError("all of them are held");
+                if (round >= 0 && each < least) {
+                    least = each;
+                    missed = told.sum();
+                }
+            }
+            System.out.printf("%s %d %.1f %d%n", names[w], threads, least, missed);
+        }
+        System.exit(0);
+    }
+}

@@ -1,0 +1,178 @@
+//! main CACHE KEYS ROUNDS THREADS: hits, puts and read-through of the keys in a file: a line for each, with the least nanoseconds an
+//! operation of some rounds, all threads together, and the misses of the read-through.
+use rookdresser::{Found, Loading, Setup, Token, Tokens};
+use std::cell::RefCell;
+use std::sync::Mutex;
+use std::time::Instant;
+
+const HELD: u64 = 2048;
+const SETUP: Setup =
+    Setup { entries: 4096, window: 41, flights: 64, bound: 1 << 40, after_write: 0, after_access: 0, refresh: 0 };
+// A shard of eight has an eighth of all.
+const EIGHTH: Setup = Setup { entries: 512, window: 5, ..SETUP };
+
+/// What the caches have in common. A value is its key.
+trait Work {
+    fn look(&self, key: u64, now: u64) -> bool;
+    fn put(&self, key: u64, now: u64);
+    /// Answers whether the key was there, and stores it where not.
+    fn read_through(&self, key: u64, now: u64) -> bool;
+}
+
+fn look(cache: &mut Tokens, key: u64, now: u64) -> bool {
+    matches!(cache.look(key, now), Ok(Found::Hit(_)))
+}
+
+fn put(cache: &mut Tokens, key: u64, now: u64) {
+    cache.put(key, Token { token: key, weight: 1 }, now).expect("memory is there");
+}
+
+fn read_through(cache: &mut Tokens, key: u64, now: u64) -> bool {
+    match cache.seek(key, now).expect("loads land at once") {
+        Found::Lead(id) => {
+            cache.land_keep(id, key, Token { token: key, weight: 1 }, now).expect("memory is there");
+            false
+        }
+        _ => true,
+    }
+}
+
+// One cache of one thread: nothing is locked.
+struct Alone(RefCell<Tokens>);
+
+// SAFETY: it is used by one thread alone, which `main` sees to.
+unsafe impl Sync for Alone {}
+
+impl Work for Alone {
+    fn look(&self, key: u64, now: u64) -> bool {
+        look(&mut self.0.borrow_mut(), key, now)
+    }
+    fn put(&self, key: u64, now: u64) {
+        put(&mut self.0.borrow_mut(), key, now)
+    }
+    fn read_through(&self, key: u64, now: u64) -> bool {
+        read_through(&mut self.0.borrow_mut(), key, now)
+    }
+}
+
+// Several caches, each in a Mutex; the highest bits of a multiplication choose one.
+struct Locked(Vec<Mutex<Tokens>>);
+
+impl Locked {
+    fn of(&self, key: u64) -> std::sync::MutexGuard<'_, Tokens> {
+        let shard = (u128::from(key.wrapping_mul(0x9E37_79B9_7F4A_7C15)) * self.0.len() as u128) >> 64;
+        self.0[shard as usize].lock().expect("no call panics")
+    }
+}
+
+impl Work for Locked {
+    fn look(&self, key: u64, now: u64) -> bool {
+        look(&mut self.of(key), key, now)
+    }
+    fn put(&self, key: u64, now: u64) {
+        put(&mut self.of(key), key, now)
+    }
+    fn read_through(&self, key: u64, now: u64) -> bool {
+        read_through(&mut self.of(key), key, now)
+    }
+}
+
+impl Work for Loading<u64, u64, ()> {
+    fn look(&self, key: u64, now: u64) -> bool {
+        Loading::look(self, &key, now).expect("memory is there").is_some()
+    }
+    fn put(&self, key: u64, now: u64) {
+        Loading::put(self, &key, key.into(), 1, now).expect("memory is there");
+    }
+    fn read_through(&self, key: u64, now: u64) -> bool {
+        let mut there = true;
+        let load = || {
+            there = false;
+            Ok((key, 1))
+        };
+        self.get(&key, now, load).expect("loads land at once");
+        there
+    }
+}
+
+#[cfg(feature = "lru")]
+impl Work for Mutex<lru::LruCache<u64, u64>> {
+    fn look(&self, key: u64, _: u64) -> bool {
+        self.lock().expect("no call panics").get(&key).is_some()
+    }
+    fn put(&self, key: u64, _: u64) {
+        self.lock().expect("no call panics").put(key, key);
+    }
+    fn read_through(&self, key: u64, _: u64) -> bool {
+        let mut cache = self.lock().expect("no call panics");
+        let there = cache.get(&key).is_some();
+        if !there {
+            cache.put(key, key);
+        }
+        there
+    }
+}
+
+fn made(cache: &str) -> Box<dyn Work + Sync> {
+    let open = |setup| Tokens::open(setup).expect("the setup is within its ranges");
+    match cache {
+        "alone" => Box::new(Alone(RefCell::new(open(&SETUP)))),
+        "mutex" => Box::new(Locked(vec![Mutex::new(open(&SETUP))])),
+        "sharded" => Box::new(Locked((0..8).map(|_| Mutex::new(open(&EIGHTH))).collect())),
+        "loading" => Box::new(Loading::<u64, u64, ()>::open(&SETUP).expect("the setup is within its ranges")),
+        "loading-sharded" => {
+            Box::new(Loading::<u64, u64, ()>::sharded(8, &EIGHTH).expect("the setup is within its ranges"))
+        }
+        #[cfg(feature = "lru")]
+        "lru" => Box::new(Mutex::new(lru::LruCache::<u64, u64>::new(4096))),
+        _ => panic!("there is no cache {cache}"),
+    }
+}
+
+// The nanoseconds an operation, all threads together, and how many missed. Each thread begins at a place of its own.
+fn timed(cache: &(dyn Work + Sync), keys: &[u64], threads: usize, work: fn(&dyn Work, u64, u64) -> bool) -> (f64, u64) {
+    let begun = Instant::now();
+    let part = |t: usize| {
+        let (before, after) = keys.split_at(t * keys.len() / threads);
+        let stream = after.iter().chain(before).enumerate();
+        stream.filter(|&(i, &key)| !work(cache, key, i as u64)).count() as u64
+    };
+    let missed = match threads {
+        1 => part(0),
+        _ => std::thread::scope(|scope| {
+            let running: Vec<_> = (0..threads).map(|t| scope.spawn(move || part(t))).collect();
+            running.into_iter().map(|thread| thread.join().expect("no thread panics")).sum()
+        }),
+    };
+    (begun.elapsed().as_nanos() as f64 / (keys.len() * threads) as f64, missed)
+}
+
+fn main() {
+    let given: Vec<String> = std::env::args().collect();
+    let (rounds, threads): (u32, usize) = (given[3].parse().expect("a number"), given[4].parse().expect("a number"));
+    assert!(given[1] != "alone" || threads == 1);
+    let bytes = std::fs::read(&given[2]).expect("the file of keys");
+    let keys: Vec<u64> = bytes.chunks_exact(8).map(|b| u64::from_le_bytes(b.try_into().expect("8 bytes"))).collect();
+    type Call = fn(&dyn Work, u64, u64) -> bool;
+    let works: [(&str, Call); 3] = [
+        ("hit", |cache, key, now| cache.look(key % HELD, now)),
+        ("put", |cache, key, now| {
+            cache.put(key % HELD, now);
+            true
+        }),
+        ("read-through", |cache, key, now| cache.read_through(key, now)),
+    ];
+    for (name, work) in works {
+        let mut least = (f64::MAX, 0);
+        for _ in 0..rounds {
+            let cache = made(&given[1]);
+            if name != "read-through" {
+                (0..HELD).for_each(|key| cache.put(key, 0));
+            }
+            let told = timed(&*cache, &keys, threads, work);
+            assert!(name == "read-through" || told.1 == 0, "all of them are held");
+            least = if told.0 < least.0 { told } else { least };
+        }
+        println!("{name} {threads} {:.1} {}", least.0, least.1);
+    }
+}
