@@ -1,5 +1,5 @@
 -- The turns of a thread, a line at a time.
-use Rattle.std.proofs.Common.{◌≡◌, ℕ, ◌+◌, ◌-◌, ◌<◌, ◌≤◌, ◌%◌, ◌==◌, Bool, true, false, List, [], ◌∷◌, length, get_or, Ok, Err, Result, IsOk, refl, sym, subst, arith}
+use Rattle.std.proofs.Common.{◌≡◌, ℕ, ◌+◌, ◌-◌, ◌<◌, ◌≤◌, ◌%◌, Bool, true, false, List, [], ◌∷◌, length, get_or, Ok, Err, Result, IsOk, refl, sym, subst, arith}
 use Rattle.std.proofs.lemmas.Bool.Decides.{nat_tests}
 use Rattle.wt_cache.specs.Cached.{Cached}
 use Rattle.wt_replay.specs.Turns.{AreDone, AreTurns, HasActed, IsDone, IsTurn, is_turn, unmade}
@@ -46,18 +46,18 @@ module _ {K : Type 0} (threads : ℕ) (passed : ℕ → Type 0) (acted : Act K �
       let here = turns t (omega arith) in
       let own : is_turn threads t n ≡ true = grind (arith, nat_tests) in
       let later : (u : ℕ) → u < threads → HasTurns (is_turn threads u) passed acted (n + 1) ls =
-      λ u within. let there = turns u within in (there.1.1.0, (there.1.0, there.1.1.1.1)) in
-      ((λ _. let_through (is_turn threads t n) (passed n) (acted l.act) here.0 here.1.1.0 own here.1.1.1.0), all_asked (n + 1) ls (omega arith) later)
+      λ u within. let there = turns u within in (there.2.0, there.1, there.2.2) in
+      ((λ _. let_through (is_turn threads t n) (passed n) (acted l.act) here.0 here.2.0 own here.2.1), all_asked (n + 1) ls (omega arith) later)
 
 -- what a thread handed back that didn't stop
 ok_done : {K : Type 0} (word : K → ℕ) (c : Cached) (answers : ℕ → Bool → Type 0) (first : ℕ) (lines : List (Line K)) (threads t : ℕ) (r : Result Passed RunFault)
     → IsOk r → IsDone word c answers first lines threads t r → HasTurns (is_turn threads t) (λ n. answers n true) (HasActed word c.layout c.lined) first lines
-ok_done word c answers first lines threads t (Ok pass) ok done = (_, (pass, done.0))
-ok_done word c answers first lines threads t (Err fault) ok done = absurd ok
+ok_done word c answers first lines threads t (Ok pass) ok done = (_, pass, done.0)
+ok_done word c answers first lines threads t (Err fault) ok done = absurd (cc)
 
 -- where no thread stopped each line was let through
 pub done_asked : {K : Type 0} (word : K → ℕ) (c : Cached) (answers : ℕ → Bool → Type 0) (first : ℕ) (lines : List (Line K)) (threads : ℕ) (ran : List (Result Passed RunFault))
     → 1 ≤ first → 1 ≤ threads → AreDone word c answers first lines threads ran → ((t : ℕ) → t < threads → IsOk (get_or ran t unmade)) → AreAsked (λ _. true) (λ n. answers n true) first lines
 done_asked word c answers first lines threads ran from some done ok =
     all_asked threads (λ n. answers n true) (HasActed word c.layout c.lined) some first lines from
-        (λ t within. ok_done word c answers first lines threads t (get_or ran t unmade) (ok t within) (done t within))
+    (λ t within. ok_done word c answers first lines threads t (get_or ran t unmade) (ok t within) (done t within))

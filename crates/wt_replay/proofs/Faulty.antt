@@ -24,6 +24,6 @@ faulty_verdict n t f none err is =
     subst (λ (w : Option ReplayFault). IsTurnFault w f) (sym whole) (told f (subst IsVerdict err is))
 
 -- what isn't there
-pub not_there : (o : Option ℕ) → ((n : ℕ) → o ≡ Some n → ⊥) → o ≡ None
+pub not_there : {X : Type 0} (o : Option X) → ((x : X) → o ≡ Some x → ⊥) → o ≡ None
 not_there None none = refl
-not_there (Some n) none = absurd (none n refl)
+not_there (Some x) none = absurd (none x refl)

@@ -24,8 +24,9 @@ use wt_cache::{JobLine, LoadingCache};
 use wt_core::Stats;
 use wt_keys::{Fault, Name};
 use wt_shards::{Blanks, Books, Names, Of, Pass, Shards, Total, Totals};
-use wt_trace::{Act, Gate, Line, Options, ReplayFault, TraceKey, Version};
-use wt_trace::{behind_header, read_lines};
+use wt_trace::{
+    Act, Gate, Line, Options, ReplayFault, TraceKey, Version, behind_header, read_lines,
+};
 
 // How many loads may wait for a worker.
 const MOST_WAITING: u32 = 64;

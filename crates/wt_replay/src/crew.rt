@@ -119,12 +119,7 @@ fn load_all<K: TraceKey, N: Names + Send + Sync, R: Threads + Wait + Sync>(
 }
 
 /// Has the threads do their turns while the workers run loads.
-pub(crate) fn work_all<
-    K: TraceKey,
-    N: Names + Send + Sync,
-    G: Gate,
-    R: Threads + Wait + Sync,
->(
+pub(crate) fn work_all<K: TraceKey, N: Names + Send + Sync, G: Gate, R: Threads + Wait + Sync>(
     rt: &R,
     alloc: Global,
     cache: &LoadingCache<K, Version<K>, Rules, Of<N>>,

@@ -15,8 +15,9 @@ use replay::replay_by_turn;
 use std::alloc::Global;
 use std::io;
 use std::process::ExitCode;
-use wt_trace::{MOST_THREADS, Open, Options, ReplayFault, Tallied};
-use wt_trace::{replay, replay_by_shard, status_and_line};
+use wt_trace::{
+    MOST_THREADS, Open, Options, ReplayFault, Tallied, replay, replay_by_shard, status_and_line,
+};
 
 // What `--version` prints.
 const VERSION: &str = "0.1.0";

@@ -12,8 +12,9 @@ use std::io::{Read, Write};
 use std::sync::Wait;
 use std::thread::Threads;
 use wt_keys::Fault;
-use wt_trace::{Gate, MOST_BYTES, Options, ReplayFault, Tallied};
-use wt_trace::{read_up_to, summary_text, write_out};
+use wt_trace::{
+    Gate, MOST_BYTES, Options, ReplayFault, Tallied, read_up_to, summary_text, write_out,
+};
 
 /// Replays the trace turn by turn with so many threads on one shared cache, each with a pass of its own: line n is
 /// done by thread (n - 1) modulo `threads`. Writes one line, the summary, whose hits and misses are the look-ups.

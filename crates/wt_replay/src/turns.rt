@@ -13,8 +13,7 @@ use wt_cache::{Loader, LoadingCache};
 use wt_core::Notices;
 use wt_keys::{CacheKey, Fault};
 use wt_shards::{Books, Pass};
-use wt_trace::{Act, Gate, Line, Options, TraceKey, Version};
-use wt_trace::{fails_by, weight_by};
+use wt_trace::{Act, Gate, Line, Options, TraceKey, Version, fails_by, weight_by};
 
 /// Why a run ended before its last line.
 #[derive(Clone, Copy, Debug)]

@@ -1,4 +1,6 @@
-use Rattle.std.proofs.Common.{rules, ◌≡◌, ◌∙◌, ap, sym, None, Err}
+use Rattle.std.proofs.Common.{rules, ◌≡◌, ◌∙◌, ap, sym, subst, List, None, Err, true}
+use Rattle.wt_trace.specs.Stops.{AreAsked}
+use Rattle.wt_trace.specs.declared.line.Line.{Line}
 use Rattle.wt_replay.specs.ByTurn.{first_open}
 use Rattle.wt_trace.specs.Trace.{lines_of, trace_from}
 use Rattle.wt_replay.proofs.Faulty.{faulty_verdict, not_there}
@@ -12,3 +14,7 @@ returns-in-Err-clause-faults g c =
     ap (first_open c.args.first) (sym (c.deref.ensures.value ∙ c.in-Ok.ensures.lines)) ∙ sym c.first_open.ensures ∙ not_there c.first_open.result c.in_default-first_open.not-Some in
     let err : t.verdict ≡ Err c.in-Err.fault = search rules in
     faulty_verdict c.args.first t c.in-Err.fault none err (verdict_of-trace g.K.TraceKey.read c.args.first (lines_of c.args.bytes.now))
+
+pub returns-in-Ok-totals_by_turn-clause-asked : goal.returns-in-Ok-totals_by_turn-clause-asked
+returns-in-Ok-totals_by_turn-clause-asked g c =
+    subst (λ (ls : List (Line g.row.K.Denot)). AreAsked (λ _. true) (λ n. g.G.Gate.answers c.args.gate.now n true) c.args.first ls) (c.deref-2.ensures.value ∙ c.in-Ok.ensures.lines) c.in-Ok-totals_by_turn.ensures.asked
