@@ -1,5 +1,5 @@
-//! Pages of a slow source: one load for all who ask at once, a put that a load made meanwhile doesn't
-//! overwrite, and the source's errors as codes.
+//! Pages of a slow source: one load for all who ask at once, a put that a load made meanwhile
+//! doesn't overwrite, and the source's errors as codes.
 #![tactic(auto)]
 
 mod error;

@@ -12,8 +12,8 @@ use wt_core::Config;
 use wt_keys::Fault;
 use wt_shards::{Blanks, Names, Of, Shards};
 
-/// Lets two threads put ten pages each, and answers how many steps the settled books hold; where not
-/// all passes are handed back, the fault that tells of it.
+/// Lets two threads put ten pages each, and answers how many steps the settled books hold; where
+/// not all passes are handed back, the fault that tells of it.
 pub fn session<N: Names + Send + Sync, R: Threads + Wait + Sync>(
     rt: &R,
     alloc: Global,

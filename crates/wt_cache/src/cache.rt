@@ -52,7 +52,8 @@ impl<
 > LoadingCache<K, V, L, B> {
     /// Makes a cache over these shards, with a line if loads are to be run by workers.
     ///
-    /// Loads that are open already stay so: their leads are to be abandoned or posted. Takes no memory.
+    /// Loads that are open already stay so: their leads are to be abandoned or posted. Takes no
+    /// memory.
     pub fn new(
         shards: Shards<K, V, B>,
         loader: L,
@@ -107,9 +108,11 @@ impl<
         self.line.as_ref()
     }
 
-    /// Ends the cache, and hands its shards back, for `settle`. The loader and the line are dropped.
+    /// Ends the cache, and hands its shards back, for `settle`. The loader and the line are
+    /// dropped.
     ///
-    /// A load that is in the line still is never run: its ticket then waits for good. Takes no lock.
+    /// A load that is in the line still is never run: its ticket then waits for good. Takes no
+    /// lock.
     pub fn finish(self) -> Shards<K, V, B>
         ensures { result ≡ self.layout }
     {

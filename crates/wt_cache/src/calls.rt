@@ -24,12 +24,12 @@ impl<
     L: Loader<K, V> + Drop,
     B: Books,
 > LoadingCache<K, V, L, B> {
-    /// Returns a share of the key's value, `Hit`, or `Absent` where there is none. Loads nothing, and
-    /// waits for no load.
+    /// Returns a share of the key's value, `Hit`, or `Absent` where there is none. Loads nothing,
+    /// and waits for no load.
     ///
-    /// `now` is in milliseconds. `StepsSpent` comes before `NoMemory`, which only a hit can meet. Takes
-    /// the lock of the key's shard for one step. Expected O(1) for keys that nobody picks (see
-    /// `Seeded`).
+    /// `now` is in milliseconds. `StepsSpent` comes before `NoMemory`, which only a hit can meet.
+    /// Takes the lock of the key's shard for one step. Expected O(1) for keys that nobody picks
+    /// (see `Seeded`).
     pub fn get_if_present<R: Wait>(
         &self,
         rt: &R,
@@ -56,12 +56,12 @@ impl<
         self.shards.look(rt, pass, key, now, notices)
     }
 
-    /// Stores the value under the key, in place of one that is there. A load of the key that is open
-    /// is no longer joined, and its value not stored.
+    /// Stores the value under the key, in place of one that is there. A load of the key that is
+    /// open is no longer joined, and its value not stored.
     ///
-    /// `now` is in milliseconds. `TooHeavy` comes before `StepsSpent`, and both before memory is asked
-    /// for; a refused value is dropped. Takes the lock of the key's shard for one step. Expected
-    /// O(1) for keys that nobody picks (see `Seeded`), O(entries) where many leave.
+    /// `now` is in milliseconds. `TooHeavy` comes before `StepsSpent`, and both before memory is
+    /// asked for; a refused value is dropped. Takes the lock of the key's shard for one step.
+    /// Expected O(1) for keys that nobody picks (see `Seeded`), O(entries) where many leave.
     pub fn put<R: Wait>(
         &self,
         rt: &R,
@@ -89,11 +89,11 @@ impl<
         self.shards.put(rt, pass, key, value, now, notices)
     }
 
-    /// Takes the key's value out, and returns whether there was one. A load of the key that is open is
-    /// no longer joined, and its value not stored.
+    /// Takes the key's value out, and returns whether there was one. A load of the key that is open
+    /// is no longer joined, and its value not stored.
     ///
-    /// `now` is in milliseconds. Takes no memory of its own, and the lock of the key's shard for one
-    /// step. Expected O(1) for keys that nobody picks (see `Seeded`).
+    /// `now` is in milliseconds. Takes no memory of its own, and the lock of the key's shard for
+    /// one step. Expected O(1) for keys that nobody picks (see `Seeded`).
     pub fn invalidate<R: Wait>(
         &self,
         rt: &R,
@@ -122,8 +122,8 @@ impl<
     /// Makes the key's open load one that nobody joins any more and whose value is not stored, and
     /// returns whether there was one. The key's entry stays, unless it has expired: then it leaves.
     ///
-    /// `now` is in milliseconds. Takes no memory of its own, and the lock of the key's shard for one
-    /// step. Expected O(1) for keys that nobody picks (see `Seeded`).
+    /// `now` is in milliseconds. Takes no memory of its own, and the lock of the key's shard for
+    /// one step. Expected O(1) for keys that nobody picks (see `Seeded`).
     pub fn forget<R: Wait>(
         &self,
         rt: &R,
@@ -151,9 +151,9 @@ impl<
 
     /// Takes every entry out, shard after shard. No open load is joined any more, and none stored.
     ///
-    /// `now` is in milliseconds. Where a shard refuses, those before it were swept. Takes no memory of
-    /// its own, and each shard's lock for one step, so another thread may move between two of them.
-    /// O(entries).
+    /// `now` is in milliseconds. Where a shard refuses, those before it were swept. Takes no memory
+    /// of its own, and each shard's lock for one step, so another thread may move between two of
+    /// them. O(entries).
     pub fn invalidate_all<R: Wait>(
         &self,
         rt: &R,
@@ -178,12 +178,12 @@ impl<
         self.shards.clear(rt, pass, now, notices)
     }
 
-    /// Takes every expired entry out, shard after shard. Without it an expired entry leaves when its
-    /// key is next asked for, or to make room.
+    /// Takes every expired entry out, shard after shard. Without it an expired entry leaves when
+    /// its key is next asked for, or to make room.
     ///
-    /// `now` is in milliseconds. Where a shard refuses, those before it were swept. Takes no memory of
-    /// its own, and each shard's lock for one step, so another thread may move between two of them.
-    /// O(entries).
+    /// `now` is in milliseconds. Where a shard refuses, those before it were swept. Takes no memory
+    /// of its own, and each shard's lock for one step, so another thread may move between two of
+    /// them. O(entries).
     pub fn clean_up<R: Wait>(
         &self,
         rt: &R,

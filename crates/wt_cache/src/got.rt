@@ -9,7 +9,8 @@ pub enum How {
     Loaded,
     /// It was loaded by a load that was open already.
     Joined,
-    /// It was there and due: this call opened a load of it anew, and answers the value that was there.
+    /// It was there and due: this call opened a load of it anew, and answers the value that was
+    /// there.
     Refreshed,
 }
 

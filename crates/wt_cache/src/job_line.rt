@@ -1,9 +1,9 @@
 // The line of loads that wait for a worker.
 //
 // A caller whose seek opened a load may post its lead here and wait; a worker takes it and runs the
-// load. The line is open until it is closed, once and for good. Whoever posts reads the closing mark
-// before the push and after it: a mark that is set by then may mean that no worker comes any more, so
-// that poster runs what is in the line itself.
+// load. The line is open until it is closed, once and for good. Whoever posts reads the closing
+// mark before the push and after it: a mark that is set by then may mean that no worker comes any
+// more, so that poster runs what is in the line itself.
 ghost use Rattle.std.specs.Prelude.{◌≡◌, ◌<◌, ◌≤◌, ◌⊎◌, ◌++◌, ◌∷◌, [], ℕ, IfOk, IfErr, Err, IsOkUnless, MatchOption, MatchResult};
 ghost use Rattle.wt_keys.specs.declared.fault.Fault.TheVariants as fault;
 ghost use Rattle.wt_keys.specs.declared.fault.Field.TheVariants as field;
@@ -51,7 +51,8 @@ pub struct JobLine<K, V> {
 impl<K: Copy + Drop, V: Drop> JobLine<K, V> {
     /// Makes an open, empty line with places for so many loads, 1 to 4,096.
     ///
-    /// `BadConfig` of the line before memory is asked for. All its memory is taken here. O(capacity).
+    /// `BadConfig` of the line before memory is asked for. All its memory is taken here.
+    /// O(capacity).
     pub fn new<R: Wait>(_rt: &R, alloc: Global, capacity: u32) -> Result<JobLine<K, V>, Fault>
         ensures refusal { (capacity < 1) ⊎ (4096 < capacity)
             → result ≡ Err (fault.BadConfig field.Line) }
@@ -82,9 +83,9 @@ impl<K: Copy + Drop, V: Drop> JobLine<K, V> {
 
     /// Puts a load at the end of the line, or hands its lead back.
     ///
-    /// Answers `Line` where the line was open still after the put, `Late` where it was closed by then.
-    /// `LineClosed` comes before `LineFull`. The pass is to be one of this line: it goes by its own
-    /// queue. Takes no memory and no lock. That anyone takes the load is not promised.
+    /// Answers `Line` where the line was open still after the put, `Late` where it was closed by
+    /// then. `LineClosed` comes before `LineFull`. The pass is to be one of this line: it goes by
+    /// its own queue. Takes no memory and no lock. That anyone takes the load is not promised.
     pub fn post<R: Wait>(
         &self,
         rt: &R,

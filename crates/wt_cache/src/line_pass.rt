@@ -1,9 +1,9 @@
 // What one caller does with the job line, and the rule that all of them keep.
 //
 // The line is a queue under a rule over the names of the loads that it holds and over the puts and
-// takes of every pass that was ever made: each put has a number of its own, each take the number and
-// the name of one put, in the order of the puts, and what was put and not taken is in the line. Every
-// push and every pop keeps the rule, so it holds at each atomic step of every schedule.
+// takes of every pass that was ever made: each put has a number of its own, each take the number
+// and the name of one put, in the order of the puts, and what was put and not taken is in the line.
+// Every push and every pop keeps the rule, so it holds at each atomic step of every schedule.
 ghost use Rattle.std.specs.Prelude.{◌≡◌, ◌<◌, ◌++◌, ◌∷◌, [], ℕ, IfOk, MatchOption, MatchResult};
 ghost use Rattle.std.specs.Arc.{arc_value};
 ghost use Rattle.crossbeam_queue.specs.Passes.{view as known_by, IsPassOf};

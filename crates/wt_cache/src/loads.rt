@@ -2,9 +2,10 @@
 //
 //   lead ─► load ─► land at the lead's moment ─► publish ─► ring
 //
-// One function does it, for a caller without a line, a poster that came too late and a worker. A load
-// is landed before it is published, and both for each lead once: landing borrows the lead, publishing
-// takes it away. So who is told a value finds it in the cache, unless it has left meanwhile.
+// One function does it, for a caller without a line, a poster that came too late and a worker. A
+// load is landed before it is published, and both for each lead once: landing borrows the lead,
+// publishing takes it away. So who is told a value finds it in the cache, unless it has left
+// meanwhile.
 ghost use Rattle.std.specs.Prelude.{◌≡◌, ◌≤◌, false, true, IsTrue, IfOk, IfErr, OnOk, OnErr, MatchResult};
 ghost use Rattle.wt_flights.specs.Outcomes.{outcome_answers};
 ghost use Rattle.wt_shards.specs.Asked.{LandAnswers};
@@ -149,12 +150,12 @@ impl<
         }
     }
 
-    /// Gives up a load: whoever waits for it is told `Abandoned`, and no entry changes but the key's
-    /// own expired one, which leaves.
+    /// Gives up a load: whoever waits for it is told `Abandoned`, and no entry changes but the
+    /// key's own expired one, which leaves.
     ///
-    /// For a lead that a seek of the shards gave. Where the landing is refused the outcome is published
-    /// and rung all the same; `NoMemory` and `StepsSpent` come only where the load isn't open any more.
-    /// Takes the lock of the key's shard, then that of the load's bell.
+    /// For a lead that a seek of the shards gave. Where the landing is refused the outcome is
+    /// published and rung all the same; `NoMemory` and `StepsSpent` come only where the load isn't
+    /// open any more. Takes the lock of the key's shard, then that of the load's bell.
     pub fn abandon<R: Wait>(
         &self,
         rt: &R,

@@ -25,12 +25,13 @@ impl<
 > LoadingCache<K, V, L, B> {
     /// Takes loads off the line and runs them, and reports how many there were.
     ///
-    /// Ends where it read that the line is closed and a take after that found none; after 2^40 loads;
-    /// or at once where the cache has no line. While the line is open and empty it gives way to other
-    /// threads and asks again. A load whose landing is refused is published and rung all the same.
-    /// What leaves the cache is counted and dropped, and so is what the list held before. Any number of
-    /// workers may run at once, each with passes of its own. The pass of the line is to be one of this
-    /// cache's line. Takes the lock of a key's shard for each landing. Not promised: that it returns.
+    /// Ends where it read that the line is closed and a take after that found none; after 2^40
+    /// loads; or at once where the cache has no line. While the line is open and empty it gives way
+    /// to other threads and asks again. A load whose landing is refused is published and rung all
+    /// the same. What leaves the cache is counted and dropped, and so is what the list held before.
+    /// Any number of workers may run at once, each with passes of its own. The pass of the line is
+    /// to be one of this cache's line. Takes the lock of a key's shard for each landing. Not
+    /// promised: that it returns.
     pub fn run_worker<R: Wait>(
         &self,
         rt: &R,

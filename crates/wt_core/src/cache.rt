@@ -4,8 +4,8 @@
 //         ──► sketch     how often each key was counted, for the duel
 //         ──► flights    the loads that are open
 //
-// Each of the eight steps is a function of the whole state. What can be refused comes first, and the
-// count of the key last, so that a refused step leaves all as it was.
+// Each of the eight steps is a function of the whole state. What can be refused comes first, and
+// the count of the key last, so that a refused step leaves all as it was.
 ghost use Rattle.std.specs.Prelude.{◌≡◌, ◌≤◌, ◌==◌, IfOk, MatchOption, IsOkUnless, Err, length};
 ghost use Rattle.std.specs.Map.{keys_of};
 ghost use Rattle.std.specs.Option.{option_map};
@@ -22,13 +22,14 @@ use wt_keys::{CacheKey, Fault, NoMemory, Share};
 use wt_regions::{Region, Regions, Weighs};
 use wt_sketch::Sketch;
 
-// From this number on no step is made, but the landing of an open flight, so that no count can wrap.
+// From this number on no step is made, but the landing of an open flight, so that no count can
+// wrap.
 pub(crate) const MOST_STEPS: u64 = 1 << 60;
 
 /// The sequential cache: keys with their values in three regions, and the loads that are open.
 ///
-/// Each call that changes it is one step, or is refused and changes nothing, the moment included. Moments
-/// are milliseconds that the caller hands in; one before the latest counts as the latest.
+/// Each call that changes it is one step, or is refused and changes nothing, the moment included.
+/// Moments are milliseconds that the caller hands in; one before the latest counts as the latest.
 #[derive(Drop)]
 pub struct Core<K: CacheKey, V: Share + Weighs> {
     pub(crate) regions: Regions<K, V>,
@@ -75,8 +76,8 @@ impl<K: CacheKey, V: Share + Weighs> Core<K, V> {
 
     /// Makes an empty cache.
     ///
-    /// `BadConfig` as [`Config::check`] answers it, before memory is asked for. Takes memory for the tables
-    /// of the three regions and the sketch. O(entries).
+    /// `BadConfig` as [`Config::check`] answers it, before memory is asked for. Takes memory for
+    /// the tables of the three regions and the sketch. O(entries).
     pub fn new(alloc: Global, config: &Config) -> Result<Core<K, V>, Fault>
         ensures ok { IfOk result (λ core. core ≡ opening config.now) }
         // What the configuration refuses is refused whatever the memory does.

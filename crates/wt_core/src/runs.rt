@@ -26,7 +26,8 @@ macro_rules! answer_of {
 impl<K: CacheKey, V: Share + Weighs> Core<K, V> {
     /// Makes the call, whose refusal by the state is its answer `Refused` and no step.
     ///
-    /// `NoMemory` alone is an error, and then nothing has changed. Takes what the call's own step takes.
+    /// `NoMemory` alone is an error, and then nothing has changed. Takes what the call's own step
+    /// takes.
     pub fn take(
         &mut self,
         call: Call<K, V>,
@@ -68,12 +69,12 @@ impl<K: CacheKey, V: Share + Weighs> Core<K, V> {
     }
 }
 
-/// Makes the calls one after another, and answers their replies. A call that the state refuses replies
-/// `Refused` and is no step.
+/// Makes the calls one after another, and answers their replies. A call that the state refuses
+/// replies `Refused` and is no step.
 ///
-/// The notices are emptied before each call, so those of the last stay. `NoMemory` ends the run; the
-/// cache then stands after a prefix of the calls, and their replies are dropped. Takes memory for the list of
-/// replies, before the first call, and what the calls take.
+/// The notices are emptied before each call, so those of the last stay. `NoMemory` ends the run;
+/// the cache then stands after a prefix of the calls, and their replies are dropped. Takes memory
+/// for the list of replies, before the first call, and what the calls take.
 pub fn run_calls<K: CacheKey, V: Share + Weighs>(
     alloc: Global,
     core: &mut Core<K, V>,

@@ -1,5 +1,5 @@
-//! Tests of `wt_core` by its public calls, in a crate of their own: so the crate itself is proved once,
-//! and none above it waits for its tests.
+//! Tests of `wt_core` by its public calls, in a crate of their own: so the crate itself is proved
+//! once, and none above it waits for its tests.
 #![tactic(auto)]
 
 #[cfg(test)]

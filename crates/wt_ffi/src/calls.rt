@@ -43,8 +43,8 @@ pub extern "C" fn rd_look(
 
 /// Looks the key up, and where it isn't there joins its current load or opens one.
 ///
-/// `RD_HIT`, `RD_JOIN` or `RD_LEAD`, or `RD_HIT_LEAD` where the entry is due for a further load, the
-/// last three with the load's id: who leads makes the load and lands it. Expected O(1) for keys
+/// `RD_HIT`, `RD_JOIN` or `RD_LEAD`, or `RD_HIT_LEAD` where the entry is due for a further load,
+/// the last three with the load's id: who leads makes the load and lands it. Expected O(1) for keys
 /// that nobody picks.
 #[unsafe(no_mangle)]
 pub extern "C" fn rd_seek(
@@ -74,9 +74,9 @@ pub extern "C" fn rd_seek(
 
 /// Stores the value under the key, in place of one that is there: `RD_STORED`.
 ///
-/// What leaves is told, the new value itself perhaps. The key's current load stores nothing. A value that is
-/// too heavy is refused before memory is asked for. Expected O(1) for keys that nobody picks,
-/// O(entries) in a trim.
+/// What leaves is told, the new value itself perhaps. The key's current load stores nothing. A
+/// value that is too heavy is refused before memory is asked for. Expected O(1) for keys that
+/// nobody picks, O(entries) in a trim.
 #[unsafe(no_mangle)]
 pub extern "C" fn rd_put(
     alloc: Global,

@@ -15,9 +15,9 @@ use wt_core::{Call, Land};
 
 /// Closes a load with a value, which is stored where the load is current and it isn't too heavy.
 ///
-/// `RD_KEPT` where it was stored, else `RD_LOOSE`, both with the number of sharers; `RD_GONE` where no such
-/// load of the key is open. Takes memory only where it stores. Expected O(1) for keys that nobody
-/// picks, O(entries) in a trim.
+/// `RD_KEPT` where it was stored, else `RD_LOOSE`, both with the number of sharers; `RD_GONE` where
+/// no such load of the key is open. Takes memory only where it stores. Expected O(1) for keys that
+/// nobody picks, O(entries) in a trim.
 #[unsafe(no_mangle)]
 pub extern "C" fn rd_land_keep(
     alloc: Global,

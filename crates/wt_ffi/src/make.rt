@@ -11,8 +11,8 @@ use crate::token::Token;
 use std::alloc::Global;
 use wt_core::Call;
 
-// Makes a call on the handle's cache of numbers. Where it is closed or one of names nothing happens,
-// and `CLOSED` or `OTHER_KEYS` is returned.
+// Makes a call on the handle's cache of numbers. Where it is closed or one of names nothing
+// happens, and `CLOSED` or `OTHER_KEYS` is returned.
 pub(crate) fn make(
     alloc: Global,
     handle: &mut Handle,

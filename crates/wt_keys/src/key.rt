@@ -5,9 +5,10 @@ use std::hash::Hash;
 
 /// A key of a cache: a small value that is copied, and that has a word.
 ///
-/// The word is a function of the key, of 64 bits. The places of a key in the hash rows and its shard
-/// are made from it, so that keys with one word are counted together, and lie in one shard. Keys that
-/// compare equal must be equal, since an entry is found by an equal key and told of by its own.
+/// The word is a function of the key, of 64 bits. The places of a key in the hash rows and its
+/// shard are made from it, so that keys with one word are counted together, and lie in one shard.
+/// Keys that compare equal must be equal, since an entry is found by an equal key and told of by
+/// its own.
 ///
 /// Words and hashes of plain keys can be foreseen by everybody: let keys that strangers pick be
 /// [`Seeded`](crate::Seeded).

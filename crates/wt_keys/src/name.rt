@@ -17,7 +17,8 @@ use std::fmt;
 use std::hash::{Hash, Hasher};
 use std::marker::Model;
 
-/// A name of at most 24 bytes, which lie in the value itself. Contracts see it as its list of bytes.
+/// A name of at most 24 bytes, which lie in the value itself. Contracts see it as its list of
+/// bytes.
 ///
 /// Two names are equal exactly where their bytes are. The bytes need not be text.
 #[derive(Clone, Copy)]
@@ -118,8 +119,8 @@ impl CacheKey for Name {
     ghost same = { λ a b e. same_text a b (sym e) };
 }
 
-/// Writes the name's text, padded to a width as a `str` is. Where the bytes aren't UTF-8, U+FFFD stands
-/// for each invalid sequence, and a width doesn't count.
+/// Writes the name's text, padded to a width as a `str` is. Where the bytes aren't UTF-8, U+FFFD
+/// stands for each invalid sequence, and a width doesn't count.
 impl fmt::Display for Name {
     ghost output = { λ n. Some (utf8_lossy n) };
 

@@ -44,7 +44,8 @@ pub fn places(word: u64, bits: u32) -> [usize; 4]
     ]
 }
 
-/// Returns the bits of a place: a row's width is the least power of two not below 64 and the entries.
+/// Returns the bits of a place: a row's width is the least power of two not below 64 and the
+/// entries.
 ///
 /// From 6 for up to 64 entries to 16 for 65,536. Takes no memory. O(1): at most ten turns.
 pub fn bits_for(entries: u32) -> u32

@@ -11,10 +11,11 @@ use std::hash::{BuildHasher, Hash, Hasher, RandomState};
 use std::random::RandomSource;
 use std::{fmt, io};
 
-/// A secret of 128 bits, under which keys that strangers pick get words that strangers can't foresee.
+/// A secret of 128 bits, under which keys that strangers pick get words that strangers can't
+/// foresee.
 ///
-/// Make one for each cache, and each key of the cache with it: a key that was made under another seed
-/// isn't found, but for one chance in 2^64. `Debug` tells nothing of the bits.
+/// Make one for each cache, and each key of the cache with it: a key that was made under another
+/// seed isn't found, but for one chance in 2^64. `Debug` tells nothing of the bits.
 #[derive(Clone, Copy, Debug)]
 pub struct Seed {
     // Never changes.
@@ -24,8 +25,8 @@ pub struct Seed {
 impl Seed {
     /// Takes 16 bytes from the source: from the runtime those of the operating system.
     ///
-    /// The error is the source's, and there is no seed then. Takes no memory. What a source gives isn't
-    /// promised: `FixedBytes`, for tests, gives what everybody can read.
+    /// The error is the source's, and there is no seed then. Takes no memory. What a source gives
+    /// isn't promised: `FixedBytes`, for tests, gives what everybody can read.
     pub fn new(source: &impl RandomSource) -> io::Result<Seed> {
         Ok(Seed {
             state: RandomState::new(source)?,
@@ -34,8 +35,9 @@ impl Seed {
 
     /// Returns the key with the word that it has under this seed: its SipHash-1-3.
     ///
-    /// A function of the two. Takes no memory. O(length of the key): make a key once where it is used
-    /// more than once. Whoever sees words can tell keys apart by them, so keep words to yourself.
+    /// A function of the two. Takes no memory. O(length of the key): make a key once where it is
+    /// used more than once. Whoever sees words can tell keys apart by them, so keep words to
+    /// yourself.
     pub fn key<K: CacheKey>(&self, key: K) -> Seeded<K>
         ensures { result ≡ seeded K.hash_input self.now key }
     {
@@ -46,13 +48,15 @@ impl Seed {
     }
 }
 
-/// A key that a stranger may have picked, with its word under a seed. Eight bytes larger than the key.
+/// A key that a stranger may have picked, with its word under a seed. Eight bytes larger than the
+/// key.
 ///
 /// Tables, hash rows and shards go by the word alone, so that nobody without the seed can pick keys
 /// that meet there more often than by chance. That rests on SipHash, and no clause says it.
 #[derive(Clone, Copy, PartialEq, Eq)]
 pub struct Seeded<K> {
-    // Made from the key and a seed, and never changes. Compared first: it tells nearly all keys apart.
+    // Made from the key and a seed, and never changes. Compared first: it tells nearly all keys
+    // apart.
     word: u64,
     // Never changes.
     key: K,

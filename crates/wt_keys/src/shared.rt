@@ -10,8 +10,8 @@ use std::sync::Arc;
 
 /// A value with several owners, in any threads. Contracts see the value that it points to.
 ///
-/// Its share is a further owner of the same value, so a large value is stored once and never copied.
-/// The value is dropped with its last owner.
+/// Its share is a further owner of the same value, so a large value is stored once and never
+/// copied. The value is dropped with its last owner.
 #[derive(Drop)]
 pub struct Shared<T> {
     owner: Arc<T, Global>,
@@ -24,7 +24,8 @@ impl<T> Model for Shared<T> {
 }
 
 impl<T> Shared<T> {
-    /// Moves the value behind a first owner. `NoMemory` drops the value, as no owner of it was made.
+    /// Moves the value behind a first owner. `NoMemory` drops the value, as no owner of it was
+    /// made.
     pub fn new(alloc: Global, value: T) -> Result<Shared<T>, NoMemory>
     where
         T: Drop,

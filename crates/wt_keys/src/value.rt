@@ -5,8 +5,8 @@ use crate::fault::NoMemory;
 
 /// A value that can be handed out while the cache keeps it.
 ///
-/// A share is equal to what it was made from. It is asked for at each hit and for each sharer of a load,
-/// so it should be cheap: a copy, or a further owner as [`Shared`](crate::Shared) makes one.
+/// A share is equal to what it was made from. It is asked for at each hit and for each sharer of a
+/// load, so it should be cheap: a copy, or a further owner as [`Shared`](crate::Shared) makes one.
 pub trait Share: Sized + Drop {
     /// Returns a second value that equals this one. `NoMemory` where it can't be made now.
     fn share(&self) -> Result<Self, NoMemory>

@@ -1,5 +1,5 @@
-// What the regions do with one `LruCache`. Each has one place more than its region may hold, so that no
-// push drops an entry: where one has to leave, it is taken out by name and told of.
+// What the regions do with one `LruCache`. Each has one place more than its region may hold, so
+// that no push drops an entry: where one has to leave, it is taken out by name and told of.
 ghost use Rattle.std.specs.Prelude.{◌≡◌, ◌+◌, ◌<◌, ◌≤◌, ◌∷◌, [], length, None, IfOk, OnOk, OnErr, IsSome, is_some};
 ghost use Rattle.std.specs.Map.{keys_of, lookup};
 ghost use Rattle.lru.specs.LruCache.{lru_cache};
@@ -57,7 +57,8 @@ pub(crate) fn freshen<K: CacheKey, V>(cache: &mut LruCache<K, Held<V>>, key: K, 
     }
 }
 
-// Brings the entry of the key to the front with other contents, and answers the old ones. Takes no memory.
+// Brings the entry of the key to the front with other contents, and answers the old ones. Takes no
+// memory.
 pub(crate) fn replace_in<K: CacheKey, V: Drop>(
     cache: &mut LruCache<K, Held<V>>,
     key: K,

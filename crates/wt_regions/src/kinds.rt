@@ -94,7 +94,8 @@ pub enum Found<V> {
 pub enum Region {
     /// Where a new entry comes to, under LRU and without admission.
     Window,
-    /// The first segment of main: entries not used since they came, and those that protected gave back.
+    /// The first segment of main: entries not used since they came, and those that protected gave
+    /// back.
     Probation,
     /// The second segment of main: entries that were used there.
     Protected,

@@ -1,4 +1,5 @@
-//! The three regions of a W-TinyLFU cache: window, probation and protected, with the duel, expiry and weight.
+//! The three regions of a W-TinyLFU cache: window, probation and protected, with the duel, expiry
+//! and weight.
 #![tactic(auto)]
 
 mod cache;

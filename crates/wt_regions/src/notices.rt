@@ -12,8 +12,8 @@ use wt_keys::{CacheKey, NoMemory};
 
 /// The notices of what left, in the order of leaving, with room for more that is made beforehand.
 ///
-/// A call that tells notices asks for room for as many entries as the regions may hold, and never tells
-/// more: so telling takes no memory. Contracts see the list and the room that is left.
+/// A call that tells notices asks for room for as many entries as the regions may hold, and never
+/// tells more: so telling takes no memory. Contracts see the list and the room that is left.
 #[derive(Drop)]
 pub struct Notices<K, V> {
     items: Vec<Notice<K, V>>,

@@ -6,8 +6,8 @@
 //   protected, unexpired         it takes the entry's place at the front
 //   below window, expired        the entry leaves, and it settles as a new one
 //
-// In the last case the old entry is taken out last of all, since what left a cache can't be put back
-// where it was after a refusal.
+// In the last case the old entry is taken out last of all, since what left a cache can't be put
+// back where it was after a refusal.
 ghost use Rattle.std.specs.Prelude.{◌≡◌, ◌+◌, ◌<◌, ◌≤◌, ◌∷◌, ◌++◌, [], length, Some, None, IfOk, OnOk, OnErr, IsSome, IfSome, if◌then◌else◌};
 ghost use Rattle.std.specs.Map.{lookup, remove_entry};
 ghost use Rattle.std.specs.Option.{option_map_or};
@@ -82,9 +82,9 @@ fn make_way<K: CacheKey, V: Share>(
     Ok(None)
 }
 
-// A new entry comes to window's front, and an expired one of its key leaves probation or protected, last
-// of all that can be refused. So main has room: the last of a full window goes there, or is expired and
-// leaves. No duel is fought, so any estimate will do. Answers the weight that left.
+// A new entry comes to window's front, and an expired one of its key leaves probation or protected,
+// last of all that can be refused. So main has room: the last of a full window goes there, or is
+// expired and leaves. No duel is fought, so any estimate will do. Answers the weight that left.
 fn settle_past<K: CacheKey, V: Share + Weighs>(
     caps: &Caps,
     window: &mut LruCache<K, Held<V>>,

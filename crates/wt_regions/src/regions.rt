@@ -27,13 +27,13 @@ use wt_sketch::Sketch;
 
 /// The entries of a cache in three regions: window, probation and protected.
 ///
-/// The structure is W-TinyLFU's: a new entry comes to window, under LRU and without admission; what window
-/// gives up enters probation only against its last entry, by how often each was counted; an entry that is
-/// used in probation comes to protected. Which entry stays is this type's to say, and it never counts:
-/// the caller hands its sketch in.
+/// The structure is W-TinyLFU's: a new entry comes to window, under LRU and without admission; what
+/// window gives up enters probation only against its last entry, by how often each was counted; an
+/// entry that is used in probation comes to protected. Which entry stays is this type's to say, and
+/// it never counts: the caller hands its sketch in.
 ///
-/// Contracts see three lists, the most recent entry first, and the limits. Moments are the caller's, in
-/// milliseconds; no call keeps one but in the entry that it writes or uses.
+/// Contracts see three lists, the most recent entry first, and the limits. Moments are the
+/// caller's, in milliseconds; no call keeps one but in the entry that it writes or uses.
 #[derive(Drop)]
 pub struct Regions<K: CacheKey, V: Share + Weighs> {
     caps: Caps,
@@ -64,9 +64,9 @@ impl<K: CacheKey, V: Share + Weighs> Model for Regions<K, V> {
 impl<K: CacheKey, V: Share + Weighs> Regions<K, V> {
     /// Makes three empty regions with these limits.
     ///
-    /// `BadConfig` names the first field that is out of its range, in the order of the fields, and comes
-    /// before memory is asked for. Takes the tables of all three at once; each entry takes its own place
-    /// later. O(entries).
+    /// `BadConfig` names the first field that is out of its range, in the order of the fields, and
+    /// comes before memory is asked for. Takes the tables of all three at once; each entry takes
+    /// its own place later. O(entries).
     pub fn new(alloc: Global, caps: &Caps) -> Result<Self, Fault>
         ensures ok { IfOk result (λ regions. regions ≡ no_entries caps.now) }
         // What the limits refuse is refused whatever the memory does.
@@ -88,13 +88,13 @@ impl<K: CacheKey, V: Share + Weighs> Regions<K, V> {
         })
     }
 
-    /// Looks the key up at the moment `now`. A hit is used: it goes to the front of its region, or from
-    /// probation to protected.
+    /// Looks the key up at the moment `now`. A hit is used: it goes to the front of its region, or
+    /// from probation to protected.
     ///
-    /// An expired entry is `Stale` and stays where it is. `now` is in milliseconds. Only a hit takes
-    /// memory: a share for the caller, and from probation one or two more with a place for each.
-    /// Expected O(1) for keys that nobody picks (see `Seeded`): the key is looked up in each region
-    /// at most twice. The rule of the move is segmented LRU's.
+    /// An expired entry is `Stale` and stays where it is. `now` is in milliseconds. Only a hit
+    /// takes memory: a share for the caller, and from probation one or two more with a place for
+    /// each. Expected O(1) for keys that nobody picks (see `Seeded`): the key is looked up in each
+    /// region at most twice. The rule of the move is segmented LRU's.
     pub fn get(&mut self, key: K, now: u64) -> Result<Found<V>, NoMemory>
         ensures found { IfOk result (λ found. found ≡ found_at K.eq key now self.old) }
         ensures state { OnOk result (self.new ≡ looked_at K.eq key now self.old) }
@@ -124,14 +124,15 @@ impl<K: CacheKey, V: Share + Weighs> Regions<K, V> {
 
     /// Stores the value under the key, at the moment `now` and by the step of number `stamp`.
     ///
-    /// It takes the place of an unexpired entry of the key, which leaves as `Replaced`. An expired one
-    /// leaves first, as `Expired`, and the value settles as a new entry. Then entries leave as `Size` while
-    /// the weights are above the bound, never the one just stored. Notices are told in this order.
+    /// It takes the place of an unexpired entry of the key, which leaves as `Replaced`. An expired
+    /// one leaves first, as `Expired`, and the value settles as a new entry. Then entries leave as
+    /// `Size` while the weights are above the bound, never the one just stored. Notices are told in
+    /// this order.
     ///
-    /// `now` is in milliseconds, weights are the caller's. `TooHeavy` comes before memory is asked for;
-    /// `NoMemory` where a place or a share of a value that moves was refused. Expected O(1) for
-    /// keys that nobody picks (see `Seeded`), O(entries) where a trim takes many out. The duel is
-    /// TinyLFU's; that a tie refuses the candidate is ours.
+    /// `now` is in milliseconds, weights are the caller's. `TooHeavy` comes before memory is asked
+    /// for; `NoMemory` where a place or a share of a value that moves was refused. Expected O(1)
+    /// for keys that nobody picks (see `Seeded`), O(entries) where a trim takes many out. The duel
+    /// is TinyLFU's; that a tie refuses the candidate is ours.
     pub fn store(
         &mut self,
         key: K,
@@ -200,8 +201,8 @@ impl<K: CacheKey, V: Share + Weighs> Regions<K, V> {
 
     /// Takes the key's entry out, and answers whether an unexpired one left.
     ///
-    /// It leaves as `Explicit`, an expired one as `Expired`. `now` is in milliseconds. Takes no memory.
-    /// Expected O(1) for keys that nobody picks (see `Seeded`).
+    /// It leaves as `Explicit`, an expired one as `Expired`. `now` is in milliseconds. Takes no
+    /// memory. Expected O(1) for keys that nobody picks (see `Seeded`).
     pub fn remove(&mut self, key: K, now: u64, notices: &mut Notices<K, V>) -> bool
         requires room { self.old.caps.entries ≤ notices.old.room }
         ensures answer { result ≡ has_at K.eq key now self.old }
@@ -229,7 +230,8 @@ impl<K: CacheKey, V: Share + Weighs> Regions<K, V> {
         }
     }
 
-    /// Takes every expired entry out, as `Expired`: window, probation, protected, each from last to first.
+    /// Takes every expired entry out, as `Expired`: window, probation, protected, each from last to
+    /// first.
     ///
     /// `now` is in milliseconds. Takes no memory. O(entries).
     pub fn clean(&mut self, now: u64, notices: &mut Notices<K, V>)
@@ -244,8 +246,8 @@ impl<K: CacheKey, V: Share + Weighs> Regions<K, V> {
 
     /// Takes every entry out: window, probation, protected, each from last to first.
     ///
-    /// An expired one leaves as `Expired`, another as `Explicit`. `now` is in milliseconds. Takes no
-    /// memory. O(entries).
+    /// An expired one leaves as `Expired`, another as `Explicit`. `now` is in milliseconds. Takes
+    /// no memory. O(entries).
     pub fn clear(&mut self, now: u64, notices: &mut Notices<K, V>)
         requires room { self.old.caps.entries ≤ notices.old.room }
         ensures state { self.new ≡ (cleared now self.old).0 }

@@ -122,8 +122,8 @@ fn give_up<K: CacheKey, V: Share>(
     }
 }
 
-// A new entry comes to window's front. Where window is past its cap, it gives up its last. Answers the
-// weight that left.
+// A new entry comes to window's front. Where window is past its cap, it gives up its last. Answers
+// the weight that left.
 pub(crate) fn settle<K: CacheKey, V: Share>(
     caps: &Caps,
     window: &mut LruCache<K, Held<V>>,

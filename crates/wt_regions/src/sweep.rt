@@ -35,9 +35,9 @@ pub(crate) fn take_out<K: CacheKey, V: Drop>(
     }
 }
 
-// Every expired entry of the region leaves, from last to first. Of the weight before it answers what is
-// left. It looks at the last once for each entry: one that stays comes to the front, so that all have
-// their old order again after the last turn.
+// Every expired entry of the region leaves, from last to first. Of the weight before it answers
+// what is left. It looks at the last once for each entry: one that stays comes to the front, so
+// that all have their old order again after the last turn.
 pub(crate) fn clean_in<K: CacheKey, V: Drop>(
     caps: &Caps,
     cache: &mut LruCache<K, Held<V>>,

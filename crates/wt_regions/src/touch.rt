@@ -20,7 +20,8 @@ use crate::kinds::{Caps, Held};
 use lru::LruCache;
 use wt_keys::{CacheKey, NoMemory, Share};
 
-// Where a look finds the key's entry: a share of its value and, in probation, what protected is to hold.
+// Where a look finds the key's entry: a share of its value and, in probation, what protected is to
+// hold.
 #[derive(Drop)]
 pub(crate) enum Seen<V> {
     InWindow(V),
@@ -66,10 +67,11 @@ pub(crate) fn look<K: CacheKey, V: Share>(
     Ok(Seen::Nowhere)
 }
 
-// Brings the key's entry from probation to protected's front, with other contents, and answers the old
-// ones. Where protected is then past its cap, its last goes back to probation's front.
+// Brings the key's entry from probation to protected's front, with other contents, and answers the
+// old ones. Where protected is then past its cap, its last goes back to probation's front.
 //
-// The pushes come first, each in the spare place of its cache; a push that was made is undone by a pop.
+// The pushes come first, each in the spare place of its cache; a push that was made is undone by a
+// pop.
 pub(crate) fn promote<K: CacheKey, V: Share>(
     caps: &Caps,
     probation: &mut LruCache<K, Held<V>>,

@@ -67,7 +67,8 @@ fn trim_once<K: CacheKey, V: Drop>(
     None
 }
 
-// Entries leave while the weight is above the bound. The key was just stored. Answers the weight left.
+// Entries leave while the weight is above the bound. The key was just stored. Answers the weight
+// left.
 pub(crate) fn trim<K: CacheKey, V: Drop>(
     caps: &Caps,
     window: &mut LruCache<K, Held<V>>,

@@ -30,8 +30,8 @@ impl Weighs for Loaded {
     }
 }
 
-// Regions with a sketch, which counts the key of each look and each put last, and with the notices of
-// the latest step alone.
+// Regions with a sketch, which counts the key of each look and each put last, and with the notices
+// of the latest step alone.
 #[derive(Drop)]
 struct Run<V: Share + Weighs> {
     regions: Regions<u64, V>,

@@ -168,7 +168,8 @@ pub(crate) fn stop_of<P>(ran: &Vec<Result<P, RunFault>>) -> Option<RunFault>
     None
 }
 
-/// Returns the passes of the threads, of which none stopped, and of the workers, or the fault of one of these.
+/// Returns the passes of the threads, of which none stopped, and of the workers, or the fault of
+/// one of these.
 pub(crate) fn gather<P: Drop>(
     alloc: Global,
     ran: Vec<Result<P, RunFault>>,

@@ -22,7 +22,8 @@ use wt_trace::{
 // What `--version` prints.
 const VERSION: &str = "0.1.0";
 
-// Each option with what it does, its range and its default, in the order in which the ranges are checked.
+// Each option with what it does, its range and its default, in the order in which the ranges are
+// checked.
 const OPTIONS: [(&str, &str); 14] = [
     ("shards", "Shards: 1, 2 or 4 [default: 1]"),
     (

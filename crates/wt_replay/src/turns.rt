@@ -70,7 +70,8 @@ impl<K: CacheKey> Loader<K, Version<K>> for Rules {
     }
 }
 
-// A fault of a line that doesn't end the run: a load that failed, a value too heavy, no place for a load.
+// A fault of a line that doesn't end the run: a load that failed, a value too heavy, no place for a
+// load.
 fn passed_over(fault: Fault) -> Result<(), Fault> {
     match fault {
         Fault::LoadFailed { .. } | Fault::TooHeavy { .. } | Fault::TooManyFlights { .. } => Ok(()),
@@ -187,7 +188,8 @@ fn take_turn<K: TraceKey, B: Books, G: Gate, R: Wait>(
     do_line(rt, cache, rules, pass, n, line, gate, notices)
 }
 
-// Does a thread's lines in their order, up to its first fault. The list's first line is line `first`.
+// Does a thread's lines in their order, up to its first fault. The list's first line is line
+// `first`.
 fn do_lines<K: TraceKey, B: Books, G: Gate, R: Wait>(
     rt: &R,
     cache: &LoadingCache<K, Version<K>, Rules, B>,
@@ -264,9 +266,11 @@ pub(crate) fn run_thread<K: TraceKey, B: Books, G: Gate, R: Wait>(
     }
 }
 
-/// Runs loads with a pass of its own until the line of loads is closed and empty, and hands the pass back.
+/// Runs loads with a pass of its own until the line of loads is closed and empty, and hands the
+/// pass back.
 ///
-/// All that can be refused comes before the line is told to be manned, so that a manned line is served to its end.
+/// All that can be refused comes before the line is told to be manned, so that a manned line is
+/// served to its end.
 pub(crate) fn run_loads<K: TraceKey, B: Books, R: Wait>(
     rt: &R,
     alloc: Global,

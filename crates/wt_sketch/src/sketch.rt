@@ -5,8 +5,9 @@
 //        ──► place 2 ──► row 2  .. 3 ..      A count of another key raises counters, or brings
 //        ──► place 3 ──► row 3  .. 4 ..      the halving of all of them.
 //
-// At ten additions an entry all counters are halved, so that the past weighs less and less. So an estimate
-// is never below what a counter of the key's own would show, stopped at 15 and halved with the sketch.
+// At ten additions an entry all counters are halved, so that the past weighs less and less. So an
+// estimate is never below what a counter of the key's own would show, stopped at 15 and halved with
+// the sketch.
 ghost use Rattle.std.specs.Prelude.{◌≡◌, ℕ, ◌*◌, ◌^◌, ◌<◌, ◌≤◌, ◌&&◌, length, IfOk, IfErr, nat_le, if◌then◌else◌};
 ghost use Rattle.std.specs.List.{All};
 ghost use Rattle.wt_keys.specs.Hash.{bits_for};
@@ -23,8 +24,8 @@ use wt_keys::{Fault, Field, bits_for, places};
 
 /// How often each key was counted, about, with more weight on what is recent.
 ///
-/// A count-min sketch with the reset of TinyLFU. Contracts see it as four lists of counters from 0 to 15
-/// and the number of additions; no clause sees how the counters are kept.
+/// A count-min sketch with the reset of TinyLFU. Contracts see it as four lists of counters from 0
+/// to 15 and the number of additions; no clause sees how the counters are kept.
 #[derive(Drop)]
 pub struct Sketch {
     // For how many entries it was made; never changes.
@@ -89,7 +90,8 @@ impl Sketch {
         })
     }
 
-    /// Returns the bits of a place: a row has `2^bits` counters. From 6 to 16, and never changes. O(1).
+    /// Returns the bits of a place: a row has `2^bits` counters. From 6 to 16, and never changes.
+    /// O(1).
     pub fn bits(&self) -> u32
         ensures value { result ≡ bits_for self.now.entries }
         ensures range { (6 ≤ result) × (result ≤ 16) }
@@ -99,7 +101,8 @@ impl Sketch {
 
     /// Returns how many counts raised a counter, halved whenever the counters are. O(1).
     ///
-    /// Its clause `lawful` shows what is true of every sketch: the widths, and that no counter is above 15.
+    /// Its clause `lawful` shows what is true of every sketch: the widths, and that no counter is
+    /// above 15.
     pub fn additions(&self) -> u32
         ensures value { result ≡ self.now.additions }
         ensures within { result < 10 * self.now.entries }
@@ -124,8 +127,8 @@ impl Sketch {
 
     /// Returns how often a key was counted, about: the least of the counters at its four places.
     ///
-    /// Takes no memory. O(1). It may be above the key's own count, by the counts of keys that share a place
-    /// in each row; [`Sketch::count_all`] says that it isn't below it.
+    /// Takes no memory. O(1). It may be above the key's own count, by the counts of keys that share
+    /// a place in each row; [`Sketch::count_all`] says that it isn't below it.
     pub fn estimate(&self, places: &[usize; 4]) -> u8
         requires within { All (λ p. p < 2 ^ bits_for self.now.entries) places.now }
         ensures value { result ≡ estimate places.now self.now }
@@ -137,9 +140,9 @@ impl Sketch {
 
     /// Counts one occurrence of a key, at its four places, and answers whether a counter rose.
     ///
-    /// Counters stop at 15. At ten times `entries` additions all counters and the additions are halved,
-    /// rounding down (the reset of TinyLFU; that a count at four full counters is no addition is ours).
-    /// Never fails and takes no memory. O(1), and O(width) at a halving.
+    /// Counters stop at 15. At ten times `entries` additions all counters and the additions are
+    /// halved, rounding down (the reset of TinyLFU; that a count at four full counters is no
+    /// addition is ours). Never fails and takes no memory. O(1), and O(width) at a halving.
     #[tactic(auto, unfolding(crate::specs::Sketch::counted))]
     pub fn count(&mut self, places: &[usize; 4]) -> bool
         requires within { All (λ p. p < 2 ^ bits_for self.old.entries) places.now }
@@ -167,9 +170,9 @@ impl Sketch {
 
     /// Counts each word once, in order, at the word's own places.
     ///
-    /// On a sketch that had counted nothing, no word's estimate is then below the number that a counter
-    /// of its own would show: raised to at most 15 at each of its counts, and halved where the sketch
-    /// halves. Never fails and takes no memory. O(words), and O(width) at each halving.
+    /// On a sketch that had counted nothing, no word's estimate is then below the number that a
+    /// counter of its own would show: raised to at most 15 at each of its counts, and halved where
+    /// the sketch halves. Never fails and takes no memory. O(words), and O(width) at each halving.
     pub fn count_all(&mut self, words: &[u64])
         ensures counted { self.new ≡ counted_words self.old words.now }
         ensures same { self.new.entries ≡ self.old.entries }

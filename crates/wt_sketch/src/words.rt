@@ -8,7 +8,8 @@ const LOW_THREE: u64 = 0x7777_7777_7777_7777;
 
 /// Halves the sixteen counters of a word at once, each rounding down.
 ///
-/// Takes no memory. O(1): a shift, and a mask that keeps what a counter shifts out from its neighbour.
+/// Takes no memory. O(1): a shift, and a mask that keeps what a counter shifts out from its
+/// neighbour.
 pub fn halve(word: u64) -> u64
     ensures { nibbles 16 result ≡ map half (nibbles 16 word) }
 {

@@ -1,4 +1,5 @@
-// The shards on threads: thread t runs those whose number modulo the threads is t, each shard's lines in order.
+// The shards on threads: thread t runs those whose number modulo the threads is t, each shard's
+// lines in order.
 ghost use Rattle.std.specs.Prelude.{◌≡◌, ◌≤◌, ◌<◌, ℕ, ◌%◌, [], Ok, IfOk, OnOk, IfErr, None, map, length, vec_len, get_or, slice_set, true, false};
 ghost use Rattle.std.specs.List.{range_with_len};
 ghost use Rattle.wt_trace.specs.Answers as spec;
@@ -40,7 +41,8 @@ impl Model for Part {
     ghost view = { λ p. p.places.items };
 }
 
-// Lets the shards of thread t answer, one after another: those whose number modulo the threads is t.
+// Lets the shards of thread t answer, one after another: those whose number modulo the threads is
+// t.
 fn part_of<K: TraceKey, G: Gate>(
     alloc: Global,
     options: &Options,
@@ -122,8 +124,8 @@ fn parts<H: Threads + Sync, K: TraceKey, G: Gate>(
     )
 }
 
-// What each shard answers to the lines, the first of which is line `first`, in the order of the shards. Where threads
-// stop, the thread of the least shard that has no answer tells why.
+// What each shard answers to the lines, the first of which is line `first`, in the order of the
+// shards. Where threads stop, the thread of the least shard that has no answer tells why.
 fn answers_by_shard<H: Threads + Sync, K: TraceKey, G: Gate>(
     rt: &H,
     alloc: Global,
@@ -151,7 +153,8 @@ fn answers_by_shard<H: Threads + Sync, K: TraceKey, G: Gate>(
     Ok(all)
 }
 
-// The report of a trace whose first line is line `first`, whatever its keys are. So many threads print it, too.
+// The report of a trace whose first line is line `first`, whatever its keys are. So many threads
+// print it, too.
 fn report_of<H: Threads + Sync, K: TraceKey, G: Gate>(
     rt: &H,
     alloc: Global,
@@ -174,7 +177,8 @@ fn report_of<H: Threads + Sync, K: TraceKey, G: Gate>(
     Ok((text, read.verdict))
 }
 
-/// Returns the report of the bytes of a trace, and the verdict, as `report` does, with the shards on so many threads.
+/// Returns the report of the bytes of a trace, and the verdict, as `report` does, with the shards
+/// on so many threads.
 ///
 /// `GateShut` of a line before which the gate was shut, for a thread that stopped there.
 pub fn report_by_shard<H: Threads + Sync, G: Gate>(

@@ -75,8 +75,8 @@ impl ReplayFault {
     }
 }
 
-/// Returns the exit status of a run that ended by this fault, which is 1, and the line for standard error:
-/// `fault <number>`, then for an option ` field <name>`, for a line ` line <n>`.
+/// Returns the exit status of a run that ended by this fault, which is 1, and the line for standard
+/// error: `fault <number>`, then for an option ` field <name>`, for a line ` line <n>`.
 ///
 /// `NoMemory` where the line finds no memory; the status is 1 all the same.
 pub fn status_and_line(alloc: Global, fault: &ReplayFault) -> Result<(u8, String), NoMemory>

@@ -8,7 +8,8 @@ pub trait Gate: Sync {
     // what it may answer for a line
     ghost answers: { Self → ℕ → Bool → Type 0 };
 
-    /// Returns whether the line of this number may be handled. A thread asks before it handles a line, in its own time.
+    /// Returns whether the line of this number may be handled. A thread asks before it handles a
+    /// line, in its own time.
     fn pass(&self, line: u64) -> bool
         ensures { answers self.now line result };
 }

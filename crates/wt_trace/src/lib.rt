@@ -1,4 +1,5 @@
-//! Replays a trace on the sequential cache, on one thread or shard by shard on many, and reports what came of each line.
+//! Replays a trace on the sequential cache, on one thread or shard by shard on many, and reports
+//! what came of each line.
 #![tactic(auto)]
 
 mod answers;

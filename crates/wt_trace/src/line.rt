@@ -131,7 +131,8 @@ pub fn cut(bytes: &[u8], stop: u8) -> (&[u8], &[u8])
     }
 }
 
-/// Returns the line that the bytes spell: a moment, one space, a letter, and for most letters one space and a key.
+/// Returns the line that the bytes spell: a moment, one space, a letter, and for most letters one
+/// space and a key.
 pub fn line_of<K: TraceKey>(bytes: &[u8]) -> Option<Line<K>>
     ensures { result ≡ spec.line_of K.read bytes.now }
 {
@@ -169,7 +170,8 @@ fn act_on<K: Copy>(letter: u8, key: K) -> Option<Act<K>>
     }
 }
 
-/// What is read is a line by the grammar, and each line by the grammar is read: of numbers and of names.
+/// What is read is a line by the grammar, and each line by the grammar is read: of numbers and of
+/// names.
 pub fn reads_every_line()
     ensures numbers { spec.ReadsLines IsNumber numbers.read }
     ensures names { spec.ReadsLines IsName names.read }

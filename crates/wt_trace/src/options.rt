@@ -37,14 +37,17 @@ pub struct Options {
     pub fail_mod: Option<u64>,
     /// How many loads a shard may have open: 1 to 4,096.
     pub flights: u64,
-    /// How many steps a shard may record, more than `flights` and up to 65,536. By default 64, or `flights` and one.
+    /// How many steps a shard may record, more than `flights` and up to 65,536. By default 64, or
+    /// `flights` and one.
     pub ring: Option<u64>,
-    /// The number of threads of a replay shard by shard: 0 to 64, where 0 stands for one without threads of its own.
+    /// The number of threads of a replay shard by shard: 0 to 64, where 0 stands for one without
+    /// threads of its own.
     pub threads: u64,
-    /// The number of threads of a replay turn by turn: 0 to 64, where 0 stands for a replay that isn't. Not with
-    /// `threads` above 0.
+    /// The number of threads of a replay turn by turn: 0 to 64, where 0 stands for a replay that
+    /// isn't. Not with `threads` above 0.
     pub turn: u64,
-    /// The number of threads that run loads beside those of a replay turn by turn: 0 to 64, and 0 where `turn` is.
+    /// The number of threads that run loads beside those of a replay turn by turn: 0 to 64, and 0
+    /// where `turn` is.
     pub workers: u64,
 }
 
@@ -105,7 +108,8 @@ impl Options {
         self.ring.unwrap_or((self.flights + 1).max(64))
     }
 
-    /// Returns the first option that is out of its range, in the order of the fields. Takes no memory.
+    /// Returns the first option that is out of its range, in the order of the fields. Takes no
+    /// memory.
     pub fn fault(&self) -> Option<Field>
         ensures { result ≡ option_fault self.now }
     {
@@ -161,8 +165,8 @@ impl Options {
         None
     }
 
-    /// Checks each option against its range, in the order of the fields, and answers `BadConfig` of the first
-    /// that is out of it. Takes no memory.
+    /// Checks each option against its range, in the order of the fields, and answers `BadConfig` of
+    /// the first that is out of it. Takes no memory.
     pub fn check(&self) -> Result<(), ReplayFault>
         ensures { MatchOption (option_fault self.now) (result ≡ Ok tt) (λ field. result ≡ Err (fault.Cache (cache.BadConfig field))) }
     {

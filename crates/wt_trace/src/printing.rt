@@ -1,4 +1,5 @@
-// Lines of a report printed on threads: each prints a piece, and the pieces are put together in their order.
+// Lines of a report printed on threads: each prints a piece, and the pieces are put together in
+// their order.
 ghost use Rattle.std.specs.Prelude.{◌≡◌, ◌+◌, ◌-◌, ◌*◌, ◌/◌, ◌<◌, ◌≤◌, ◌^◌, ℕ, All, IfOk, Err, alloc_error, get_or, length, min, vec_len, map, None};
 ghost use Rattle.std.specs.List.{range_with_len};
 ghost use Rattle.wt_trace.specs.Answers.{answers};

@@ -130,7 +130,8 @@ pub fn summary_text(alloc: Global, sum: &Stats) -> Result<Vec<u8>, NoMemory>
     Ok(out)
 }
 
-/// Returns so many lines of a report by what the shards answer, and the summary where no line was at fault.
+/// Returns so many lines of a report by what the shards answer, and the summary where no line was
+/// at fault.
 #[tactic(auto, unfolding(crate::specs::Report::printed))]
 pub fn print(
     alloc: Global,
@@ -152,7 +153,8 @@ pub fn print(
     Ok(out)
 }
 
-/// Returns the report of lines, the first of which is line `first`, by what the shards answer to them.
+/// Returns the report of lines, the first of which is line `first`, by what the shards answer to
+/// them.
 pub fn text_of<K: TraceKey>(
     alloc: Global,
     options: &Options,
@@ -169,7 +171,8 @@ pub fn text_of<K: TraceKey>(
     Ok(text)
 }
 
-// What each shard answers to the lines, the first of which is line `first`, one shard after another.
+// What each shard answers to the lines, the first of which is line `first`, one shard after
+// another.
 fn answers_in_order<K: TraceKey>(
     alloc: Global,
     options: &Options,
@@ -206,7 +209,8 @@ fn report_of<K: TraceKey>(
     Ok((text_of(alloc, options, first, &read, &all)?, read.verdict))
 }
 
-/// Returns what stands behind a header, where the first line is one: `wt 2`, which says that the keys are names.
+/// Returns what stands behind a header, where the first line is one: `wt 2`, which says that the
+/// keys are names.
 #[tactic(auto, using(crate::proofs::Reports::header_first, crate::proofs::Reports::behind_first))]
 pub fn behind_header(bytes: &[u8]) -> Option<&[u8]>
     ensures some { IfSome result (λ rest. (is_header (lines_of bytes.now) ≡ true) × (drop 1 (lines_of bytes.now) ≡ lines_of rest.now)) }
@@ -216,8 +220,8 @@ pub fn behind_header(bytes: &[u8]) -> Option<&[u8]>
     if first == HEADER { Some(rest) } else { None }
 }
 
-/// Returns the report of the bytes of a trace, and the verdict: what is wrong with the first faulty line, if
-/// there is one. Where the first line is `wt 2` the keys are names, else numbers.
+/// Returns the report of the bytes of a trace, and the verdict: what is wrong with the first faulty
+/// line, if there is one. Where the first line is `wt 2` the keys are names, else numbers.
 pub fn report(
     alloc: Global,
     bytes: &[u8],

@@ -11,7 +11,8 @@ pub fn weight_by(modulus: u64, word: u64) -> u32
     (1 + word % modulus) as u32
 }
 
-/// Returns whether the load of a key with this word fails: where the divisor, if there is one, divides it.
+/// Returns whether the load of a key with this word fails: where the divisor, if there is one,
+/// divides it.
 pub fn fails_by(divisor: Option<u64>, word: u64) -> bool
     requires { is_zero divisor ≡ false }
     ensures { result ≡ option_map_or (λ f. word % f == 0) divisor false }

@@ -17,14 +17,15 @@ use std::io::{Read, Write};
 use std::thread::Threads;
 use wt_keys::Fault;
 
-/// The most bytes that are read: no trace of 1,000,000 lines of 64 bytes has more, each with its LF, so that one byte
-/// more shows a fault.
+/// The most bytes that are read: no trace of 1,000,000 lines of 64 bytes has more, each with its
+/// LF, so that one byte more shows a fault.
 pub const MOST_BYTES: usize = 65_000_001;
 
-/// Returns all that the reader gives, or its first bytes up to a limit, which takes memory for them.
+/// Returns all that the reader gives, or its first bytes up to a limit, which takes memory for
+/// them.
 ///
-/// `ReadFault` exactly where the reader failed; `NoMemory`, after which what was read is lost. The reader is asked at
-/// most once for each byte of the limit, and once more.
+/// `ReadFault` exactly where the reader failed; `NoMemory`, after which what was read is lost. The
+/// reader is asked at most once for each byte of the limit, and once more.
 pub fn read_up_to<R: Read>(
     alloc: Global,
     reader: &mut Tallied<R>,
@@ -76,11 +77,12 @@ pub fn write_out<W: Write>(writer: &mut Tallied<W>, bytes: &[u8]) -> Result<(), 
 
 /// Replays the trace that a reader gives, and writes the report.
 ///
-/// Reads until the reader's end, its failure or 65,000,001 bytes, and makes the whole report before it writes.
-/// Faults in their order: an option out of its range (nothing was read or written); `ReadFault`, exactly where the
-/// reader failed, and no memory (nothing was written); `WriteFault`, exactly where the writer failed or took nothing (a
-/// front of the report was written); then the fault of the first faulty line (the report of the lines before it was
-/// written). Takes memory for the bytes, the lines, what the shards answer and the report.
+/// Reads until the reader's end, its failure or 65,000,001 bytes, and makes the whole report before
+/// it writes. Faults in their order: an option out of its range (nothing was read or written);
+/// `ReadFault`, exactly where the reader failed, and no memory (nothing was written); `WriteFault`,
+/// exactly where the writer failed or took nothing (a front of the report was written); then the
+/// fault of the first faulty line (the report of the lines before it was written). Takes memory for
+/// the bytes, the lines, what the shards answer and the report.
 pub fn replay<R: Read, W: Write>(
     alloc: Global,
     reader: &mut Tallied<R>,
@@ -103,13 +105,14 @@ pub fn replay<R: Read, W: Write>(
     verdict
 }
 
-/// Replays as `replay` does, with so many threads: thread t runs the lines of the shards whose number modulo `threads`
-/// is t, each shard's lines in order, and asks the gate before each of them.
+/// Replays as `replay` does, with so many threads: thread t runs the lines of the shards whose
+/// number modulo `threads` is t, each shard's lines in order, and asks the gate before each of
+/// them.
 ///
-/// A line that the gate doesn't let through ends the run with `GateShut` of such a line, after all threads have
-/// ended; nothing was written. Where several threads fail, that of the least shard tells its fault. Takes memory as
-/// `replay` does, and for the threads. It isn't promised that the threads run at the same time: where one can't be
-/// made, its lines are run after those of another.
+/// A line that the gate doesn't let through ends the run with `GateShut` of such a line, after all
+/// threads have ended; nothing was written. Where several threads fail, that of the least shard
+/// tells its fault. Takes memory as `replay` does, and for the threads. It isn't promised that the
+/// threads run at the same time: where one can't be made, its lines are run after those of another.
 pub fn replay_by_shard<H: Threads + Sync, R: Read, W: Write, G: Gate>(
     rt: &H,
     alloc: Global,

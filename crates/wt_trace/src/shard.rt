@@ -65,7 +65,8 @@ impl<K: TraceKey> Shard<K> {
         Ok(())
     }
 
-    // Lands a flight that a seek has just opened, and appends the words of the load and the notices of both.
+    // Lands a flight that a seek has just opened, and appends the words of the load and the notices
+    // of both.
     fn land_now(&mut self, id: u64, n: u64, key: K, moment: u64) -> Result<(), NoMemory>
         ensures state { OnOk result (self.new.state ≡ (spec.take (keys_by K.eq K.word K.read K.shown) self.old.state (spec.landing_of (keys_by K.eq K.word K.read K.shown) self.old.options id n key moment)).state) }
         ensures text { OnOk result (self.new.text ≡ self.old.text ++ (spec.landed_at_once (keys_by K.eq K.word K.read K.shown) [] self.old.told (spec.take (keys_by K.eq K.word K.read K.shown) self.old.state (spec.landing_of (keys_by K.eq K.word K.read K.shown) self.old.options id n key moment))).text) }
@@ -143,7 +144,8 @@ impl<K: TraceKey> Shard<K> {
         }
     }
 
-    // Does line n, if it belongs to the shard and the gate lets it through, and appends what the shard adds to it.
+    // Does line n, if it belongs to the shard and the gate lets it through, and appends what the
+    // shard adds to it.
     #[tactic(auto, unfolding(crate::specs::Answers::line_step))]
     fn do_line<G: Gate>(&mut self, gate: &G, n: u64, line: &Line<K>) -> Result<(), ReplayFault>
         ensures state { OnOk result (self.new.state ≡ (spec.line_step (keys_by K.eq K.word K.read K.shown) self.old.options self.old.shard n line.now self.old.state).state) }
@@ -175,7 +177,8 @@ fn version<K: TraceKey>(options: &Options, n: u64, key: K) -> Version<K>
     }
 }
 
-// How the load of a key on line n ends: by rule it fails where the rule's number divides the key's word.
+// How the load of a key on line n ends: by rule it fails where the rule's number divides the key's
+// word.
 fn load<K: TraceKey>(options: &Options, n: u64, key: K) -> Land<Version<K>>
     requires { option_fault options.now ≡ None }
     ensures { result ≡ spec.load (keys_by K.eq K.word K.read K.shown) options.now n key }
@@ -197,11 +200,11 @@ fn belongs<K: TraceKey>(options: &Options, shard: usize, act: &Act<K>) -> bool
     }
 }
 
-/// Does the lines, the first of which is line `first`, at a new shard of this number, and asks the gate before each
-/// that belongs to it.
+/// Does the lines, the first of which is line `first`, at a new shard of this number, and asks the
+/// gate before each that belongs to it.
 ///
-/// The first line that the gate doesn't let through ends it with `GateShut`.
-/// Takes memory for the shard, for two lists of notices with room for its entries, and for the texts.
+/// The first line that the gate doesn't let through ends it with `GateShut`. Takes memory for the
+/// shard, for two lists of notices with room for its entries, and for the texts.
 #[tactic(auto, unfolding(crate::specs::Answers::answers))]
 pub fn shard_answers<K: TraceKey, G: Gate>(
     alloc: Global,

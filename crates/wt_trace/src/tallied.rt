@@ -8,10 +8,12 @@ use std::io;
 use std::io::{Read, Write};
 use std::marker::Model;
 
-/// A reader or a writer that counts its reads, and its failures: errors, and writes that take nothing of something.
+/// A reader or a writer that counts its reads, and its failures: errors, and writes that take
+/// nothing of something.
 ///
-/// By the failures a caller knows whether a fault that it is told came from there, by the reads how often it was
-/// asked. Both counts stay at 2^64 - 1. That its answers are those of the reader or writer inside is tested.
+/// By the failures a caller knows whether a fault that it is told came from there, by the reads how
+/// often it was asked. Both counts stay at 2^64 - 1. That its answers are those of the reader or
+/// writer inside is tested.
 #[derive(Drop)]
 pub struct Tallied<T> {
     inner: T,

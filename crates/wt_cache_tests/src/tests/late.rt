@@ -14,8 +14,8 @@ use wt_keys::Fault;
 // A line of loads of numbers.
 type Line = JobLine<u64, u64>;
 
-// Posts and takes one load after the other until the line is closed: whether the last post was late,
-// and found its load in the line still.
+// Posts and takes one load after the other until the line is closed: whether the last post was
+// late, and found its load in the line still.
 fn posts<R: Wait>(rt: &R, alloc: Global, line: &Line) -> Result<bool, Fault> {
     let mut hand = line.pass(rt)?;
     for _ in 0..10_000_000u64 {

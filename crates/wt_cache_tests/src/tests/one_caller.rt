@@ -1,5 +1,5 @@
-// What one caller with one pass does to a cache of one shard and to one of four, whose books then hold
-// what the pass shows.
+// What one caller with one pass does to a cache of one shard and to one of four, whose books then
+// hold what the pass shows.
 ghost use Rattle.std.specs.Prelude.{◌≡◌};
 ghost use Rattle.wt_shards.specs.Opening.{AreBlanksOf};
 

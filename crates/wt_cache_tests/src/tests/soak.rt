@@ -213,8 +213,8 @@ fn end<N: Names, R: Wait>(
     }
 }
 
-// What a soak shows: the strange values, the loads that were begun and not landed, and how many loads
-// can be opened at its end. That no pass is missing is asked by `settle`.
+// What a soak shows: the strange values, the loads that were begun and not landed, and how many
+// loads can be opened at its end. That no pass is missing is asked by `settle`.
 fn soak<N: Names + Send + Sync, R: Threads + Wait + Sync>(
     rt: &R,
     alloc: Global,

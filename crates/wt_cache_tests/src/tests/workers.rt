@@ -95,8 +95,8 @@ fn get_three<N: Names, R: Wait>(
     (one, two, three)
 }
 
-/// One worker beside one caller, in a cache whose shards have one entry each, and whose loader fails
-/// key 1. Keys 2 and 6 are of one shard.
+/// One worker beside one caller, in a cache whose shards have one entry each, and whose loader
+/// fails key 1. Keys 2 and 6 are of one shard.
 pub fn one_worker<N: Names + Send + Sync, R: Threads + Wait + Abort + Sync>(
     rt: &R,
     alloc: Global,

@@ -1,5 +1,6 @@
-// The bell, in the schedules that are hardest to meet by chance. Each test ends whatever the body under
-// test does: a waiter that isn't woken as it should be is woken by the test, after a long time.
+// The bell, in the schedules that are hardest to meet by chance. Each test ends whatever the body
+// under test does: a waiter that isn't woken as it should be is woken by the test, after a long
+// time.
 use super::Version;
 use crate::{Landing, Lead, Outcome, Publish, Ticket};
 use std::sync::Wait;

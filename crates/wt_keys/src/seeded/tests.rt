@@ -188,7 +188,8 @@ fn expect_apart<K: Numbered>(rt: &impl Abort, alloc: Global) -> Result<(), Fail>
         let shard = &mut shards[shard_of(seeded.word(), 4)];
         *shard = shard.saturating_add(1);
     }
-    // By chance 16 keys are in each of the 64 groups and at each of the 64 places, and 250 in each shard.
+    // By chance 16 keys are in each of the 64 groups and at each of the 64 places, and 250 in each
+    // shard.
     assert_eq!(rt; words.len(), AIMED);
     assert_eq!(rt; groups.len(), 64);
     assert_eq!(rt; row.len(), 64);

@@ -28,9 +28,9 @@ impl<K: CacheKey, V: Share + Weighs> Regions<K, V> {
 
     /// Returns whether an unexpired entry of the key is there that is due for a further load.
     ///
-    /// Due is what was written at least `refresh` milliseconds ago; the rule is Guava's refresh after
-    /// write. `now` is in milliseconds. Takes no memory. Expected O(1) for keys that nobody picks
-    /// (see `Seeded`).
+    /// Due is what was written at least `refresh` milliseconds ago; the rule is Guava's refresh
+    /// after write. `now` is in milliseconds. Takes no memory. Expected O(1) for keys that nobody
+    /// picks (see `Seeded`).
     pub fn due(&self, key: K, now: u64) -> bool
         ensures { result ≡ due_at K.eq key now self.now }
     {

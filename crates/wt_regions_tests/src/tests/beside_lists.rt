@@ -1,5 +1,5 @@
-// The regions beside a program of plain lists: the rules again, written from their text with no thought of
-// speed, and run on the same calls.
+// The regions beside a program of plain lists: the rules again, written from their text with no
+// thought of speed, and run on the same calls.
 use super::{Loaded, Run, caps};
 use std::alloc::{AllocError, Global};
 use std::collections::VecDeque;

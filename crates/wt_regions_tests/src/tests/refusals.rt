@@ -1,4 +1,5 @@
-// Refused memory and refused shares: what is refused changes nothing, and goes well when it is tried again.
+// Refused memory and refused shares: what is refused changes nothing, and goes well when it is
+// tried again.
 use super::{Run, caps};
 use std::alloc::Global;
 use std::cell::Cell;
@@ -8,7 +9,8 @@ use std::test::Fail;
 use wt_keys::{Fault, NoMemory, Share};
 use wt_regions::{Caps, Cause, Found, Region, Weighs};
 
-// A value that counts down with each share of it and of its like: the share that comes to 0 is refused.
+// A value that counts down with each share of it and of its like: the share that comes to 0 is
+// refused.
 #[derive(Drop)]
 struct Fussy {
     version: u64,
@@ -98,8 +100,8 @@ impl Run<Fussy> {
     }
 }
 
-// Each step with the number of shares that it asks for, with ample memory. Entries 5, window 1: main 4,
-// protected 3. Values expire 100 ms after they were written.
+// Each step with the number of shares that it asks for, with ample memory. Entries 5, window 1:
+// main 4, protected 3. Values expire 100 ms after they were written.
 fn steps() -> [(Step, u64, u64, u32); 24] {
     [
         // window fills, and gives up candidates to probation
@@ -126,7 +128,8 @@ fn steps() -> [(Step, u64, u64, u32); 24] {
         (Step::Put, 7, 30, 0),
         (Step::Put, 6, 30, 1),
         (Step::Put, 1, 30, 1),
-        // own expired entries in probation and protected, with a candidate that isn't and one that is
+        // own expired entries in probation and protected, with a candidate that isn't and one that
+        // is
         (Step::Put, 4, 110, 1),
         (Step::Put, 2, 125, 1),
         (Step::Put, 6, 230, 0),

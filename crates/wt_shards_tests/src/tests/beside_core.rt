@@ -1,5 +1,5 @@
-// The shard beside a cache that isn't audited, run on the same calls; and at the end its records, run
-// on a cache of shades that made the steps before them.
+// The shard beside a cache that isn't audited, run on the same calls; and at the end its records,
+// run on a cache of shades that made the steps before them.
 ghost use Rattle.std.specs.Prelude.{◌≡◌};
 ghost use Rattle.wt_shards.specs.Opening.{AreBlanksOf};
 
@@ -15,7 +15,8 @@ use wt_core::Config;
 use wt_keys::{Fault, NoMemory};
 use wt_shards::{Blanks, Names, Noted, Shade};
 
-// The shard may answer the fault alone where the cache answers `Refused`. A step is added to those made.
+// The shard may answer the fault alone where the cache answers `Refused`. A step is added to those
+// made.
 fn one_call<N: Names>(
     rt: &impl Abort,
     dice: &mut Dice,

@@ -1,5 +1,5 @@
-// A caller of shards with what it holds, whose contracts tell nothing of the state: so each step of a
-// test is checked without those before it. Its room is seen when it runs, and not proved.
+// A caller of shards with what it holds, whose contracts tell nothing of the state: so each step of
+// a test is checked without those before it. Its room is seen when it runs, and not proved.
 ghost use Rattle.std.specs.Prelude.{◌≤◌};
 
 use super::{Do, Loaded, Said, comparable};
@@ -45,8 +45,8 @@ impl<B: Books> Caller<B> {
         })
     }
 
-    // The step, and its number; of a sweep, the number at the first shard. A landing is of a lead that
-    // the caller has.
+    // The step, and its number; of a sweep, the number at the first shard. A landing is of a lead
+    // that the caller has.
     pub fn make<R: Wait + Abort>(
         &mut self,
         rt: &R,

@@ -37,7 +37,8 @@ impl Loads {
         }
     }
 
-    // Keeps what a seek answered, and tells of it: the id, the key and the moment of a lead, the id and the key of a join.
+    // Keeps what a seek answered, and tells of it: the id, the key and the moment of a lead, the id
+    // and the key of a join.
     fn keep(&mut self, sought: Sought<u64, Loaded>) -> Result<Told, Fault> {
         match sought {
             Sought::Lead(lead, ticket) => {

@@ -33,7 +33,8 @@ impl Plains {
         Ok(Plains { caches })
     }
 
-    // The call at its key's cache, or at all of them; with the number of the step, of a sweep at the first.
+    // The call at its key's cache, or at all of them; with the number of the step, of a sweep at
+    // the first.
     fn make(&mut self, (act, key, now): (Do, u64, u64)) -> (Said, u64) {
         for cache in &mut self.caches {
             cache.notices.empty();

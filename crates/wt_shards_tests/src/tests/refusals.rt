@@ -1,4 +1,5 @@
-// Refused memory and refused shares: what is refused is no step, and goes well when it is tried again.
+// Refused memory and refused shares: what is refused is no step, and goes well when it is tried
+// again.
 ghost use Rattle.std.specs.Prelude.{◌≡◌};
 ghost use Rattle.wt_shards.specs.Opening.{AreBlanksOf};
 
@@ -45,8 +46,8 @@ fn seen<V: Share + Weighs + Answers<u64>, N: Names>(rt: &impl Abort, run: &Run<V
     (run.stats(), run.steps(), run.mine(), run.told().len())
 }
 
-// Entries 5, window 1: main 4, protected 3. Values are due 20 ms after they were written, and expire
-// after 100.
+// Entries 5, window 1: main 4, protected 3. Values are due 20 ms after they were written, and
+// expire after 100.
 fn rows() -> [Row; 12] {
     [
         (Step::Put, 1, 0, 0),
@@ -64,7 +65,8 @@ fn rows() -> [Row; 12] {
     ]
 }
 
-// One try, with the share of this number refused; whether it was refused, and then nothing is changed.
+// One try, with the share of this number refused; whether it was refused, and then nothing is
+// changed.
 fn is_refused<N: Names>(
     rt: &impl Abort,
     run: &mut Run<Fussy, N>,
@@ -175,8 +177,8 @@ fn takes_no_memory(act: Do) -> bool {
     }
 }
 
-// Whether the lagging copy is what the first calls leave, and the shard what the records leave after
-// that; None where memory is refused to the test itself.
+// Whether the lagging copy is what the first calls leave, and the shard what the records leave
+// after that; None where memory is refused to the test itself.
 fn is_explained<N: Names>(alloc: Global, limits: &Config, run: &Run<Loaded, N>) -> Option<bool> {
     let (dropped, kept) = run.records();
     let Ok(mut copy) = Plain::<Shade>::new(alloc, limits) else {

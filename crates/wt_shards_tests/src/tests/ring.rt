@@ -12,7 +12,8 @@ use wt_core::Config;
 use wt_keys::Fault;
 use wt_shards::{Blanks, Names};
 
-// What is done to a key, what is answered, and then how many records were dropped and how many are kept.
+// What is done to a key, what is answered, and then how many records were dropped and how many are
+// kept.
 type Row = (Do, u64, Said, u64, usize);
 
 fn play<N: Names>(

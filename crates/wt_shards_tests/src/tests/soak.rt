@@ -21,7 +21,8 @@ const CALLERS: usize = 4;
 
 const TURNS: u64 = 5_000;
 
-// What is done next to some key: what the dice say, and half the time a load that the caller leads lands.
+// What is done next to some key: what the dice say, and half the time a load that the caller leads
+// lands.
 fn next<N: Names>(dice: &mut Dice, caller: &Caller<Of<N>>, version: u64) -> (Do, u64) {
     if let Some((id, key)) = caller.any_led()
         && dice.roll(2) == 0
@@ -32,8 +33,8 @@ fn next<N: Names>(dice: &mut Dice, caller: &Caller<Of<N>>, version: u64) -> (Do,
     (choose(dice, caller.led(key), version), key)
 }
 
-// How many steps an answer tells of: a sweep is one at each shard, and a landing without a lead isn't made and has
-// no number.
+// How many steps an answer tells of: a sweep is one at each shard, and a landing without a lead
+// isn't made and has no number.
 fn steps_of((said, number): (Said, u64), act: Do, shards: u64) -> u64 {
     match (said, act) {
         (Said::Refused(_), _) => 0,
@@ -101,7 +102,8 @@ fn gather<N: Names>(ran: Vec<Ran<N>>, passes: &mut Vec<Pass<Of<N>>>) -> Result<u
     Ok(told)
 }
 
-// The steps that the settled books hold; at each shard there were hits, and hits and misses are the look-ups.
+// The steps that the settled books hold; at each shard there were hits, and hits and misses are the
+// look-ups.
 fn settled<N: Names, R: Wait + Abort>(
     rt: &R,
     alloc: Global,
