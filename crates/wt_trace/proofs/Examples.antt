@@ -187,6 +187,16 @@ pub one_header : report four (codes "wt 2\nwt 2\n") ≡ bad 2
 unfolding counted_word estimate_of checked line_step answers line_text count_text summary printed digits
 one_header = refl
 
+-- of four shards each of keys 1 to 4 has one of its own
+pub loads_of_four_shards : report (record four { shards = 4 }) (codes "0 G 1\n0 G 2\n0 G 3\n0 G 4\n0 G 1\n0 G 5\n0 G 4\n0 G 6\n") ≡ good (codes "1 load\n2 load\n3 load\n4 load\n5 hit 1\n6 load\n7 hit 4\n8 load\nlookups 8 hits 2 misses 6 loads 6 failed 0 evicted 0 entries 6 weight 6\n")
+unfolding counted_word estimate_of checked line_step answers line_text count_text summary printed digits
+loads_of_four_shards = refl
+
+-- of two shards the first has keys 3 and 4, and it is cleared first
+pub a_clear_of_two_shards : report (record four { shards = 2 }) (codes "0 P 1\n0 P 2\n0 P 3\n0 P 4\n0 X\n") ≡ good (codes "1 put\n2 put\n3 put\n4 put\n5 clear 4:4:explicit 3:3:explicit 2:2:explicit 1:1:explicit\nlookups 0 hits 0 misses 0 loads 0 failed 0 evicted 0 entries 0 weight 0\n")
+unfolding counted_word estimate_of checked line_step answers line_text count_text summary printed digits
+a_clear_of_two_shards = refl
+
 pub a_bad_line_ends_the_report : report four (codes "0 P 1\n0 L 1\n0 L 2\n0 Q 1\n") ≡ record { text = codes "1 put\n2 hit 1\n3 absent\n"; verdict = Err (BadLine 4) }
 unfolding counted_word estimate_of checked line_step answers line_text count_text summary printed digits
 a_bad_line_ends_the_report = refl
