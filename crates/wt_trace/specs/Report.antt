@@ -1,5 +1,5 @@
 -- The report of a trace.
-use Rattle.std.specs.Prelude.{◌≡◌, ℕ, ◌+◌, Bool, true, false, if◌then◌else◌, List, [], ◌++◌, map, length, get_or, drop, sum_by, is_ok, Ok, Err, codes, decimal}
+use Rattle.std.specs.Prelude.{◌≡◌, ℕ, ◌+◌, ◌-◌, ◌*◌, min, Bool, true, false, if◌then◌else◌, List, [], ◌++◌, map, length, get_or, drop, sum_by, is_ok, Ok, Err, codes, decimal}
 use Rattle.std.specs.List.{flat_map, range_with_len}
 use Rattle.wt_core.specs.declared.kinds.Stats.{Stats}
 use Rattle.wt_trace.specs.declared.fault.ReplayFault.TheVariants.{BadLine, LineTooLong, TooManyLines}
@@ -20,6 +20,10 @@ line_text first all i = decimal (first + i) ++ (flat_map (λ (a : Answers). get_
 -- so many lines from line i on
 abbrev pub lines_text : ℕ → List Answers → ℕ → ℕ → List ℕ
 lines_text first all i len = flat_map (line_text first all) (range_with_len i len)
+
+-- piece t of so many lines, of at most so many each
+abbrev pub piece_text : ℕ → List Answers → ℕ → ℕ → ℕ → List ℕ
+piece_text first all count most t = lines_text first all (min (t * most) count) (min most (count - min (t * most) count))
 
 -- a label with a number
 unfoldable pub count_text : List ℕ → ℕ → List ℕ

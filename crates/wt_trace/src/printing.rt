@@ -1,11 +1,11 @@
 // Lines of a report printed on threads: each prints a piece, and the pieces are put together in
 // their order.
-ghost use Rattle.std.specs.Prelude.{◌≡◌, ◌+◌, ◌-◌, ◌*◌, ◌/◌, ◌<◌, ◌≤◌, ◌^◌, ℕ, All, IfOk, Err, alloc_error, get_or, length, min, vec_len, map, None};
+ghost use Rattle.std.specs.Prelude.{◌≡◌, ◌+◌, ◌<◌, ◌≤◌, ◌^◌, ℕ, All, IfOk, Err, alloc_error, get_or, length, vec_len, map, None};
 ghost use Rattle.std.specs.List.{range_with_len};
 ghost use Rattle.wt_trace.specs.Answers.{answers};
 ghost use Rattle.wt_trace.specs.Keys.{keys_by};
 ghost use Rattle.wt_trace.specs.Options.{option_fault};
-ghost use Rattle.wt_trace.specs.Report.{lines_text};
+ghost use Rattle.wt_trace.specs.Report.{lines_text, piece_text};
 ghost use Rattle.wt_trace.specs.Report as spec;
 
 use crate::answers::Answers;
@@ -31,7 +31,7 @@ fn piece(
     requires fits { first + count < 2 ^ 64 }
     requires most { most ≤ 1000002 }
     requires t { t < 64 }
-    ensures { IfOk result (λ out. out.items ≡ lines_text first all.now (min (t * most) count) (min most (count - min (t * most) count))) }
+    ensures { IfOk result (λ out. out.items ≡ piece_text first all.now count most t) }
 {
     let from = (t * most).min(count);
     let mut out = Vec::new(alloc);
@@ -54,7 +54,7 @@ fn pieces<H: Threads + Sync>(
     requires most { most ≤ 1000002 }
     requires threads { threads ≤ 64 }
     ensures len { IfOk result (λ pieces. vec_len pieces ≡ threads) }
-    ensures each { IfOk result (λ pieces. (t : ℕ) → t < threads → IfOk (get_or pieces.items t (Err alloc_error)) (λ out. out.items ≡ lines_text first all.now (min (t * most) count) (min most (count - min (t * most) count)))) }
+    ensures each { IfOk result (λ pieces. (t : ℕ) → t < threads → IfOk (get_or pieces.items t (Err alloc_error)) (λ out. out.items ≡ piece_text first all.now count most t)) }
 {
     thread::map_indices(
         rt,
@@ -62,7 +62,7 @@ fn pieces<H: Threads + Sync>(
         threads,
         &|t: usize| -> Result<Vec<u8>, AllocError>
             requires { All (λ a. length a.texts ≡ count) all.now × (first + count < 2 ^ 64) × (most ≤ 1000002) × (t < 64) }
-            ensures { IfOk result (λ out. out.items ≡ lines_text first all.entry.now (min (t * most) count) (min most (count - min (t * most) count))) }
+            ensures { IfOk result (λ out. out.items ≡ piece_text first all.entry.now count most t) }
         { piece(alloc, first, all, count, most, t) },
     )
 }
