@@ -18,7 +18,7 @@ impl RandomSource for Broken {
     }
 }
 
-// The seed of the bytes 0 to 15, as in the paper on SipHash.
+// The seed of the bytes 0 to 15, which the published test vector of SipHash has.
 fn counted() -> io::Result<Seed> {
     Seed::new(&FixedBytes([0, 1, 2, 3, 4, 5, 6, 7, 8, 9, 10, 11, 12, 13, 14, 15]))
 }
