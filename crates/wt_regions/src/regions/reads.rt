@@ -35,6 +35,9 @@ impl<K: CacheKey, V: Share + Weighs> Regions<K, V> {
         ensures { result ≡ due_at K.eq key now self.now }
     {
         let caps = self.caps;
+        if caps.refresh.is_none() {
+            return false;
+        }
         match self.find(key) {
             Some(held) => caps.is_due(now, held),
             None => false,
