@@ -171,6 +171,9 @@ module _ {K V : Type 0} (eq : K → K → Bool) (word : K → ℕ) (weight : V �
       let m = landed-length eq k id s.flights q found pairs in
       omega (arith, n, m))
 
+  pub land-allowed : (id : ℕ) (k : K) (what : Landing V) (now : ℕ) (q : Row K) → c ≡ Land id k what now → row_of eq k id s.flights ≡ Some q → refusal_of eq word weight s c ≡ None
+  land-allowed id k what now q is found = rw is (ap (λ (o : Option (Row K)). cond (is_some o) None (spent s)) found)
+
   pub gone-rows : (id : ℕ) (k : K) (what : Landing V) (now : ℕ) → c ≡ Land id k what now → row_of eq k id s.flights ≡ None → length (step eq word weight s c).state.flights.rows ≡ length s.flights.rows
   gone-rows id k what now is found = rw is (ap (λ (t : Flights K). length t.rows) (step-to eq word weight s (Land id k what now)).flights ∙ ap (λ (o : Option (Row K)). length (option_map_or (λ row. landed id s.flights) o s.flights).rows) found)
 

@@ -116,12 +116,14 @@ impl<K: CacheKey, V: Share + Weighs + Answers<K>, S: ShardLedger, H: Ledger> Sha
             (IsCaughtUp K.eq K.word V.weight (call.Seek key now) self.old self.new
             × (mine.new ≡ mine.old) × (notices.new ≡ notices.old)) }
     {
-        if let Some(fault) = self.refusal(&Call::Seek(key, now)) {
-            return Err(fault);
-        }
-        match self.core.foresee(key, now) {
+        let met = self.core.foresee(key, now);
+        let rows = match self.open_met(key, now, &met) {
+            Ok(rows) => rows,
+            Err(fault) => return Err(fault),
+        };
+        match met {
             Foreseen::Hit => {
-                let reply = self.make(mine, Call::Seek(key, now), None, notices)?;
+                let reply = self.make_allowed(mine, Call::Seek(key, now), rows, None, notices)?;
                 let Reply::Hit(value) = reply else {
                     unreachable!()
                 };
@@ -135,7 +137,7 @@ impl<K: CacheKey, V: Share + Weighs + Answers<K>, S: ShardLedger, H: Ledger> Sha
                     self.stay(&Call::Seek(key, now));
                     return Err(Fault::NoMemory);
                 };
-                self.make(mine, Call::Seek(key, now), None, notices)?;
+                self.make_allowed(mine, Call::Seek(key, now), rows, None, notices)?;
                 Ok(Sought::Join(ticket))
             }
             Foreseen::Lead(id) => {
@@ -143,7 +145,7 @@ impl<K: CacheKey, V: Share + Weighs + Answers<K>, S: ShardLedger, H: Ledger> Sha
                     self.stay(&Call::Seek(key, now));
                     return Err(Fault::NoMemory);
                 };
-                self.make(mine, Call::Seek(key, now), Some(kept), notices)?;
+                self.make_allowed(mine, Call::Seek(key, now), rows, Some(kept), notices)?;
                 Ok(Sought::Lead(lead, ticket))
             }
             Foreseen::HitLead(id) => {
@@ -151,7 +153,13 @@ impl<K: CacheKey, V: Share + Weighs + Answers<K>, S: ShardLedger, H: Ledger> Sha
                     self.stay(&Call::Seek(key, now));
                     return Err(Fault::NoMemory);
                 };
-                let reply = self.make(mine, Call::Seek(key, now), Some(kept), notices)?;
+                let reply = self.make_allowed(
+                    mine,
+                    Call::Seek(key, now),
+                    rows,
+                    Some(kept),
+                    notices,
+                )?;
                 let Reply::HitLead(value, _) = reply else {
                     unreachable!()
                 };

@@ -3,19 +3,21 @@ ghost use Rattle.std.specs.Prelude.{◌≡◌, ℕ, ◌+◌, ◌<◌, ◌≤◌,
 ghost use Rattle.std.specs.Option.{option_to_list};
 ghost use Rattle.wt_keys.specs.declared.fault.Fault.TheVariants as fault;
 ghost use Rattle.wt_regions.specs.Notices.{appended};
+ghost use Rattle.wt_core.specs.declared.kinds.Call.TheVariants as call;
+ghost use Rattle.wt_core.specs.Seek.{foreseen_at};
 ghost use Rattle.wt_shards.specs.Counts.{counted, is_hit};
 ghost use Rattle.wt_shards.specs.Told.{HasTold};
-ghost use Rattle.wt_shards.specs.Faults.{is_fault_of};
+ghost use Rattle.wt_shards.specs.Faults.{is_fault_of, is_seek_fault};
 
 use crate::kept::{Kept, change};
 use crate::lag::catch_up;
-use crate::refusal::{open_after, refusal};
+use crate::refusal::{open_after, open_met};
 use crate::shading::shaded;
 use crate::shard::Shard;
 use crate::shard_ledger::ShardLedger;
 use crate::shares::Shares;
 use std::sync::ledger::Ledger;
-use wt_core::{Call, Notices, Reply, Weighs, steps_keep_counts, steps_tell_few};
+use wt_core::{Call, Foreseen, Notices, Reply, Weighs, steps_keep_counts, steps_tell_few};
 use wt_keys::{Answers, CacheKey, Fault, NoMemory, Share};
 
 impl<K: CacheKey, V: Share + Weighs + Answers<K>, S: ShardLedger, H: Ledger> Shard<K, V, S, H> {
@@ -24,12 +26,17 @@ impl<K: CacheKey, V: Share + Weighs + Answers<K>, S: ShardLedger, H: Ledger> Sha
     ghost use Rattle.wt_shards.specs.Asked.{AnswersAsked, IsAsked};
     ghost use Rattle.wt_shards.specs.Audited.{IsAudited, IsCaughtUp, excess, load_at, load_of, moved, need, places, shard_step, still_open};
 
-    // The fault by which the state refuses the call, want of memory aside.
-    pub(crate) fn refusal(&self, call: &Call<K, V>) -> Option<Fault>
-        ensures refusal { result ≡ refusal_of K.eq K.word V.weight self.now.core call.now }
-        ensures faults { IfSome result (λ f. is_fault_of call.now f ≡ true) }
+    // How many loads are open after a seek that meets this, or why the state refuses it.
+    pub(crate) fn open_met(&self, key: K, now: u64, met: &Foreseen) -> Result<usize, Fault>
+        requires { met.now ≡ foreseen_at K.eq key now self.now.core }
+        ensures allowed { IfOk result (λ rows.
+            (refusal_of K.eq K.word V.weight self.now.core (call.Seek key now) ≡ None)
+            × (rows ≡ length (step K.eq K.word V.weight self.now.core (call.Seek key now)).state.flights.rows)) }
+        ensures refusal { IfErr result (λ f.
+            refusal_of K.eq K.word V.weight self.now.core (call.Seek key now) ≡ Some f) }
+        ensures faults { IfErr result (λ f. is_seek_fault f ≡ true) }
     {
-        refusal(&self.core, self.config.bound, self.config.flights, call)
+        open_met(&self.core, self.config.flights, key, now, met)
     }
 
     // Makes the call's step and records it; the landing is that of the load which the step opens.
@@ -75,13 +82,60 @@ impl<K: CacheKey, V: Share + Weighs + Answers<K>, S: ShardLedger, H: Ledger> Sha
         ensures err { OnErr result (IsCaughtUp K.eq K.word V.weight call self.old self.new
             × (mine.new ≡ mine.old) × (notices.new ≡ notices.old)) }
     {
-        if let Some(fault) = refusal(&self.core, self.config.bound, self.config.flights, &call) {
-            return Err(fault);
+        match open_after(&self.core, self.config.bound, self.config.flights, &call) {
+            Ok(rows) => self.make_allowed(mine, call, rows, opened, notices),
+            Err(fault) => Err(fault),
         }
-        // For the prover: shows how many loads are open after the step, and how many it tells of.
+    }
+
+    // Makes the step of a call that the state doesn't refuse, after which so many loads are open.
+    #[tactic(auto, using(crate::proofs::Told::told_none, crate::proofs::Loads::empty_takes_none))]
+    pub(crate) fn make_allowed(
+        &mut self,
+        mine: &mut Shares<S, H>,
+        call: Call<K, V>,
+        rows: usize,
+        opened: Option<Kept<K, V>>,
+        notices: &mut Notices<K, V>,
+    ) -> Result<Reply<V>, Fault>
+        requires asked { IsAsked V.answers K.word
+            S.ShardLedger.place.shards S.ShardLedger.place.index call }
+        requires room { S.ShardLedger.place.config.entries ≤ notices.old.room }
+        requires allowed { refusal_of K.eq K.word V.weight self.old.core call ≡ None }
+        requires rows { rows
+            ≡ length (step K.eq K.word V.weight self.old.core call).state.flights.rows }
+        // Where each open load has one landing, each has one after the call.
+        requires landed { IsAudited K.eq K.word V.weight V.answers
+            S.ShardLedger.place.shards S.ShardLedger.place.index self.old
+            → map load_at (still_open K.eq call self.old.landings ++ option_to_list opened)
+            ≡ map load_of (step K.eq K.word V.weight self.old.core call).state.flights.rows }
+
+        ensures state { OnOk result (self.new
+            ≡ shard_step K.eq K.word V.weight call (option_to_list opened) self.old) }
+        ensures answer { IfOk result (λ reply. reply
+            ≡ (step K.eq K.word V.weight self.old.core call).reply) }
+        ensures notices { OnOk result (notices.new
+            ≡ appended (step K.eq K.word V.weight self.old.core call).notices notices.old) }
+        ensures moved { IfOk result (λ reply. mine.new ≡ counted (is_hit reply) mine.old) }
+        ensures answers { IfOk result (AnswersAsked V.answers call) }
+        ensures later { OnOk result ((mine.old.steps ≤ self.old.core.step)
+            × (self.new.core.step ≡ self.old.core.step + 1)) }
+
+        ensures memory { IsOkUnless result fault.NoMemory }
+        // Whatever is answered.
+        ensures told { HasTold S.ShardLedger.place.config.entries notices.old notices.new }
+        // A landing of an open load has its place.
+        ensures place { IsLanding K.eq self.old.core call
+            → excess K.eq K.word V.weight call self.old ≡ 0 }
+        ensures empty_succeeds { IsEmptyLanding K.eq self.old.core call → IsOk result }
+        ensures err { OnErr result (IsCaughtUp K.eq K.word V.weight call self.old self.new
+            × (mine.new ≡ mine.old) × (notices.new ≡ notices.old)) }
+    {
+        // For the prover: shows what holds of the shard at all times, how many loads are open after
+        // the step, and how many it tells of.
+        let _steps = self.steps();
         steps_keep_counts::<K, V>();
         steps_tell_few::<K, V>();
-        let rows = open_after(&self.core, &call);
         let Ok(()) = self.make_room(rows) else {
             return Err(Fault::NoMemory);
         };
