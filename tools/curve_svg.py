@@ -8,7 +8,9 @@ from math import ceil, log2
 WIDTH, HEIGHT = 880, 440
 TOP, BOTTOM = 104, 376
 MAIN_LEFT, MAIN_RIGHT = 58, 500
-SWEEP_LEFT, SWEEP_RIGHT = 660, 850
+SWEEP_LEFT, SWEEP_RIGHT = 676, 850
+# Half as wide as the words at the best window.
+HALF_LABEL = 64
 CLASSES = {"LRU": "lru", "FIFO": "fifo", "optimum": "best"}
 
 LIGHT = {"page": "#ffffff", "ink": "#1f2933", "soft": "#5b6675", "grid": "#e3e7ed", "axis": "#98a2b3",
@@ -71,17 +73,26 @@ def top_of(curves, sweep):
     return max(step, step * ceil(most / step)), step
 
 
+def labelled(panel, ticks):
+    """The ticks that have room for their numbers: both ends, and from the left what fits between them."""
+    def half(n):
+        return 4 + 3.5 * len("{:,}".format(n))
+
+    kept, last = [ticks[0]], ticks[-1]
+    for n in ticks[1:-1]:
+        if all(abs(panel.x(n) - panel.x(other)) > half(n) + half(other) for other in (kept[-1], last)):
+            kept.append(n)
+    return {*kept, last}
+
+
 def axes(panel, step, ticks, title):
-    parts = []
+    parts, numbered = [], labelled(panel, ticks)
     for percent in range(0, round(100 * panel.top_ratio) + 1, step):
         y = panel.y(percent / 100)
         parts.append(line(panel.left, y, panel.right, y, "axis" if percent == 0 else "grid"))
         parts.append(text(panel.left - 8, y + 4, "%d %%" % percent, "soft small end"))
-    end = -100.0
     for n in ticks:
-        half = 3.5 * len("{:,}".format(n))
-        if panel.x(n) - half - end > 8:
-            end = panel.x(n) + half
+        if n in numbered:
             parts.append(text(panel.x(n), BOTTOM + 20, "{:,}".format(n), "soft small mid"))
         parts.append(line(panel.x(n), BOTTOM, panel.x(n), BOTTOM + 5, "axis"))
     parts.append(text((panel.left + panel.right) / 2, BOTTOM + 44, title, "soft mid"))
@@ -107,8 +118,10 @@ def main_panel(panel, step, curves):
     ours = next(iter(curves))
     sizes = list(curves[ours])
     parts = axes(panel, step, sizes, "entries that the cache may hold")
+    # What is gained over LRU is shaded; where LRU hits more there is nothing.
+    upper = {n: max(ratio, curves["LRU"][n]) for n, ratio in curves[ours].items()}
     back = " ".join(reversed(panel.points(curves["LRU"]).split()))
-    parts.append('<polygon points="%s %s" class="ours gain"/>' % (panel.points(curves[ours]), back))
+    parts.append('<polygon points="%s %s" class="ours gain"/>' % (panel.points(upper), back))
     names = list(curves)
     for name in reversed(names):
         parts.append('<polyline points="%s" class="line %s-line"/>' % (panel.points(curves[name]), kind_of(name)))
@@ -127,8 +140,8 @@ def sweep_panel(panel, step, sweep_at, sweep):
     parts.append('<polyline points="%s" class="line ours-line"/>' % panel.points(sweep))
     parts += ['<circle cx="%.1f" cy="%.1f" r="3.6" class="ours"/>' % (panel.x(n), panel.y(ratio)) for n, ratio in sweep.items()]
     x, y = panel.x(best), panel.y(sweep[best])
-    place = "ours label mid" if x - panel.left > 40 and panel.right - x > 40 else "ours label" if x - panel.left <= 40 else "ours label end"
-    parts.append(text(x, y - 12, "best: {:,}".format(best), place))
+    place = "ours label" if x - panel.left <= HALF_LABEL else "ours label end" if panel.right - x <= HALF_LABEL else "ours label mid"
+    parts.append(text(x, y - 12, "best window: {:,}".format(best), place))
     return parts
 
 
