@@ -2,6 +2,7 @@ pub mod Numbers
 pub mod Writes
 pub mod Grammar
 pub mod Traces
+pub mod Joins
 pub mod Ends
 pub mod InOrder
 pub mod Gets

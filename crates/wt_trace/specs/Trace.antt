@@ -1,6 +1,6 @@
 -- A trace: the lines up to the first fault.
-use Rattle.std.specs.Prelude.{ℕ, ◌+◌, ◌==◌, nat_eq, nat_lt, Bool, false, if◌then◌else◌, List, [], ◌∷◌, length, Option, None, Some, Result, Ok, Err, codes}
-use Rattle.std.specs.List.{onto_first}
+use Rattle.std.specs.Prelude.{◌≡◌, ℕ, ◌+◌, ◌==◌, nat_eq, nat_lt, Bool, false, if◌then◌else◌, List, [], ◌∷◌, length, Option, None, Some, Result, Ok, Err, codes}
+use Rattle.std.specs.List.{onto_first, flat_map}
 use Rattle.std.specs.Cmp.Lexicographic.{pointwise}
 use Rattle.wt_trace.specs.declared.line.Line.{Line}
 use Rattle.wt_trace.specs.declared.fault.ReplayFault.{ReplayFault}
@@ -20,6 +20,10 @@ abbrev pub lines_of : List ℕ → List (List ℕ)
 lines_of [] = []
 lines_of (b ∷ bs) = onto_lines b (lines_of bs)
 
+-- the lines of texts, one text after another
+abbrev pub lines_of_all : List (List ℕ) → List (List ℕ)
+lines_of_all texts = flat_map lines_of texts
+
 -- the first line of a trace of names
 abbrev pub is_header : List (List ℕ) → Bool
 is_header [] = false
@@ -31,6 +35,14 @@ pub record Trace (K : Type 0) : Type 0 where
   pub verdict : Verdict
 
 module _ {K : Type 0} where
+  -- the lines of pieces, one piece after another
+  abbrev pub joined : List (List (Line K)) → List (Line K)
+  joined pieces = flat_map (λ lines. lines) pieces
+
+  -- these are its lines, and none is at fault
+  abbrev pub IsFaultless : Trace K → List (Line K) → Type 0
+  IsFaultless t lines = (t.lines ≡ lines) × (t.verdict ≡ Ok tt)
+
   -- a line that isn't there is a bad one
   abbrev pub or_bad : ℕ → Option (Line K) → Result (Line K) ReplayFault
   or_bad n None = Err (BadLine n)

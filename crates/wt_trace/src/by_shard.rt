@@ -1,6 +1,6 @@
 // The shards on threads: thread t runs those whose number modulo the threads is t, each shard's
 // lines in order.
-ghost use Rattle.std.specs.Prelude.{◌≡◌, ◌≤◌, ◌<◌, ℕ, ◌%◌, [], Ok, IfOk, OnOk, IfErr, None, map, length, vec_len, get_or, slice_set, true, false};
+ghost use Rattle.std.specs.Prelude.{◌≡◌, ◌+◌, ◌≤◌, ◌<◌, ℕ, ◌%◌, [], Ok, IfOk, OnOk, IfErr, None, map, length, vec_len, get_or, slice_set, true, false};
 ghost use Rattle.std.specs.List.{range_with_len};
 ghost use Rattle.wt_trace.specs.Answers as spec;
 ghost use Rattle.wt_trace.specs.Keys.{keys_by};
@@ -14,12 +14,12 @@ use crate::answers::Answers;
 use crate::fault::ReplayFault;
 use crate::gate::Gate;
 use crate::key::TraceKey;
-use crate::line::Line;
 use crate::options::Options;
+use crate::parsing::read_on_threads;
+use crate::pieces::Pieces;
 use crate::printing::text_on_threads;
 use crate::report::behind_header;
 use crate::shard::shard_answers;
-use crate::trace::read_lines;
 use std::alloc::{AllocError, Global};
 use std::marker::Model;
 use std::thread;
@@ -47,16 +47,16 @@ fn part_of<K: TraceKey, G: Gate>(
     alloc: Global,
     options: &Options,
     first: u64,
-    lines: &[Line<K>],
+    read: &Pieces<K>,
     gate: &G,
     threads: usize,
     t: usize,
 ) -> Result<Part, ReplayFault>
     requires options { option_fault options.now ≡ None }
-    requires first { first ≤ 1000001 }
+    requires few { first + length read.now.lines ≤ 1000001 }
     requires threads { 0 < threads }
-    ensures asked { OnOk result ((s : ℕ) → s < options.now.shards → s % threads ≡ t → AreAsked (spec.belongs (keys_by K.eq K.word K.read K.shown) options.now s) (λ n. G.answers gate.now n true) first lines.now) }
-    ensures answers { IfOk result (λ part. part ≡ map (part_at (spec.answers (keys_by K.eq K.word K.read K.shown) options.now first lines.now) threads t) (range_with_len 0 options.now.shards)) }
+    ensures asked { OnOk result ((s : ℕ) → s < options.now.shards → s % threads ≡ t → AreAsked (spec.belongs (keys_by K.eq K.word K.read K.shown) options.now s) (λ n. G.answers gate.now n true) first read.now.lines) }
+    ensures answers { IfOk result (λ part. part ≡ map (part_at (spec.answers (keys_by K.eq K.word K.read K.shown) options.now first read.now.lines) threads t) (range_with_len 0 options.now.shards)) }
     ensures err { IfErr result (IsStop (λ n. G.answers gate.now n false)) }
 {
     let mut places = Vec::new(alloc);
@@ -65,7 +65,7 @@ fn part_of<K: TraceKey, G: Gate>(
             places.push(None)?;
             continue;
         }
-        let one = shard_answers(alloc, options, shard, first, lines, gate)?;
+        let one = shard_answers(alloc, options, shard, first, read.walk(), gate)?;
         places.push(Some(one))?;
     }
     Ok(Part { places })
@@ -103,24 +103,24 @@ fn parts<H: Threads + Sync, K: TraceKey, G: Gate>(
     alloc: Global,
     options: &Options,
     first: u64,
-    lines: &[Line<K>],
+    read: &Pieces<K>,
     gate: &G,
     threads: usize,
 ) -> Result<Vec<Result<Part, ReplayFault>>, AllocError>
     requires options { option_fault options.now ≡ None }
-    requires first { first ≤ 1000001 }
+    requires few { first + length read.now.lines ≤ 1000001 }
     requires threads { 0 < threads }
     ensures len { IfOk result (λ parts. vec_len parts ≡ threads) }
-    ensures each { IfOk result (λ parts. (t : ℕ) → t < threads → IsPart (spec.answers (keys_by K.eq K.word K.read K.shown) options.now first lines.now) (λ n. G.answers gate.now n false) (λ s. AreAsked (spec.belongs (keys_by K.eq K.word K.read K.shown) options.now s) (λ n. G.answers gate.now n true) first lines.now) options.now.shards threads t (get_or parts.items t (Ok []))) }
+    ensures each { IfOk result (λ parts. (t : ℕ) → t < threads → IsPart (spec.answers (keys_by K.eq K.word K.read K.shown) options.now first read.now.lines) (λ n. G.answers gate.now n false) (λ s. AreAsked (spec.belongs (keys_by K.eq K.word K.read K.shown) options.now s) (λ n. G.answers gate.now n true) first read.now.lines) options.now.shards threads t (get_or parts.items t (Ok []))) }
 {
     thread::map_indices(
         rt,
         alloc,
         threads,
         &|t: usize| -> Result<Part, ReplayFault>
-            requires { (option_fault options.now ≡ None) × (first ≤ 1000001) × (0 < threads) }
-            ensures { IsPart (spec.answers (keys_by K.eq K.word K.read K.shown) options.entry.now first lines.entry.now) (λ n. G.answers gate.entry.now n false) (λ s. AreAsked (spec.belongs (keys_by K.eq K.word K.read K.shown) options.entry.now s) (λ n. G.answers gate.entry.now n true) first lines.entry.now) options.entry.now.shards threads t result }
-        { part_of(alloc, options, first, lines, gate, threads, t) },
+            requires { (option_fault options.now ≡ None) × (first + length read.now.lines ≤ 1000001) × (0 < threads) }
+            ensures { IsPart (spec.answers (keys_by K.eq K.word K.read K.shown) options.entry.now first read.entry.now.lines) (λ n. G.answers gate.entry.now n false) (λ s. AreAsked (spec.belongs (keys_by K.eq K.word K.read K.shown) options.entry.now s) (λ n. G.answers gate.entry.now n true) first read.entry.now.lines) options.entry.now.shards threads t result }
+        { part_of(alloc, options, first, read, gate, threads, t) },
     )
 }
 
@@ -131,18 +131,18 @@ fn answers_by_shard<H: Threads + Sync, K: TraceKey, G: Gate>(
     alloc: Global,
     options: &Options,
     first: u64,
-    lines: &[Line<K>],
+    read: &Pieces<K>,
     gate: &G,
     threads: usize,
 ) -> Result<Vec<Answers>, ReplayFault>
     requires options { option_fault options.now ≡ None }
-    requires first { first ≤ 1000001 }
+    requires few { first + length read.now.lines ≤ 1000001 }
     requires threads { 0 < threads }
-    ensures asked { OnOk result (AllAsked (keys_by K.eq K.word K.read K.shown) options.now (λ n. G.answers gate.now n true) first lines.now) }
-    ensures answers { IfOk result (λ all. all.items ≡ map (spec.answers (keys_by K.eq K.word K.read K.shown) options.now first lines.now) (range_with_len 0 options.now.shards)) }
+    ensures asked { OnOk result (AllAsked (keys_by K.eq K.word K.read K.shown) options.now (λ n. G.answers gate.now n true) first read.now.lines) }
+    ensures answers { IfOk result (λ all. all.items ≡ map (spec.answers (keys_by K.eq K.word K.read K.shown) options.now first read.now.lines) (range_with_len 0 options.now.shards)) }
     ensures err { IfErr result (IsStop (λ n. G.answers gate.now n false)) }
 {
-    let mut parts = parts(rt, alloc, options, first, lines, gate, threads)?;
+    let mut parts = parts(rt, alloc, options, first, read, gate, threads)?;
     let mut all = Vec::new(alloc);
     for shard in 0..options.shards() {
         let Some(one) = take_at(&mut parts, shard % threads, shard)? else {
@@ -154,7 +154,7 @@ fn answers_by_shard<H: Threads + Sync, K: TraceKey, G: Gate>(
 }
 
 // The report of a trace whose first line is line `first`, whatever its keys are. So many threads
-// print it, too.
+// read and print it, too.
 fn report_of<H: Threads + Sync, K: TraceKey, G: Gate>(
     rt: &H,
     alloc: Global,
@@ -171,10 +171,10 @@ fn report_of<H: Threads + Sync, K: TraceKey, G: Gate>(
     ensures report { IfOk result (λ r. report.IsReport (report.report_of (keys_by K.eq K.word K.read K.shown) options.now first (trace_from K.read first (lines_of bytes.now))) r.0.items r.1) }
     ensures err { IfErr result (IsStop (λ n. G.answers gate.now n false)) }
 {
-    let read = read_lines::<K>(alloc, first, bytes)?;
-    let all = answers_by_shard(rt, alloc, options, first, &read.lines, gate, threads)?;
+    let read = read_on_threads::<H, K>(rt, alloc, first, bytes, threads)?;
+    let all = answers_by_shard(rt, alloc, options, first, &read, gate, threads)?;
     let text = text_on_threads(rt, alloc, options, first, &read, &all, threads)?;
-    Ok((text, read.verdict))
+    Ok((text, read.verdict()))
 }
 
 /// Returns the report of the bytes of a trace, and the verdict, as `report` does, with the shards

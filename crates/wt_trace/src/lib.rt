@@ -10,6 +10,8 @@ mod key;
 mod laws;
 mod line;
 mod options;
+mod parsing;
+mod pieces;
 mod printing;
 mod report;
 mod rules;

@@ -114,7 +114,7 @@ pub fn number_of(digits: &[u8]) -> Option<u64>
 }
 
 // Where such a byte stands first.
-fn place_of(bytes: &[u8], stop: u8) -> Option<usize>
+pub(crate) fn place_of(bytes: &[u8], stop: u8) -> Option<usize>
     ensures { result ≡ position (λ b. b == stop) bytes.now }
 {
     bytes.iter().position(|b| *b == stop)

@@ -11,8 +11,8 @@ ghost use Rattle.wt_trace.specs.Report as spec;
 use crate::answers::Answers;
 use crate::key::TraceKey;
 use crate::options::Options;
+use crate::pieces::Pieces;
 use crate::report::{show_lines, show_summary};
-use crate::trace::Lines;
 use std::alloc::{AllocError, Global};
 use std::thread;
 use std::thread::Threads;
@@ -102,18 +102,18 @@ pub fn text_on_threads<H: Threads + Sync, K: TraceKey>(
     alloc: Global,
     options: &Options,
     first: u64,
-    read: &Lines<K>,
+    read: &Pieces<K>,
     all: &[Answers],
     threads: usize,
 ) -> Result<Vec<u8>, NoMemory>
     requires options { option_fault options.now ≡ None }
-    requires few { first + length read.now.lines.items ≤ 1000001 }
+    requires few { first + length read.now.lines ≤ 1000001 }
     requires threads { (0 < threads) × (threads ≤ 64) }
-    requires all { all.now ≡ map (answers (keys_by K.eq K.word K.read K.shown) options.now first read.now.lines.items) (range_with_len 0 options.now.shards) }
-    ensures { IfOk result (λ out. out.items ≡ (spec.report_of (keys_by K.eq K.word K.read K.shown) options.now first (record { lines = read.now.lines.items; verdict = read.now.verdict })).text) }
+    requires all { all.now ≡ map (answers (keys_by K.eq K.word K.read K.shown) options.now first read.now.lines) (range_with_len 0 options.now.shards) }
+    ensures { IfOk result (λ out. out.items ≡ (spec.report_of (keys_by K.eq K.word K.read K.shown) options.now first read.now).text) }
 {
-    let mut out = lines_on_threads(rt, alloc, first, all, read.lines.len(), threads)?;
-    if read.verdict.is_ok() {
+    let mut out = lines_on_threads(rt, alloc, first, all, read.len(), threads)?;
+    if read.verdict().is_ok() {
         show_summary(&mut out, all)?;
     }
     Ok(out)

@@ -15,6 +15,7 @@ use crate::gate::Open;
 use crate::key::{TraceKey, show_number};
 use crate::line::{Line, cut};
 use crate::options::Options;
+use crate::pieces::Walk;
 use crate::shard::shard_answers;
 use crate::trace::{Lines, read_lines};
 use std::alloc::{AllocError, Global};
@@ -180,13 +181,13 @@ fn answers_in_order<K: TraceKey>(
     lines: &[Line<K>],
 ) -> Result<Vec<Answers>, ReplayFault>
     requires options { option_fault options.now ≡ None }
-    requires first { first ≤ 1000001 }
+    requires few { first + length lines.now ≤ 1000001 }
     ensures answers { IfOk result (λ all. all.items ≡ map (answers (keys_by K.eq K.word K.read K.shown) options.now first lines.now) (range_with_len 0 options.now.shards)) }
     ensures err { IfErr result (IsStop (λ _. ⊥)) }
 {
     let mut all = Vec::new(alloc);
     for shard in 0..options.shards() {
-        let one = shard_answers(alloc, options, shard, first, lines, &Open)?;
+        let one = shard_answers(alloc, options, shard, first, Walk::over(lines), &Open)?;
         all.push(one)?;
     }
     Ok(all)

@@ -12,6 +12,7 @@ use crate::gate::Gate;
 use crate::key::TraceKey;
 use crate::line::{Act, Line, Version};
 use crate::options::Options;
+use crate::pieces::Walk;
 use crate::rules::{fails_by, weight_by};
 use crate::words::{show, show_loaded, show_notices, show_reply, show_with};
 use std::alloc::Global;
@@ -211,13 +212,13 @@ pub fn shard_answers<K: TraceKey, G: Gate>(
     options: &Options,
     number: usize,
     first: u64,
-    lines: &[Line<K>],
+    lines: Walk<'_, K>,
     gate: &G,
 ) -> Result<Answers, ReplayFault>
     requires options { option_fault options.now ≡ None }
-    requires first { first ≤ 1000001 }
-    ensures answers { IfOk result (λ a. a ≡ spec.answers (keys_by K.eq K.word K.read K.shown) options.now first lines.now number) }
-    ensures asked { OnOk result (AreAsked (spec.belongs (keys_by K.eq K.word K.read K.shown) options.now number) (λ n. G.answers gate.now n true) first lines.now) }
+    requires few { first + length lines ≤ 1000001 }
+    ensures answers { IfOk result (λ a. a ≡ spec.answers (keys_by K.eq K.word K.read K.shown) options.now first lines.entry number) }
+    ensures asked { OnOk result (AreAsked (spec.belongs (keys_by K.eq K.word K.read K.shown) options.now number) (λ n. G.answers gate.now n true) first lines.entry) }
     ensures err { IfErr result (IsStop (λ n. G.answers gate.now n false)) }
 {
     let Ok(core) = Core::new(alloc, &options.config()) else {
@@ -234,10 +235,9 @@ pub fn shard_answers<K: TraceKey, G: Gate>(
     let mut ends = Vec::new(alloc);
     let mut rest = lines;
     let mut n = first;
-    while let Some((line, after)) = rest.split_first() {
+    while let Some(line) = rest.next() {
         shard.do_line(gate, n, line)?;
         ends.push(shard.text.len())?;
-        rest = after;
         n += 1;
     }
     Ok(Answers {

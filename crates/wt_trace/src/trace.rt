@@ -9,7 +9,7 @@ use crate::line::{Line, cut, line_of};
 use std::alloc::Global;
 use wt_keys::NoMemory;
 
-const MOST_LINES: u64 = 1000000;
+pub(crate) const MOST_LINES: u64 = 1000000;
 
 const MOST_LENGTH: usize = 64;
 

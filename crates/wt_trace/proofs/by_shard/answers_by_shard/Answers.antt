@@ -11,8 +11,8 @@ use Rattle.wt_trace.proofs.by_shard.answers_by_shard.Goals as goal
 
 pub loop-shard-init : goal.loop-shard-init
 loop-shard-init g c =
-    let asked : ℕ → Type 0 = λ s. AreAsked (belongs (keys_by g.K.PartialEq.eq g.K.CacheKey.word g.K.TraceKey.read g.K.TraceKey.shown) c.args.options.now s) (λ n. g.G.Gate.answers c.args.gate.now n true) c.args.first c.args.lines.now in
-    let made = answers (keys_by g.K.PartialEq.eq g.K.CacheKey.word g.K.TraceKey.read g.K.TraceKey.shown) c.args.options.now c.args.first c.args.lines.now in
+    let asked : ℕ → Type 0 = λ s. AreAsked (belongs (keys_by g.K.PartialEq.eq g.K.CacheKey.word g.K.TraceKey.read g.K.TraceKey.shown) c.args.options.now s) (λ n. g.G.Gate.answers c.args.gate.now n true) c.args.first c.args.read.now.lines in
+    let made = answers (keys_by g.K.PartialEq.eq g.K.CacheKey.word g.K.TraceKey.read g.K.TraceKey.shown) c.args.options.now c.args.first c.args.read.now.lines in
     let len : length c.in_ok-parts.parts.items ≡ c.args.threads = search rules in
     record {
       all = c.new-all.ensures.items;
@@ -22,8 +22,8 @@ loop-shard-init g c =
 
 pub take_at-requires-clause-place : goal.take_at-requires-clause-place
 take_at-requires-clause-place g c =
-    let asked : ℕ → Type 0 = λ s. AreAsked (belongs (keys_by g.K.PartialEq.eq g.K.CacheKey.word g.K.TraceKey.read g.K.TraceKey.shown) c.args.options.now s) (λ n. g.G.Gate.answers c.args.gate.now n true) c.args.first c.args.lines.now in
-    let made = answers (keys_by g.K.PartialEq.eq g.K.CacheKey.word g.K.TraceKey.read g.K.TraceKey.shown) c.args.options.now c.args.first c.args.lines.now in
+    let asked : ℕ → Type 0 = λ s. AreAsked (belongs (keys_by g.K.PartialEq.eq g.K.CacheKey.word g.K.TraceKey.read g.K.TraceKey.shown) c.args.options.now s) (λ n. g.G.Gate.answers c.args.gate.now n true) c.args.first c.args.read.now.lines in
+    let made = answers (keys_by g.K.PartialEq.eq g.K.CacheKey.word g.K.TraceKey.read g.K.TraceKey.shown) c.args.options.now c.args.first c.args.read.now.lines in
     let n = c.loop-shard.shard in
     let below : n < c.args.options.now.shards = omega (arith, c.loop-shard.auto.shard-end, c.loop-shard-test.true, c.shards-shard-end.ensures.value) in
     let part = get_or c.loop-shard.parts.items (n % c.args.threads) (Ok []) in
@@ -32,8 +32,8 @@ take_at-requires-clause-place g c =
 
 pub returns-in_err-one-clause-err : goal.returns-in_err-one-clause-err
 returns-in_err-one-clause-err g c =
-    let asked : ℕ → Type 0 = λ s. AreAsked (belongs (keys_by g.K.PartialEq.eq g.K.CacheKey.word g.K.TraceKey.read g.K.TraceKey.shown) c.args.options.now s) (λ n. g.G.Gate.answers c.args.gate.now n true) c.args.first c.args.lines.now in
-    let made = answers (keys_by g.K.PartialEq.eq g.K.CacheKey.word g.K.TraceKey.read g.K.TraceKey.shown) c.args.options.now c.args.first c.args.lines.now in
+    let asked : ℕ → Type 0 = λ s. AreAsked (belongs (keys_by g.K.PartialEq.eq g.K.CacheKey.word g.K.TraceKey.read g.K.TraceKey.shown) c.args.options.now s) (λ n. g.G.Gate.answers c.args.gate.now n true) c.args.first c.args.read.now.lines in
+    let made = answers (keys_by g.K.PartialEq.eq g.K.CacheKey.word g.K.TraceKey.read g.K.TraceKey.shown) c.args.options.now c.args.first c.args.read.now.lines in
     let n = c.loop-shard.shard in
     let below : n < c.args.options.now.shards = omega (arith, c.loop-shard.auto.shard-end, c.loop-shard-test.true, c.shards-shard-end.ensures.value) in
     let part = get_or c.loop-shard.parts.items (n % c.args.threads) (Ok []) in
@@ -45,8 +45,8 @@ returns-in_err-one-clause-err g c =
 
 pub loop-shard-preserved-in_default : goal.loop-shard-preserved-in_default
 loop-shard-preserved-in_default g c =
-    let asked : ℕ → Type 0 = λ s. AreAsked (belongs (keys_by g.K.PartialEq.eq g.K.CacheKey.word g.K.TraceKey.read g.K.TraceKey.shown) c.args.options.now s) (λ n. g.G.Gate.answers c.args.gate.now n true) c.args.first c.args.lines.now in
-    let made = answers (keys_by g.K.PartialEq.eq g.K.CacheKey.word g.K.TraceKey.read g.K.TraceKey.shown) c.args.options.now c.args.first c.args.lines.now in
+    let asked : ℕ → Type 0 = λ s. AreAsked (belongs (keys_by g.K.PartialEq.eq g.K.CacheKey.word g.K.TraceKey.read g.K.TraceKey.shown) c.args.options.now s) (λ n. g.G.Gate.answers c.args.gate.now n true) c.args.first c.args.read.now.lines in
+    let made = answers (keys_by g.K.PartialEq.eq g.K.CacheKey.word g.K.TraceKey.read g.K.TraceKey.shown) c.args.options.now c.args.first c.args.read.now.lines in
     let n = c.loop-shard.shard in
     let below : n < c.args.options.now.shards = omega (arith, c.loop-shard.auto.shard-end, c.loop-shard-test.true, c.shards-shard-end.ensures.value) in
     let part = get_or c.loop-shard.parts.items (n % c.args.threads) (Ok []) in
@@ -58,8 +58,8 @@ loop-shard-preserved-in_default g c =
 
 pub loop-shard-preserved : goal.loop-shard-preserved
 loop-shard-preserved g c =
-    let asked : ℕ → Type 0 = λ s. AreAsked (belongs (keys_by g.K.PartialEq.eq g.K.CacheKey.word g.K.TraceKey.read g.K.TraceKey.shown) c.args.options.now s) (λ n. g.G.Gate.answers c.args.gate.now n true) c.args.first c.args.lines.now in
-    let made = answers (keys_by g.K.PartialEq.eq g.K.CacheKey.word g.K.TraceKey.read g.K.TraceKey.shown) c.args.options.now c.args.first c.args.lines.now in
+    let asked : ℕ → Type 0 = λ s. AreAsked (belongs (keys_by g.K.PartialEq.eq g.K.CacheKey.word g.K.TraceKey.read g.K.TraceKey.shown) c.args.options.now s) (λ n. g.G.Gate.answers c.args.gate.now n true) c.args.first c.args.read.now.lines in
+    let made = answers (keys_by g.K.PartialEq.eq g.K.CacheKey.word g.K.TraceKey.read g.K.TraceKey.shown) c.args.options.now c.args.first c.args.read.now.lines in
     let n = c.loop-shard.shard in
     let below : n < c.args.options.now.shards = omega (arith, c.loop-shard.auto.shard-end, c.loop-shard-test.true, c.shards-shard-end.ensures.value) in
     let part = get_or c.loop-shard.parts.items (n % c.args.threads) (Ok []) in
@@ -78,8 +78,8 @@ loop-shard-preserved g c =
 
 pub returns-clause-answers : goal.returns-clause-answers
 returns-clause-answers g c =
-    let asked : ℕ → Type 0 = λ s. AreAsked (belongs (keys_by g.K.PartialEq.eq g.K.CacheKey.word g.K.TraceKey.read g.K.TraceKey.shown) c.args.options.now s) (λ n. g.G.Gate.answers c.args.gate.now n true) c.args.first c.args.lines.now in
-    let made = answers (keys_by g.K.PartialEq.eq g.K.CacheKey.word g.K.TraceKey.read g.K.TraceKey.shown) c.args.options.now c.args.first c.args.lines.now in
+    let asked : ℕ → Type 0 = λ s. AreAsked (belongs (keys_by g.K.PartialEq.eq g.K.CacheKey.word g.K.TraceKey.read g.K.TraceKey.shown) c.args.options.now s) (λ n. g.G.Gate.answers c.args.gate.now n true) c.args.first c.args.read.now.lines in
+    let made = answers (keys_by g.K.PartialEq.eq g.K.CacheKey.word g.K.TraceKey.read g.K.TraceKey.shown) c.args.options.now c.args.first c.args.read.now.lines in
     let count : c.loop-shard.shard ≡ c.args.options.now.shards = omega (arith, c.loop-shard.auto.shard-end, c.loop-shard-test.false, c.shards-shard-end.ensures.value) in
     c.loop-shard.invariant.all ∙ ap (λ n. map made (range_with_len 0 n)) count
 

@@ -15,25 +15,26 @@ loop-line-preserved g c =
     let keys = keys_by g.K.PartialEq.eq g.K.CacheKey.word g.K.TraceKey.read g.K.TraceKey.shown in
     let inv = c.loop-line.invariant in
     let o = c.args.options.now in
-    let all = answers_from keys o c.args.number c.args.first c.args.lines.now (opening (config_of o)) in
+    let all = answers_from keys o c.args.number c.args.first c.args.lines (opening (config_of o)) in
     let done = c.in_ok-do_line.ensures in
     let w = c.loop-line.shard in
     let t = c.do_line.new.self in
     let state : t.state ≡ (line_step keys o c.args.number c.loop-line.n c.in-Some.line.now w.state).state = rw (inv.options, inv.number) at done.state in
     let text : t.text ≡ w.text ++ (line_step keys o c.args.number c.loop-line.n c.in-Some.line.now w.state).text = rw (inv.options, inv.number) at done.text in
-    let far = more_line keys o c.args.number all w.text c.loop-line.ends.items c.loop-line.n c.in-Some.line.now c.loop-line.rest.now c.in-Some.after.now
-    w.state t.state t.text c.in-Some.ensures.cases.0 state text inv.far in
+    let far = more_line keys o c.args.number all w.text c.loop-line.ends.items c.loop-line.n c.in-Some.line.now c.loop-line.rest c.next.new.self
+    w.state t.state t.text c.in-Some.ensures state text inv.far in
     let items : c.len.result ≡ length c.shard.inside.text.items = search rules in
     let len : c.len.result ≡ length t.text = items ∙ ap (λ (x : Work g.row.K.Denot). length x.text) c.shard.view_is in
     let passed : ℕ → Type 0 = λ m. g.G.Gate.answers c.args.gate.now m true in
     let asked : belongs keys o c.args.number c.in-Some.line.now.act ≡ true → passed c.loop-line.n = rw (inv.options, inv.number) at done.asked in
+    let left : length c.loop-line.rest ≡ length c.next.new.self + 1 = ap length c.in-Some.ensures ∙ omega arith in
     let ends = c.in_ok-push.ensures.items ∙ (λ i. c.loop-line.ends.items ++ len i ∷ []) in
     record {
-      far = subst (λ (es : List ℕ). IsSoFar keys o c.args.number all t.text es (c.loop-line.n + 1) c.in-Some.after.now t.state) (sym ends) far;
+      far = subst (λ (es : List ℕ). IsSoFar keys o c.args.number all t.text es (c.loop-line.n + 1) c.next.new.self t.state) (sym ends) far;
       options = done.same.0 ∙ inv.options;
       number = done.same.1 ∙ inv.number;
-      asked = λ more. inv.asked (subst (λ (ls : List (Line g.row.K.Denot)). AreAsked (belongs keys o c.args.number) passed c.loop-line.n ls) (sym c.in-Some.ensures.cases.0) (asked, more));
-      numbers = omega (arith, inv.numbers, c.in-Some.ensures.cases.1);
+      asked = λ more. inv.asked (subst (λ (ls : List (Line g.row.K.Denot)). AreAsked (belongs keys o c.args.number) passed c.loop-line.n ls) (sym c.in-Some.ensures) (asked, more));
+      numbers = omega (arith, inv.numbers, left);
     }
 
 pub returns-clause-answers : goal.returns-clause-answers
@@ -43,11 +44,11 @@ returns-clause-answers g c =
     let o = c.args.options.now in
     let w = c.loop-line.shard in
     let i = c.shard-2.inside in
-    let all = answers_from keys o c.args.number c.args.first c.args.lines.now (opening (config_of o)) in
-    let whole = no_line keys o c.args.number all w.text c.loop-line.ends.items c.loop-line.n c.loop-line.rest.now w.state c.in_default-split_first.ensures.cases inv.far in
+    let all = answers_from keys o c.args.number c.args.first c.args.lines (opening (config_of o)) in
+    let whole = no_line keys o c.args.number all w.text c.loop-line.ends.items c.loop-line.n c.loop-line.rest w.state (ap length c.in_default-next.ensures) inv.far in
     let is : c.stats.result ≡ stats_of w.state = c.stats.ensures.numbers ∙ ap (λ (x : Work g.row.K.Denot). stats_of x.state) c.shard-2.view_is in
     let text : i.text.items ≡ w.text = ap (λ (x : Work g.row.K.Denot). x.text) c.shard-2.view_is in
-    (λ j. record { texts = pieces (text j) 0 c.loop-line.ends.items; stats = is j }) ∙ whole ∙ answers-all keys o c.args.first c.args.lines.now c.args.number
+    (λ j. record { texts = pieces (text j) 0 c.loop-line.ends.items; stats = is j }) ∙ whole ∙ answers-all keys o c.args.first c.args.lines c.args.number
 
 pub returns-in_err-do_line-clause-err : goal.returns-in_err-do_line-clause-err
 returns-in_err-do_line-clause-err g c =
@@ -60,4 +61,4 @@ pub returns-clause-asked : goal.returns-clause-asked
 returns-clause-asked g c =
     let keys = keys_by g.K.PartialEq.eq g.K.CacheKey.word g.K.TraceKey.read g.K.TraceKey.shown in
     let passed : ℕ → Type 0 = λ m. g.G.Gate.answers c.args.gate.now m true in
-    c.loop-line.invariant.asked (none_left (belongs keys c.args.options.now c.args.number) passed c.loop-line.n c.loop-line.rest.now c.in_default-split_first.ensures.cases)
+    c.loop-line.invariant.asked (none_left (belongs keys c.args.options.now c.args.number) passed c.loop-line.n c.loop-line.rest (ap length c.in_default-next.ensures))

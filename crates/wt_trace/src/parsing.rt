@@ -1,0 +1,195 @@
+// The lines of a trace read on threads: each reads a piece of the bytes that ends with a line, and
+// the pieces are put together in their order. A thread doesn't know how many lines there are before
+// its piece, so a piece with a fault is read again, by the numbers of its lines.
+ghost use Rattle.std.specs.Prelude.{◌≡◌, ◌==◌, ◌+◌, ◌<◌, ◌≤◌, ℕ, [], ◌++◌, IfOk, IfSome, None, position, get_or, slice_set, drop, length, vec_len};
+ghost use Rattle.wt_trace.specs.Trace.{IsFaultless, lines_of, lines_of_all, trace_from};
+
+use crate::key::TraceKey;
+use crate::line::place_of;
+use crate::pieces::{Piece, Pieces};
+use crate::trace::{Lines, MOST_LINES, read_lines};
+use std::alloc::{AllocError, Global};
+use std::marker::Model;
+use std::thread;
+use std::thread::Threads;
+use wt_keys::NoMemory;
+
+// A piece of the bytes.
+#[derive(Drop)]
+struct Bytes<'a> {
+    bytes: &'a [u8],
+}
+
+impl<'a> Model for Bytes<'a> {
+    ghost use Rattle.std.specs.Prelude.{List, ℕ};
+
+    ghost Value = { List ℕ };
+
+    ghost view = { λ b. b.bytes.now };
+}
+
+// The t-th of the pieces.
+fn bytes_at<'a>(pieces: &[Bytes<'a>], t: usize) -> &'a [u8]
+    requires { t < length pieces.now }
+    ensures { result.now ≡ get_or pieces.now t [] }
+{
+    let piece = &pieces[t];
+    piece.bytes
+}
+
+// Where the first LF at or behind a place stands, from there.
+fn line_end(bytes: &[u8], from: usize) -> Option<usize>
+    requires { from ≤ length bytes.now }
+    ensures { result ≡ position (λ b. b == 10) (drop from bytes.now) }
+{
+    let (_, behind) = bytes.split_at(from);
+    place_of(behind, b'\n')
+}
+
+// The bytes up to the first LF at or behind a place, with it, and those behind it.
+fn cut_behind(bytes: &[u8], most: usize) -> (&[u8], &[u8])
+    ensures { lines_of result.0.now ++ lines_of result.1.now ≡ lines_of bytes.now }
+{
+    if bytes.len() <= most {
+        return (bytes, &[]);
+    }
+    match line_end(bytes, most) {
+        Some(at) => bytes.split_at(most + at + 1),
+        None => (bytes, &[]),
+    }
+}
+
+// So many pieces of the bytes.
+fn cut_up<'a>(alloc: Global, bytes: &'a [u8], count: usize) -> Result<Vec<Bytes<'a>>, AllocError>
+    requires { 0 < count }
+    ensures { IfOk result (λ pieces. lines_of_all pieces.items ≡ lines_of bytes.now) }
+{
+    let most = bytes.len() / count;
+    let mut out = Vec::new(alloc);
+    let mut rest = bytes;
+    for _t in 1..count {
+        let (piece, after) = cut_behind(rest, most);
+        out.push(Bytes { bytes: piece })?;
+        rest = after;
+    }
+    out.push(Bytes { bytes: rest })?;
+    Ok(out)
+}
+
+// The lines of a piece, if none is at fault and there is memory for them.
+fn read_piece<K: TraceKey>(alloc: Global, first: u64, bytes: &[u8]) -> Option<Piece<K>>
+    requires { first ≤ 1000001 }
+    ensures { IfSome result (IsFaultless (trace_from K.read first (lines_of bytes.now))) }
+{
+    let Ok(read) = read_lines::<K>(alloc, first, bytes) else {
+        return None;
+    };
+    let Lines { lines, verdict } = read;
+    if verdict.is_err() {
+        return None;
+    }
+    Some(Piece::new(lines))
+}
+
+// The lines of all pieces, each read as if it were the first.
+fn read_pieces<H: Threads + Sync, K: TraceKey>(
+    rt: &H,
+    alloc: Global,
+    first: u64,
+    pieces: &[Bytes<'_>],
+) -> Result<Vec<Option<Piece<K>>>, AllocError>
+    requires { first ≤ 1000001 }
+    ensures len { IfOk result (λ read. vec_len read ≡ length pieces.now) }
+    ensures each { IfOk result (λ read. (t : ℕ) → t < length pieces.now → IfSome (get_or read.items t None) (IsFaultless (trace_from K.read first (lines_of (get_or pieces.now t []))))) }
+{
+    thread::map_indices(
+        rt,
+        alloc,
+        pieces.len(),
+        &|t: usize| -> Option<Piece<K>>
+            requires { (first ≤ 1000001) × (t < length pieces.now) }
+            ensures { IfSome result (IsFaultless (trace_from K.read first (lines_of (get_or pieces.entry.now t [])))) }
+        { read_piece(alloc, first, bytes_at(pieces, t)) },
+    )
+}
+
+// The lines of a piece whose first line is line n, by what a thread read by other numbers.
+fn numbered<K: TraceKey>(
+    alloc: Global,
+    first: u64,
+    n: u64,
+    bytes: &[u8],
+    read: Option<Piece<K>>,
+) -> Result<Lines<K>, NoMemory>
+    requires n { n ≤ 1000001 }
+    requires sound { IfSome read (IsFaultless (trace_from K.read first (lines_of bytes.now))) }
+    ensures few { IfOk result (λ lines. n + length lines.lines.items ≤ 1000001) }
+    ensures lines { IfOk result (λ lines. lines.lines.items ≡ (trace_from K.read n (lines_of bytes.now)).lines) }
+    ensures verdict { IfOk result (λ lines. lines.verdict ≡ (trace_from K.read n (lines_of bytes.now)).verdict) }
+{
+    if let Some(piece) = read {
+        let lines = piece.into_lines();
+        if lines.len() as u64 <= MOST_LINES + 1 - n {
+            return Ok(Lines {
+                lines,
+                verdict: Ok(()),
+            });
+        }
+    }
+    read_lines(alloc, n, bytes)
+}
+
+// Takes what was read of the t-th piece.
+fn take_at<K: TraceKey>(read: &mut Vec<Option<Piece<K>>>, t: usize) -> Option<Piece<K>>
+    requires { t < vec_len read.old }
+    ensures taken { result ≡ get_or read.old.items t None }
+    ensures left { read.new.items ≡ slice_set read.old.items t None }
+{
+    read[t].take()
+}
+
+// The lines of all pieces up to the first fault, by what the threads read.
+fn put_together<K: TraceKey>(
+    alloc: Global,
+    first: u64,
+    pieces: &[Bytes<'_>],
+    read: Vec<Option<Piece<K>>>,
+) -> Result<Pieces<K>, NoMemory>
+    requires first { first ≤ 1000001 }
+    requires len { vec_len read ≡ length pieces.now }
+    requires each { (t : ℕ) → t < length pieces.now → IfSome (get_or read.items t None) (IsFaultless (trace_from K.read first (lines_of (get_or pieces.now t [])))) }
+    ensures few { IfOk result (λ all. first + length all.lines ≤ 1000001) }
+    ensures lines { IfOk result (λ all. all ≡ trace_from K.read first (lines_of_all pieces.now)) }
+{
+    let mut read = read;
+    let mut all = Pieces::new(alloc);
+    for t in 0..pieces.len() {
+        let n = first + all.len() as u64;
+        let own = take_at(&mut read, t);
+        let one = numbered(alloc, first, n, bytes_at(pieces, t), own)?;
+        all.push(one)?;
+        if all.verdict().is_err() {
+            return Ok(all);
+        }
+    }
+    Ok(all)
+}
+
+/// Reads the lines of the bytes, the first of which is line `first`, as `read_lines` does, on so
+/// many threads.
+pub fn read_on_threads<H: Threads + Sync, K: TraceKey>(
+    rt: &H,
+    alloc: Global,
+    first: u64,
+    bytes: &[u8],
+    threads: usize,
+) -> Result<Pieces<K>, NoMemory>
+    requires first { first ≤ 1000001 }
+    requires threads { 0 < threads }
+    ensures few { IfOk result (λ all. first + length all.lines ≤ 1000001) }
+    ensures lines { IfOk result (λ all. all ≡ trace_from K.read first (lines_of bytes.now)) }
+{
+    let pieces = cut_up(alloc, bytes, threads)?;
+    let read = read_pieces(rt, alloc, first, &pieces)?;
+    put_together(alloc, first, &pieces, read)
+}
