@@ -15,7 +15,7 @@ use wt_keys::{CacheKey, NoMemory};
 // the limits.
 #[derive(Drop)]
 pub(crate) struct Caches<K: CacheKey, V> {
-    // They never change.
+    // The limits, which never change.
     pub(crate) caps: Caps,
     pub(crate) window: LruCache<K, Held<V>>,
     pub(crate) probation: LruCache<K, Held<V>>,
