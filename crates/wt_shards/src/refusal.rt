@@ -13,6 +13,7 @@ use wt_keys::{CacheKey, Fault, Share};
 const MOST_STEPS: u64 = 1 << 60;
 
 // How many loads are open, where a step is left.
+#[inline]
 fn open_unless_spent<K: CacheKey, V: Share + Weighs>(core: &Core<K, V>) -> Result<usize, Fault>
     ensures allowed { IfOk result (λ rows. (spent core.now ≡ None)
         × (rows ≡ length core.now.flights.rows)) }
@@ -26,6 +27,7 @@ fn open_unless_spent<K: CacheKey, V: Share + Weighs>(core: &Core<K, V>) -> Resul
 }
 
 // How many loads are open after a seek that meets this, or the fault by which the state refuses it.
+#[inline]
 pub(crate) fn open_met<K: CacheKey, V: Share + Weighs>(
     core: &Core<K, V>,
     limit: u32,
@@ -60,6 +62,7 @@ pub(crate) fn open_met<K: CacheKey, V: Share + Weighs>(
 
 // How many loads are open after the call's step, or the fault by which the state refuses it, want
 // of memory aside.
+#[inline(always)]
 pub(crate) fn open_after<K: CacheKey, V: Share + Weighs>(
     core: &Core<K, V>,
     bound: u64,

@@ -27,6 +27,7 @@ impl<K: CacheKey, V: Share + Weighs + Answers<K>, S: ShardLedger, H: Ledger> Sha
     ghost use Rattle.wt_shards.specs.Audited.{IsAudited, IsCaughtUp, excess, load_at, load_of, moved, need, places, shard_step, still_open};
 
     // How many loads are open after a seek that meets this, or why the state refuses it.
+    #[inline]
     pub(crate) fn open_met(&self, key: K, now: u64, met: &Foreseen) -> Result<usize, Fault>
         requires { met.now ≡ foreseen_at K.eq key now self.now.core }
         ensures allowed { IfOk result (λ rows.
@@ -40,6 +41,8 @@ impl<K: CacheKey, V: Share + Weighs + Answers<K>, S: ShardLedger, H: Ledger> Sha
     }
 
     // Makes the call's step and records it; the landing is that of the load which the step opens.
+    // Inlined, so that what is decided of the call is decided for the one that its caller makes.
+    #[inline(always)]
     #[tactic(auto, using(crate::proofs::Told::told_none, crate::proofs::Loads::empty_takes_none))]
     pub(crate) fn make(
         &mut self,
