@@ -5,6 +5,7 @@ mod calls;
 mod late;
 mod leads;
 mod one_caller;
+mod refusals;
 mod shares;
 mod soak;
 mod stage;

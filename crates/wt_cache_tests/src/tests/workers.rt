@@ -29,15 +29,15 @@ fn works<N: Names, R: Wait>(rt: &R, alloc: Global, cache: &Cache<N>) -> Report {
     Ok((report.jobs, report.failed, report.removed))
 }
 
-// Closes the cache's line.
-fn close<N: Names, R: Wait>(rt: &R, cache: &Cache<N>) {
+/// Closes the cache's line.
+pub fn close<N: Names, R: Wait>(rt: &R, cache: &Cache<N>) {
     if let Some(line) = cache.line() {
         line.close(rt);
     }
 }
 
-// Posts a load: whether the line took it.
-fn posts<N: Names, R: Wait>(
+/// Posts a load: whether the line took it.
+pub fn posts<N: Names, R: Wait>(
     rt: &R,
     cache: &Cache<N>,
     lead: Lead<u64, Version>,

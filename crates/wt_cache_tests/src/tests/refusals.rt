@@ -1,0 +1,279 @@
+// Refused memory: a call that is refused changes nothing and goes well when it is tried again, and a
+// loaded value that can't be stored is answered all the same. At most one allocation is refused.
+ghost use Rattle.std.specs.Prelude.{◌≡◌};
+ghost use Rattle.wt_shards.specs.Opening.{AreBlanksOf};
+
+use crate::tests::calls::{Led, forget, get, invalidate, led, present, put};
+use crate::tests::stage::{Cache, Plain, Rules, Version, Way, config, new_marks};
+use crate::tests::workers::{close, posts};
+use std::alloc::Global;
+use std::marker::Brand;
+use std::process::Abort;
+use std::sync::Wait;
+use std::test::Fail;
+use wt_cache::{How, JobLine, LoadingCache};
+use wt_core::{Config, Notices, Stats};
+use wt_flights::{Outcome, Publish};
+use wt_keys::Fault;
+use wt_shards::{Blanks, Names, Of, Pass, Shards};
+
+// What is seen of a cache of one shard, and of the caller's pass.
+type Seen = (Stats, u64, u64);
+
+fn seen<N: Names, R: Wait>(rt: &R, cache: &Cache<N>, pass: &Pass<Of<N>>) -> Seen {
+    (cache.stats(rt), pass.steps(0), pass.hits(0))
+}
+
+// Gets a key, a second time where memory was refused: nothing had changed then.
+fn insist<N: Names, R: Wait + Abort>(
+    rt: &R,
+    alloc: Global,
+    cache: &Cache<N>,
+    pass: &mut Pass<Of<N>>,
+    key: u64,
+) -> Result<(How, u64), Fault> {
+    let before = seen(rt, cache, pass);
+    let mut got = get(rt, alloc, cache, pass, key, 0);
+    if got == Err(Fault::NoMemory) {
+        assert_eq!(rt; seen(rt, cache, pass), before);
+        got = get(rt, alloc, cache, pass, key, 0);
+    }
+    match got {
+        Ok((how, line, _step)) => Ok((how, line)),
+        Err(fault) => Err(fault),
+    }
+}
+
+// A call that loads nothing.
+#[derive(Clone, Copy, Debug)]
+enum Call {
+    Put,
+    Look,
+    Drop,
+    Forget,
+}
+
+// Makes the call: whether it found what it asks for.
+fn make<N: Names, R: Wait>(
+    rt: &R,
+    alloc: Global,
+    cache: &Cache<N>,
+    pass: &mut Pass<Of<N>>,
+    call: Call,
+    key: u64,
+) -> Result<bool, Fault> {
+    match call {
+        Call::Put => {
+            let _step = put(rt, alloc, cache, pass, Version { key, line: 7 }, 0)?;
+            Ok(true)
+        }
+        Call::Look => {
+            let (line, _step) = present(rt, alloc, cache, pass, key)?;
+            Ok(line == Some(7))
+        }
+        Call::Drop => invalidate(rt, alloc, cache, pass, key),
+        Call::Forget => forget(rt, alloc, cache, pass, key),
+    }
+}
+
+// The calls on keys 11 and 12, and what they find, once nothing is refused.
+fn calls() -> [(Call, u64, bool); 9] {
+    [
+        (Call::Look, 11, false),
+        (Call::Put, 11, true),
+        (Call::Put, 12, true),
+        (Call::Look, 11, true),
+        (Call::Look, 12, true),
+        (Call::Drop, 11, true),
+        (Call::Look, 11, false),
+        (Call::Forget, 12, false),
+        (Call::Drop, 12, true),
+    ]
+}
+
+// Makes the calls, each a second time where memory was refused: nothing had changed then.
+fn make_all<N: Names, R: Wait + Abort>(
+    rt: &R,
+    alloc: Global,
+    cache: &Cache<N>,
+    pass: &mut Pass<Of<N>>,
+) {
+    for (call, key, found) in calls() {
+        let before = seen(rt, cache, pass);
+        let mut told = make(rt, alloc, cache, pass, call, key);
+        if told == Err(Fault::NoMemory) {
+            assert_eq!(rt; seen(rt, cache, pass), before);
+            told = make(rt, alloc, cache, pass, call, key);
+        }
+        assert_eq!(rt; told, Ok(found), "{call:?} {key}");
+    }
+}
+
+// Gets a key until it is there: how many loads it took, each of which was answered.
+fn loads_of<N: Names, R: Wait + Abort>(
+    rt: &R,
+    alloc: Global,
+    cache: &Cache<N>,
+    pass: &mut Pass<Of<N>>,
+    key: u64,
+) -> u64 {
+    let before = cache.stats(rt).loads;
+    for loads in 0..3u64 {
+        let got = insist(rt, alloc, cache, pass, key);
+        if got == Ok((How::Hit, 0)) {
+            assert_eq!(rt; cache.stats(rt).loads, before.wrapping_add(loads));
+            return loads;
+        }
+        assert_eq!(rt; got, Ok((How::Loaded, 0)));
+    }
+    3
+}
+
+// The caller loads: a value that wasn't stored is loaded once more.
+fn loads_itself<N: Names, R: Wait + Abort>(
+    rt: &R,
+    alloc: Global,
+    cache: &Cache<N>,
+    pass: &mut Pass<Of<N>>,
+) {
+    for key in 3..9u64 {
+        let loads = loads_of(rt, alloc, cache, pass, key);
+        assert!(rt; loads == 1 || loads == 2);
+    }
+}
+
+// The caller joins a load whose outcome is told, and which isn't landed yet.
+fn shares<N: Names, R: Wait + Abort>(
+    rt: &R,
+    alloc: Global,
+    cache: &Cache<N>,
+    pass: &mut Pass<Of<N>>,
+    open: Led,
+) {
+    let Some((lead, _ticket)) = open else {
+        return;
+    };
+    let key = lead.key();
+    let told = lead.publish(Outcome::Value(Version { key, line: 5 }));
+    assert!(rt; matches!(told, Publish::Published(_)));
+    assert_eq!(rt; insist(rt, alloc, cache, pass, key), Ok((How::Joined, 5)));
+}
+
+// A worker's jobs, failures and removals; NoMemory where its own list of notices was refused.
+fn work<N: Names, R: Wait>(
+    rt: &R,
+    alloc: Global,
+    cache: &Cache<N>,
+    pass: &mut Pass<Of<N>>,
+) -> Result<(u64, u64, u64), Fault> {
+    let Some(line) = cache.line() else {
+        return Err(Fault::LineClosed);
+    };
+    let mut notices = Notices::new(alloc, cache.entries() as usize)?;
+    let mut hand = line.pass(rt)?;
+    let report = cache.run_worker(rt, pass, &mut hand, &mut notices);
+    Ok((report.jobs, report.failed, report.removed))
+}
+
+// A worker loads: its value is told, and loaded once more where it wasn't stored.
+fn works<N: Names, R: Wait + Abort>(
+    rt: &R,
+    alloc: Global,
+    cache: &Cache<N>,
+    pass: &mut Pass<Of<N>>,
+    open: Led,
+) {
+    let Some((lead, mut ticket)) = open else {
+        return;
+    };
+    let key = lead.key();
+    assert_eq!(rt; posts(rt, cache, lead), Ok(true));
+    close(rt, cache);
+    let mut report = work(rt, alloc, cache, pass);
+    if report == Err(Fault::NoMemory) {
+        report = work(rt, alloc, cache, pass);
+    }
+    assert_eq!(rt; report, Ok((1, 0, 0)));
+    let told = ticket.poll();
+    assert!(rt; matches!(told, Ok(Some(Outcome::Value(Version { line: 0, .. })))));
+    assert!(rt; loads_of(rt, alloc, cache, pass, key) < 2);
+}
+
+// Ends the cache: the steps and hits of the settled books. Settling takes no memory.
+fn settled<N: Names, R: Wait>(
+    rt: &R,
+    alloc: Global,
+    cache: Cache<N>,
+    pass: Pass<Of<N>>,
+) -> Result<Option<(u64, u64)>, Fault> {
+    let mut passes = match Vec::with_capacity(alloc, 1) {
+        Ok(passes) => passes,
+        Err(_) => Vec::with_capacity(alloc, 1)?,
+    };
+    passes.push(pass)?;
+    let totals = cache.finish().settle(rt, alloc, passes)?;
+    Ok(totals.of(0).map(|total| (total.steps, total.hits)))
+}
+
+// Plays on a cache of one shard, with a line that is closed before the caller loads, or without.
+fn played<N: Names, R: Wait + Abort>(
+    rt: &R,
+    alloc: Global,
+    blanks: Blanks,
+    config: &Config,
+    lined: bool,
+) -> Result<(), Fault>
+    requires layout { N.layout ≡ record { shards = 1; config = config.now } }
+    requires blanks { AreBlanksOf N.name blanks }
+{
+    let shards: Plain<N> = Shards::new(rt, alloc, blanks, config, 1)?;
+    let mut pass = shards.pass(rt, alloc)?;
+    let posted = led(rt, alloc, &shards, &mut pass, 1)?;
+    let told = led(rt, alloc, &shards, &mut pass, 2)?;
+    let line = if lined {
+        Some(JobLine::new(rt, alloc, 1)?)
+    } else {
+        None
+    };
+    let marks = new_marks(alloc)?;
+    let way = Way::Plain;
+    let cache: Cache<N> = LoadingCache::new(shards, Rules { way, marks }, line);
+    if lined {
+        works(rt, alloc, &cache, &mut pass, posted);
+    }
+    make_all(rt, alloc, &cache, &mut pass);
+    shares(rt, alloc, &cache, &mut pass, told);
+    loads_itself(rt, alloc, &cache, &mut pass);
+    let shown = Some((pass.steps(0), pass.hits(0)));
+    assert_eq!(rt; settled(rt, alloc, cache, pass), Ok(shown));
+    Ok(())
+}
+
+// The one place that names the ledgers of these caches.
+fn plays_at<R: Wait + Abort>(
+    rt: &R,
+    alloc: Global,
+    config: &Config,
+    lined: bool,
+) -> Result<(), Fault> {
+    played::<Brand, R>(rt, alloc, Blanks::new(), config, lined)
+}
+
+// Plays, a second time where memory was refused before there was a cache.
+fn plays<R: Wait + Abort>(rt: &R, alloc: Global, lined: bool) -> Result<(), Fault> {
+    let limits = Config {
+        ring: 4,
+        ..config(4, 3, None)
+    };
+    if plays_at(rt, alloc, &limits, lined) == Err(Fault::NoMemory) {
+        return plays_at(rt, alloc, &limits, lined);
+    }
+    Ok(())
+}
+
+#[test]
+fn a_get_that_is_refused_memory_changes_nothing(rt: HostRuntime) -> Result<(), Fail> {
+    plays(&rt, rt.alloc(), false)?;
+    plays(&rt, rt.alloc(), true)?;
+    Ok(())
+}
