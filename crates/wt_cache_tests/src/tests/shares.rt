@@ -1,4 +1,5 @@
-// A value whose share is refused.
+// Values of which one share is refused: who loads finds no place for the value and answers it all
+// the same, who asks is refused, and what is asked again goes well.
 ghost use Rattle.std.specs.Prelude.{◌≡◌};
 ghost use Rattle.wt_shards.specs.Opening.{AreBlanksOf};
 
@@ -6,19 +7,23 @@ use crate::tests::stage::config;
 use std::alloc::Global;
 use std::marker::{Brand, Model};
 use std::process::Abort;
-use std::sync::atomic::{AtomicBool, Ordering};
+use std::sync::atomic::{AtomicU64, Ordering};
 use std::sync::{Arc, Wait};
 use std::test::Fail;
-use wt_cache::{How, Loader, LoadingCache};
+use wt_cache::{How, JobLine, Loader, LoadingCache, WorkerReport};
 use wt_core::{Config, Notices, Weighs};
+use wt_flights::{Lead, Outcome, Ticket};
 use wt_keys::{Answers, Fault, NoMemory, Share};
-use wt_shards::{Blanks, Names, Of, Pass, Shards};
+use wt_shards::{Blanks, Names, Of, Pass, Shards, Sought};
 
-/// A value whose next share is refused where the mark is set.
+// Counts down with each share; the share that comes to 0 is refused.
+type Left = Arc<AtomicU64, Global>;
+
+/// A value that counts its shares.
 #[derive(Drop)]
 struct Scarce {
     key: u64,
-    refuses: Arc<AtomicBool, Global>,
+    left: Left,
 }
 
 /// Contracts see its key: a share that is made has the same one.
@@ -32,12 +37,12 @@ impl Model for Scarce {
 
 impl Share for Scarce {
     fn share(&self) -> Result<Scarce, NoMemory> {
-        if self.refuses.swap(false, Ordering::SeqCst) {
+        if self.left.fetch_sub(1, Ordering::SeqCst) == 1 {
             return Err(NoMemory);
         }
-        let refuses = Arc::try_clone(&self.refuses)?;
+        let left = Arc::try_clone(&self.left)?;
         let key = self.key;
-        Ok(Scarce { key, refuses })
+        Ok(Scarce { key, left })
     }
 }
 
@@ -62,63 +67,255 @@ impl Answers<u64> for Scarce {
 /// A loader of such values.
 #[derive(Drop)]
 struct Scarcely {
-    refuses: Arc<AtomicBool, Global>,
+    left: Left,
 }
 
 impl Loader<u64, Scarce> for Scarcely {
     fn load(&self, key: &u64) -> Result<Scarce, u32> {
-        let Ok(refuses) = Arc::try_clone(&self.refuses) else {
+        let Ok(left) = Arc::try_clone(&self.left) else {
             return Err(1);
         };
         let key = *key;
-        Ok(Scarce { key, refuses })
+        Ok(Scarce { key, left })
     }
 }
 
 /// A cache of such values.
 type Scarcity<N> = LoadingCache<u64, Scarce, Scarcely, Of<N>>;
 
-// How key 1 is got, and how many entries there are then.
+/// A load that is open, if there is one.
+type Open = Option<(Lead<u64, Scarce>, Ticket<u64, Scarce>)>;
+
+// Who asks for key 1.
+#[derive(Clone, Copy, Debug, PartialEq, Eq)]
+enum Who {
+    // A caller who finds nothing in the cache.
+    Caller,
+    // A caller who finds key 5 alone, whose place in the window the value takes.
+    Second,
+    // A caller who finds the value.
+    Hits,
+    // A caller who finds the value, and it is due.
+    Refreshes,
+    // A caller who joins a load whose outcome is told, and which isn't landed yet.
+    Sharer,
+    // A worker, of a cache that holds key 5.
+    Worker,
+}
+
+impl Who {
+    // The moment at which it asks: a value is due 50 ms after it was put.
+    fn moment(self) -> u64 {
+        if self == Who::Refreshes { 50 } else { 0 }
+    }
+}
+
+// Who asks, the share that is refused, what is answered then and when it is asked again; after each
+// of the two the misses, the loads and the entries.
+type Row = (Who, u64, Answer, [u64; 3], Answer, [u64; 3]);
+
+type Answer = Result<How, Fault>;
+
+// Where `How::Loaded` is a worker's, it reported one job without a failure, and its value was told.
+fn rows() -> [Row; 15] {
+    let refused = Err(Fault::NoMemory);
+    let (hit, loaded, joined) = (Ok(How::Hit), Ok(How::Loaded), Ok(How::Joined));
+    let refreshed = Ok(How::Refreshed);
+    [
+        // the value isn't stored; or it is, and its caller has none
+        (Who::Caller, 1, loaded, [1, 1, 0], loaded, [2, 2, 1]),
+        (Who::Caller, 2, refused, [1, 1, 1], hit, [1, 1, 1]),
+        (Who::Caller, 3, loaded, [1, 1, 1], hit, [1, 1, 1]),
+        // the second share is that of key 5, which has to move
+        (Who::Second, 1, loaded, [1, 1, 1], loaded, [2, 2, 2]),
+        (Who::Second, 2, loaded, [1, 1, 1], loaded, [2, 2, 2]),
+        (Who::Second, 3, refused, [1, 1, 2], hit, [1, 1, 2]),
+        // nothing has changed
+        (Who::Hits, 1, refused, [0, 0, 1], hit, [0, 0, 1]),
+        // nothing has changed; or the value that is there stays, and is due still
+        (Who::Refreshes, 1, refused, [0, 0, 1], refreshed, [0, 1, 1]),
+        (
+            Who::Refreshes,
+            2,
+            refreshed,
+            [0, 1, 1],
+            refreshed,
+            [0, 2, 1],
+        ),
+        (Who::Refreshes, 3, refreshed, [0, 1, 1], hit, [0, 1, 1]),
+        // the load was opened by a miss, and is joined by two
+        (Who::Sharer, 1, refused, [2, 0, 0], joined, [3, 0, 0]),
+        (Who::Sharer, 2, joined, [2, 0, 0], joined, [3, 0, 0]),
+        // the value isn't stored, and told all the same
+        (Who::Worker, 1, loaded, [1, 1, 1], loaded, [2, 2, 2]),
+        (Who::Worker, 2, loaded, [1, 1, 1], loaded, [2, 2, 2]),
+        (Who::Worker, 3, loaded, [1, 1, 2], hit, [1, 1, 2]),
+    ]
+}
+
+// Puts the value of a key.
+fn put<N: Names, R: Wait>(
+    rt: &R,
+    alloc: Global,
+    shards: &Shards<u64, Scarce, Of<N>>,
+    pass: &mut Pass<Of<N>>,
+    key: u64,
+    left: &Left,
+) -> Result<(), Fault> {
+    let mut notices = Notices::new(alloc, shards.entries() as usize)?;
+    let left = Arc::try_clone(left)?;
+    shards.put(rt, pass, key, Scarce { key, left }, 0, &mut notices)?;
+    Ok(())
+}
+
+// Opens a load of key 1.
+fn led<N: Names, R: Wait>(
+    rt: &R,
+    alloc: Global,
+    shards: &Shards<u64, Scarce, Of<N>>,
+    pass: &mut Pass<Of<N>>,
+) -> Result<Open, Fault> {
+    let mut notices = Notices::new(alloc, shards.entries() as usize)?;
+    let done = shards.seek(rt, pass, 1, 0, &mut notices)?;
+    match done.reply {
+        Sought::Lead(lead, ticket) => Ok(Some((lead, ticket))),
+        _ => Ok(None),
+    }
+}
+
+// What is there before anybody asks: the load of key 1 that is open.
+fn begin<N: Names, R: Wait>(
+    rt: &R,
+    alloc: Global,
+    shards: &Shards<u64, Scarce, Of<N>>,
+    pass: &mut Pass<Of<N>>,
+    who: Who,
+    left: &Left,
+) -> Result<Open, Fault> {
+    match who {
+        Who::Second | Who::Worker => put(rt, alloc, shards, pass, 5, left)?,
+        Who::Hits | Who::Refreshes => put(rt, alloc, shards, pass, 1, left)?,
+        Who::Caller | Who::Sharer => {}
+    }
+    match who {
+        Who::Sharer | Who::Worker => led(rt, alloc, shards, pass),
+        _ => Ok(None),
+    }
+}
+
+// How key 1 is got.
 fn gets<N: Names, R: Wait>(
     rt: &R,
     alloc: Global,
     cache: &Scarcity<N>,
     pass: &mut Pass<Of<N>>,
-) -> Result<(How, u64), Fault> {
+    now: u64,
+) -> Answer {
     let mut notices = Notices::new(alloc, 2 * cache.entries() as usize)?;
-    let got = cache.get(rt, pass, 1, 0, &mut notices)?;
-    Ok((got.how, cache.stats(rt).entries))
+    let got = cache.get(rt, pass, 1, now, &mut notices)?;
+    Ok(got.how)
 }
 
-// The first share of the run is refused: its value is answered and not stored.
-fn refused<N: Names, R: Wait + Abort>(
+// Tells the value of an open load, which stays open.
+fn tells(lead: Lead<u64, Scarce>, left: &Left) -> Result<(), Fault> {
+    let key = lead.key();
+    let left = Arc::try_clone(left)?;
+    let _told = lead.publish(Outcome::Value(Scarce { key, left }));
+    Ok(())
+}
+
+// A worker runs the load that is posted to the line, which is closed then: its ticket is told a
+// value.
+fn works<N: Names, R: Wait>(
     rt: &R,
     alloc: Global,
     cache: &Scarcity<N>,
     pass: &mut Pass<Of<N>>,
-) {
-    assert_eq!(rt; gets(rt, alloc, cache, pass), Ok((How::Loaded, 0)));
-    assert_eq!(rt; gets(rt, alloc, cache, pass), Ok((How::Loaded, 1)));
-    let stats = cache.stats(rt);
-    assert_eq!(rt; (stats.loads, stats.misses), (2, 2));
+    lead: Lead<u64, Scarce>,
+) -> Result<WorkerReport, Fault> {
+    let Some(line) = cache.line() else {
+        return Err(Fault::LineClosed);
+    };
+    let mut hand = line.pass(rt)?;
+    let mut notices = Notices::new(alloc, cache.entries() as usize)?;
+    let posted = line.post(rt, &mut hand, lead);
+    line.close(rt);
+    if posted.is_err() {
+        return Err(Fault::LineFull);
+    }
+    Ok(cache.run_worker(rt, pass, &mut hand, &mut notices))
 }
 
-// Plays on a cache of so many shards.
+// What comes of the first time that somebody asks.
+fn first<N: Names, R: Wait>(
+    rt: &R,
+    alloc: Global,
+    cache: &Scarcity<N>,
+    pass: &mut Pass<Of<N>>,
+    who: Who,
+    open: Open,
+    left: &Left,
+) -> Answer {
+    let Some((lead, mut ticket)) = open else {
+        return gets(rt, alloc, cache, pass, who.moment());
+    };
+    if who == Who::Sharer {
+        tells(lead, left)?;
+        return gets(rt, alloc, cache, pass, 0);
+    }
+    let report = works(rt, alloc, cache, pass, lead)?;
+    left.store(0, Ordering::SeqCst);
+    let told = matches!(ticket.poll(), Ok(Some(Outcome::Value(_))));
+    let one_job = WorkerReport {
+        jobs: 1,
+        failed: 0,
+        removed: 0,
+    };
+    if told && report == one_job {
+        Ok(How::Loaded)
+    } else {
+        Err(Fault::Mixed)
+    }
+}
+
+// Misses, loads and entries.
+fn numbers<N: Names, R: Wait>(rt: &R, cache: &Scarcity<N>) -> [u64; 3] {
+    let stats = cache.stats(rt);
+    [stats.misses, stats.loads, stats.entries]
+}
+
+// Plays a row on a cache of so many shards: keys 1 and 5 are of the last one.
 fn played<N: Names, R: Wait + Abort>(
     rt: &R,
     alloc: Global,
     blanks: Blanks,
     config: &Config,
     count: usize,
+    row: Row,
 ) -> Result<(), Fault>
     requires layout { N.layout ≡ record { shards = count; config = config.now } }
     requires blanks { AreBlanksOf N.name blanks }
 {
+    let (who, share, answer, made, answer_again, made_again) = row;
     let shards: Shards<u64, Scarce, Of<N>> = Shards::new(rt, alloc, blanks, config, count)?;
-    let refuses = Arc::new(alloc, AtomicBool::new(true))?;
-    let cache: Scarcity<N> = LoadingCache::new(shards, Scarcely { refuses }, None);
-    let mut pass = cache.pass(rt, alloc)?;
-    refused(rt, alloc, &cache, &mut pass);
+    let mut pass = shards.pass(rt, alloc)?;
+    let left: Left = Arc::new(alloc, AtomicU64::new(0))?;
+    let open = begin(rt, alloc, &shards, &mut pass, who, &left)?;
+    let line = if who == Who::Worker {
+        Some(JobLine::new(rt, alloc, 1)?)
+    } else {
+        None
+    };
+    let theirs = Arc::try_clone(&left)?;
+    let cache: Scarcity<N> = LoadingCache::new(shards, Scarcely { left: theirs }, line);
+    left.store(share, Ordering::SeqCst);
+    let got = first(rt, alloc, &cache, &mut pass, who, open, &left);
+    assert_eq!(rt; got, answer, "{who:?}, share {share}");
+    assert_eq!(rt; numbers(rt, &cache), made, "{who:?}, share {share}");
+    left.store(0, Ordering::SeqCst);
+    let again = gets(rt, alloc, &cache, &mut pass, who.moment());
+    assert_eq!(rt; again, answer_again, "{who:?}, share {share}");
+    assert_eq!(rt; numbers(rt, &cache), made_again, "{who:?}, share {share}");
     Ok(())
 }
 
@@ -128,14 +325,17 @@ fn plays_at<R: Wait + Abort>(
     alloc: Global,
     config: &Config,
     count: usize,
+    row: Row,
 ) -> Result<(), Fault> {
-    played::<Brand, R>(rt, alloc, Blanks::new(), config, count)
+    played::<Brand, R>(rt, alloc, Blanks::new(), config, count, row)
 }
 
 #[test]
 fn a_value_that_cannot_be_shared_is_not_stored(rt: HostRuntime) -> Result<(), Fail> {
     let config = config(4, 8, None);
-    plays_at(&rt, rt.alloc(), &config, 1)?;
-    plays_at(&rt, rt.alloc(), &config, 4)?;
+    for row in rows() {
+        plays_at(&rt, rt.alloc(), &config, 1, row)?;
+        plays_at(&rt, rt.alloc(), &config, 4, row)?;
+    }
     Ok(())
 }
