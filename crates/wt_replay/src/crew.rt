@@ -15,7 +15,7 @@ use wt_shards::{Names, Of, Pass};
 use wt_trace::{Gate, Line, TraceKey, Version};
 
 // How often is looked for a worker before the lines begin.
-const MOST_LOOKS: u32 = 1_000_000;
+const MOST_LOOKS: u32 = 10_000;
 
 /// What each thread handed back, or why it stopped.
 pub(crate) type Ran<B> = Vec<Result<Pass<B>, RunFault>>;
