@@ -3,7 +3,6 @@
 #![tactic(auto)]
 
 mod cache;
-mod caches;
 mod caps;
 mod held;
 mod kinds;
