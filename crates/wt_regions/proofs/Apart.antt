@@ -1,7 +1,6 @@
 -- Keys that stand once over several lists, and what promote gives by cases.
 use Rattle.std.proofs.Common.{◌≡◌, ℕ, suc, ◌-◌, ◌<◌, ◌≤◌, Bool, true, false, cond, List, [], ◌∷◌, ◌++◌, length, take, Option, Some, None, refl, sym, ap, subst, ◌∙◌, arith, rules}
-use Rattle.std.specs.Option.{option_map_or}
-use Rattle.std.specs.Map.{keys_of, lookup, lookup_entry, remove_entry}
+use Rattle.std.specs.Map.{keys_of, lookup, lookup_entry}
 use Rattle.std.specs.List.{IsDistinct, AllByRecursion, slice_get}
 use Rattle.std.specs.Prelude.{nat_lt, IsSome}
 use Rattle.std.specs.Cmp.{IsEquivalence}
@@ -105,18 +104,6 @@ module _ {K V : Type 0} (c : Caps) (e : Entry K V) (ps qs : List (Entry K V)) wh
   pub promote-full : (l : Entry K V) → protected_cap c ≤ length qs → last_entry qs ≡ Some l → promoted c e ps qs ≡ (l ∷ ps, front (e ∷ qs))
   promote-full l h is = let t : nat_lt (length qs) (protected_cap c) ≡ false = not_below (length qs) (protected_cap c) h in
       let there : last_entry (e ∷ qs) ≡ Some l = last_below e qs l is in rw (t, there)
-
--- the entry of k comes to a protected that is full: what is left is what a push of the last and two pops leave
-module _ {K V : Type 0} (eq : K → K → Bool) (m : Held V) (c : Caps) (k : K) (e l : Entry K V) (ps qs : List (Entry K V))
-    (at : lookup_entry (eq k) ps ≡ Some e) (full : protected_cap c ≤ length qs) (last : last_entry qs ≡ Some l) where
-  both : promoted c (e.0, m) (remove_entry (eq k) ps) qs ≡ (l ∷ remove_entry (eq k) ps, front ((e.0, m) ∷ qs))
-  both = promote-full c (e.0, m) (remove_entry (eq k) ps) qs l full last
-
-  pub promoted-0 : eq k l.0 ≡ false → remove_entry (eq k) (l ∷ ps) ≡ option_map_or (λ (e : Entry K V). (promoted c (e.0, m) (remove_entry (eq k) ps) qs).0) (lookup_entry (eq k) ps) ps
-  promoted-0 off = rw (at, off) (sym (ap (λ (p : List (Entry K V) × List (Entry K V)). p.0) both))
-
-  pub promoted-1 : front ((e.0, m) ∷ qs) ≡ option_map_or (λ (e : Entry K V). (promoted c (e.0, m) (remove_entry (eq k) ps) qs).1) (lookup_entry (eq k) ps) qs
-  promoted-1 = rw at (sym (ap (λ (p : List (Entry K V) × List (Entry K V)). p.1) both))
 
 there_at : {K X : Type 0} (test : K → Bool) (es : List (K × X)) (o : Option (K × X)) → lookup_entry test es ≡ o → IsSome (lookup test es) → (e : K × X) × (lookup_entry test es ≡ Some e)
 there_at test es None h s = let n = lookup_none-entry test es h in let s' = rw n at s in cc

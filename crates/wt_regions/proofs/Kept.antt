@@ -7,7 +7,7 @@ use Rattle.wt_regions.specs.declared.kinds.Caps.{Caps}
 use Rattle.wt_regions.specs.declared.kinds.Notice.{Notice}
 use Rattle.wt_regions.proofs.Moves.{lawful_of}
 use Rattle.wt_regions.proofs.Settled.{Light, by_recursion}
-use Rattle.wt_regions.proofs.Sound.{trimmed-placed}
+use Rattle.wt_regions.proofs.Sound.{trimmed-placed, trimmed-caps}
 use Rattle.wt_regions.proofs.Bound.{trimmed-bound}
 use Rattle.wt_regions.proofs.Loop.{appended-twice}
 use Rattle.wt_regions.proofs.Ready.{IsReady, placed-ready}
@@ -38,8 +38,12 @@ module _ {K V : Type 0} (eq : K → K → Bool) (laws : IsEquivalence eq) (weigh
   bounded : (z y : Lists K V) → z ≡ y → z.caps ≡ c → weight_of y ≤ c.bound → weight_of z ≤ z.caps.bound
   bounded z y e g l = rw g (subst (λ (x : Lists K V). weight_of x ≤ c.bound) (sym e) l)
 
-  pub kept-lawful : (m z : Lists K V) → m ≡ outcome.0 → z ≡ (trimmed eq k m).0 → z.caps ≡ c → IsLawful eq weigh z
-  kept-lawful m z is end same =
+  pub kept-caps : (m z : Lists K V) → m ≡ outcome.0 → z ≡ (trimmed eq k m).0 → z.caps ≡ c
+  kept-caps m z is end = rw end (trimmed-caps eq laws weigh k (length (all_entries m)) m ∙ rw is ready.caps)
+
+  pub kept-lawful : (m z : Lists K V) → m ≡ outcome.0 → z ≡ (trimmed eq k m).0 → IsLawful eq weigh z
+  kept-lawful m z is end =
+      let same = kept-caps m z is end in
       let pm : IsPlaced eq weigh m = rw is ready.placed in
       let cm : m.caps.bound ≡ c.bound = rw (is, ready.caps) in
       let lm : AllByRecursion (Light eq k c.bound) (all_entries m) = rw is (by_recursion (Light eq k c.bound) (all_entries outcome.0) ready.light) in

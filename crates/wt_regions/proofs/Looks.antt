@@ -1,18 +1,22 @@
 -- What a look finds, and what the use of it leaves.
 use Rattle.std.proofs.Common.{◌≡◌, ℕ, Bool, true, false, cond, List, ◌++◌, Option, Some, None, refl}
 use Rattle.std.specs.Option.{option_map_or, is_some}
-use Rattle.std.specs.Map.{lookup, lookup_entry, remove_entry}
+use Rattle.std.specs.Map.{lookup}
+use Rattle.std.specs.Prelude.{IsSome}
+use Rattle.std.specs.Cmp.{IsEquivalence}
 use Rattle.wt_regions.specs.declared.kinds.Caps.{Caps}
+use Rattle.wt_regions.specs.declared.kinds.Found.{Found}
 use Rattle.wt_regions.specs.declared.kinds.Found.TheVariants.{Hit, Absent, Stale as StaleFound}
 use Rattle.wt_regions.specs.declared.kinds.Held.{Held}
 use Rattle.wt_regions.specs.declared.touch.Seen.{Seen}
 use Rattle.wt_regions.specs.declared.touch.Seen.TheVariants.{InWindow, InProbation, InProtected, Nowhere, Stale}
-use Rattle.wt_regions.specs.Lists.{Entry, Lists, lists_of, held_for, found_at, has_at, is_expired, used}
-use Rattle.wt_regions.specs.Touch.{promoted, looked_at}
+use Rattle.wt_regions.specs.Lists.{Entry, Lists, lists_of, held_for, found_at, has_at, is_expired, used, weight_of}
+use Rattle.wt_regions.specs.Touch.{looked_at, touched, used_if}
+use Rattle.wt_regions.specs.Lawful.{IsLawful}
 use Rattle.wt_regions.specs.Moves.{in_front, seen_at}
-use Rattle.wt_regions.proofs.Moves.{lookup-append}
+use Rattle.wt_regions.proofs.Moves.{lookup-append, lookup_entry-none}
 use Rattle.wt_regions.proofs.Apart.{entry-from_lookup}
-use Rattle.wt_regions.proofs.Touches.{promoted-0, promoted-1, touched-window, touched-probation, touched-protected}
+use Rattle.wt_regions.proofs.Touches.{touched-window, touched-protected, touched-kept}
 
 module _ {K V : Type 0} (eq : K → K → Bool) (k : K) (now : ℕ) where
   -- an unexpired entry is a hit
@@ -36,20 +40,12 @@ module _ {K V : Type 0} (eq : K → K → Bool) (same : (a b : K) → eq a b ≡
   abbrev r : Lists K V
   r = lists_of c ws ps qs
 
-  -- probation and protected after the promotion of an entry that is held as m
-  abbrev pub moved-0 : Held V → List (Entry K V)
-  moved-0 m = option_map_or (λ (e : Entry K V). (promoted c (e.0, m) (remove_entry (eq k) ps) qs).0) (lookup_entry (eq k) ps) ps
-
-  abbrev pub moved-1 : Held V → List (Entry K V)
-  moved-1 m = option_map_or (λ (e : Entry K V). (promoted c (e.0, m) (remove_entry (eq k) ps) qs).1) (lookup_entry (eq k) ps) qs
-
   -- what follows from what a look saw
   abbrev pub IsLook : Seen V → Type 0
   IsLook (InWindow v) = (found_at eq k now r ≡ Hit v) × (looked_at eq k now r ≡ lists_of c (in_front eq k (used now) ws) ps qs)
   IsLook (InProbation v m) = (found_at eq k now r ≡ Hit v)
-      × (looked_at eq k now r ≡ lists_of c ws (promoted-0 eq k (used now) c ps qs) (promoted-1 eq k (used now) c ps qs))
-      × (moved-0 m ≡ promoted-0 eq k (used now) c ps qs)
-      × (moved-1 m ≡ promoted-1 eq k (used now) c ps qs)
+      × (looked_at eq k now r ≡ touched eq k (λ _. m) r)
+      × (lookup (eq k) ws ≡ None) × IsSome (lookup (eq k) ps)
   IsLook (InProtected v) = (found_at eq k now r ≡ Hit v) × (looked_at eq k now r ≡ lists_of c ws ps (in_front eq k (used now) qs))
   IsLook Nowhere = (found_at eq k now r ≡ Absent) × (looked_at eq k now r ≡ r)
   IsLook Stale = (found_at eq k now r ≡ StaleFound) × (looked_at eq k now r ≡ r)
@@ -70,7 +66,7 @@ module _ {K V : Type 0} (eq : K → K → Bool) (same : (a b : K) → eq a b ≡
       let is = held-probation eq k now c ws ps qs h nw at in
       let there : is_some (lookup (eq k) ps) ≡ true = rw at refl in
       let entry = entry-from_lookup eq same k ps h at in
-      (rw (is, e) refl, rw (is, e) (touched-probation eq k (used now) c ws ps qs nw there), rw entry refl, rw entry refl)
+      (rw (is, e) refl, rw (is, e, lookup_entry-none (eq k) ws nw, entry) refl, nw, there)
 
   protected_if : (h : Held V) (b : Bool) → lookup (eq k) ws ≡ None → lookup (eq k) ps ≡ None → lookup (eq k) qs ≡ Some h → is_expired c now h ≡ b → IsLook (cond b Stale (InProtected h.value))
   protected_if h true nw np at e = stale h (held-protected eq k now c ws ps qs h nw np at) e
@@ -89,3 +85,16 @@ module _ {K V : Type 0} (eq : K → K → Bool) (same : (a b : K) → eq a b ≡
 
   pub look-is : IsLook (seen_at eq k now r)
   look-is = look_at (lookup (eq k) ws) (lookup (eq k) ps) (lookup (eq k) qs) refl refl refl
+
+-- a look keeps the regions lawful and their weight
+module _ {K V : Type 0} (eq : K → K → Bool) (laws : IsEquivalence eq) (weigh : V → ℕ) (k : K) (now : ℕ) where
+  abbrev pub Keeps : Lists K V → Lists K V → Type 0
+  Keeps r s = IsLawful eq weigh s × (weight_of s ≡ weight_of r)
+
+  used-kept : (g : Found V) (r : Lists K V) → IsLawful eq weigh r → Keeps r (used_if eq k now g r)
+  used-kept (Hit v) r law = touched-kept eq k (used now) laws weigh (λ e. refl) r law
+  used-kept Absent r law = (law, refl)
+  used-kept StaleFound r law = (law, refl)
+
+  pub looked-kept : (r : Lists K V) → IsLawful eq weigh r → Keeps r (looked_at eq k now r)
+  looked-kept r law = used-kept (found_at eq k now r) r law

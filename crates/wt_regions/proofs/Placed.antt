@@ -13,7 +13,7 @@ use Rattle.wt_regions.proofs.Moves.{lookup-append, lookup_entry-none, IsPermutat
 use Rattle.wt_regions.proofs.Apart.{apart, distinct_after, entry-from_lookup}
 use Rattle.wt_regions.proofs.Settled.{fresh_parts}
 use Rattle.wt_regions.proofs.Weights.{weight-is}
-use Rattle.wt_regions.proofs.Touches.{promoted-0, promoted-1, brought}
+use Rattle.wt_regions.proofs.Touches.{brought}
 use Rattle.wt_regions.proofs.Cut.{where-w, where-p, where-q, remove-none}
 use Rattle.wt_regions.proofs.Past.{past-any, in_by}
 use Rattle.wt_regions.proofs.Ready.{replaced-weight}
@@ -81,22 +81,19 @@ module _ {K V : Type 0} (eq : K → K → Bool) (laws : IsEquivalence eq) (same 
     whole-p : lookup (eq k) (ws ++ (ps ++ qs)) ≡ Some g
     whole-p = rw (lookup-append (eq k) ws (ps ++ qs), off, lookup-append (eq k) ps qs, at)
 
-    touched-p : touched eq k (λ _. h) r ≡ lists_of c ws (promoted-0 eq k (λ _. h) c ps qs) (promoted-1 eq k (λ _. h) c ps qs)
-    touched-p = rw (lookup_entry-none (eq k) ws off, entry-p)
-
     probation_by : is_expired c now g ≡ false → outcome ≡ (touched eq k (λ _. h) r, notice Replaced (k, g) ∷ [])
     probation_by is = rw (whole-p, is)
 
-    pub probation-lists : is_expired c now g ≡ false → lists_of c ws (promoted-0 eq k (λ _. h) c ps qs) (promoted-1 eq k (λ _. h) c ps qs) ≡ outcome.0
-    probation-lists is = sym touched-p ∙ sym (ap (λ (p : Lists K V × List (Notice K V)). p.0) (probation_by is))
+    pub probation-lists : is_expired c now g ≡ false → touched eq k (λ _. h) r ≡ outcome.0
+    probation-lists is = sym (ap (λ (p : Lists K V × List (Notice K V)). p.0) (probation_by is))
 
     pub probation-told : is_expired c now g ≡ false → (notice Replaced (k, g) ∷ []) ≡ outcome.1
     probation-told is = sym (ap (λ (p : Lists K V × List (Notice K V)). p.1) (probation_by is))
 
-    pub probation-weight : weight_of (lists_of c ws (promoted-0 eq k (λ _. h) c ps qs) (promoted-1 eq k (λ _. h) c ps qs)) + g.weight ≡ weight_of r + h.weight
+    pub probation-weight : weight_of (touched eq k (λ _. h) r) + g.weight ≡ weight_of r + h.weight
     probation-weight =
         let w = replaced-weight eq laws weigh k 0 h c ws ps qs (k, g) law (where-p eq laws k ws ps qs (k, g) off entry-p off-p) in
-        weighed (touched eq k (λ _. h) r) (lists_of c ws (promoted-0 eq k (λ _. h) c ps qs) (promoted-1 eq k (λ _. h) c ps qs)) g.weight touched-p w
+        weighed (touched eq k (λ _. h) r) (touched eq k (λ _. h) r) g.weight refl w
 
   -- ---- in protected
   module _ (off : lookup (eq k) ws ≡ None) (offp : lookup (eq k) ps ≡ None) (g : Held V) (at : lookup (eq k) qs ≡ Some g) where

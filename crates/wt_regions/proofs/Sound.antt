@@ -1,5 +1,5 @@
 -- Keys that stand once and weights that are right, through a new entry and through one that leaves.
-use Rattle.std.proofs.Common.{◌≡◌, ℕ, zero, suc, ◌≤◌, Bool, true, false, cond, not, List, [], ◌∷◌, ◌++◌, length, Option, Some, None, refl, subst, arith}
+use Rattle.std.proofs.Common.{◌≡◌, ℕ, zero, suc, ◌≤◌, Bool, true, false, cond, not, List, [], ◌∷◌, ◌++◌, length, Option, Some, None, refl, subst, ◌∙◌, arith}
 use Rattle.std.specs.Prelude.{nat_le, All}
 use Rattle.std.specs.Option.{option_map_or}
 use Rattle.std.specs.List.{IsDistinct, AllByRecursion, list_any}
@@ -15,7 +15,7 @@ use Rattle.wt_regions.specs.declared.kinds.Caps.{Caps}
 use Rattle.wt_regions.specs.declared.kinds.Notice.{Notice}
 use Rattle.wt_regions.proofs.Moves.{IsPermutation-last}
 use Rattle.wt_regions.proofs.Apart.{no_last}
-use Rattle.wt_regions.proofs.Loop.{out_one}
+use Rattle.wt_regions.proofs.Loop.{one_less, out_one}
 use Rattle.wt_regions.specs.declared.kinds.Cause.TheVariants.{Size}
 use Rattle.wt_regions.specs.Lists.{Entry, Lists, all_entries, front, lists_of, weight_of}
 use Rattle.wt_regions.specs.Settle.{holds_other, last_told, trimmed_once, trimmed_within}
@@ -106,6 +106,17 @@ module _ {K V : Type 0} (eq : K → K → Bool) (laws : IsEquivalence eq) (weigh
     pub trimmed-placed : (n : ℕ) (r : Lists K V) → IsPlaced eq weigh r → IsPlaced eq weigh (trimmed_within eq k n r).0
     trimmed-placed zero r law = law
     trimmed-placed (suc n) r law = trimmed-placed_at n r (nat_le (weight_of r) r.caps.bound) (trimmed_once eq k r) refl law (trimmed-placed n)
+
+    -- and the limits
+    trimmed-caps_at : (n : ℕ) (r : Lists K V) (b : Bool) (o : Option (Lists K V × List (Notice K V))) → trimmed_once eq k r ≡ o
+        → ((s : Lists K V) → (trimmed_within eq k n s).0.caps ≡ s.caps) → (turned n r b o).0.caps ≡ r.caps
+    trimmed-caps_at n r true o h more = refl
+    trimmed-caps_at n r false None h more = refl
+    trimmed-caps_at n r false (Some one) h more = more one.0 ∙ (one_less eq k r one h).2
+
+    pub trimmed-caps : (n : ℕ) (r : Lists K V) → (trimmed_within eq k n r).0.caps ≡ r.caps
+    trimmed-caps zero r = refl
+    trimmed-caps (suc n) r = trimmed-caps_at n r (nat_le (weight_of r) r.caps.bound) (trimmed_once eq k r) refl (trimmed-caps n)
 
 pub empty-lawful : {K V : Type 0} (eq : K → K → Bool) (weigh : V → ℕ) (c : Caps) → IsFit c → IsLawful eq weigh (lists_of {K = K} {V = V} c [] [] [])
 unfolding IsDistinct

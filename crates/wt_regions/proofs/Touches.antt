@@ -10,7 +10,7 @@ use Rattle.wt_regions.specs.declared.kinds.Held.{Held}
 use Rattle.wt_regions.specs.declared.kinds.Caps.{Caps}
 use Rattle.wt_regions.proofs.Moves.{bare, Moves, bring-moves, moves-left, moves-right, promote-brings, moves-length, lawful-moves, lookup_none-entry, lookup_entry-none, moves-refl, promoted_so}
 use Rattle.wt_regions.proofs.Apart.{room_for, no_last_none}
-use Rattle.wt_regions.specs.Lists.{Entry, lists_of, main_cap, protected_cap, weight_of}
+use Rattle.wt_regions.specs.Lists.{Entry, Lists, lists_of, main_cap, protected_cap, weight_of}
 use Rattle.wt_regions.specs.Touch.{promoted, touched}
 use Rattle.wt_regions.specs.Lawful.{IsLawful}
 
@@ -82,7 +82,7 @@ module _ {K V : Type 0} (eq : K → K → Bool) (k : K) (f : Held V → Held V) 
     promoted-fits_at c ps qs None h = h
     promoted-fits_at c ps qs (Some e) h = promote-fits_at c (e.0, f e.1) (remove_entry (eq k) ps) qs (nat_lt (length qs) (protected_cap c)) refl (last_entry ((e.0, f e.1) ∷ qs)) refl h
 
-    pub probation-lawful : (c : Caps) (ws ps qs : List (Entry K V)) → IsLawful eq weigh (lists_of c ws ps qs)
+    probation-lawful : (c : Caps) (ws ps qs : List (Entry K V)) → IsLawful eq weigh (lists_of c ws ps qs)
         → IsLawful eq weigh (lists_of c ws (promoted-0 c ps qs) (promoted-1 c ps qs)) × (weight_of (lists_of c ws (promoted-0 c ps qs) (promoted-1 c ps qs)) ≡ weight_of (lists_of c ws ps qs))
     probation-lawful c ws ps qs law =
         let m = promoted-moves c ps qs in
@@ -93,7 +93,7 @@ module _ {K V : Type 0} (eq : K → K → Bool) (k : K) (f : Held V → Held V) 
         law.window (promoted-fits_at c ps qs (lookup_entry (eq k) ps) law.protected)
         (subst (λ n. n ≤ main_cap c) (sym both) law.main_part) law
 
-    pub window-lawful : (c : Caps) (ws ps qs : List (Entry K V)) → IsLawful eq weigh (lists_of c ws ps qs)
+    window-lawful : (c : Caps) (ws ps qs : List (Entry K V)) → IsLawful eq weigh (lists_of c ws ps qs)
         → IsLawful eq weigh (lists_of c (brought ws) ps qs) × (weight_of (lists_of c (brought ws) ps qs) ≡ weight_of (lists_of c ws ps qs))
     window-lawful c ws ps qs law =
         let m : Moves ws (brought ws) = brought-moves ws in
@@ -102,7 +102,7 @@ module _ {K V : Type 0} (eq : K → K → Bool) (k : K) (f : Held V → Held V) 
         (moves-left eq k f keeps (ps ++ qs) ws (brought ws) m)
         (rw n law.window) law.protected law.main_part law
 
-    pub protected-lawful : (c : Caps) (ws ps qs : List (Entry K V)) → IsLawful eq weigh (lists_of c ws ps qs)
+    protected-lawful : (c : Caps) (ws ps qs : List (Entry K V)) → IsLawful eq weigh (lists_of c ws ps qs)
         → IsLawful eq weigh (lists_of c ws ps (brought qs)) × (weight_of (lists_of c ws ps (brought qs)) ≡ weight_of (lists_of c ws ps qs))
     protected-lawful c ws ps qs law =
         let m : Moves qs (brought qs) = brought-moves qs in
@@ -110,6 +110,25 @@ module _ {K V : Type 0} (eq : K → K → Bool) (k : K) (f : Held V → Held V) 
         lawful-moves eq weigh laws (lists_of c ws ps qs) (lists_of c ws ps (brought qs)) refl
         (moves-right eq k f keeps ws (ps ++ qs) (ps ++ brought qs) (moves-right eq k f keeps ps qs (brought qs) m))
         law.window (rw n law.protected) (rw n law.main_part) law
+
+    -- what a touch keeps, wherever the entry is
+    abbrev pub IsKept : Lists K V → Lists K V → Type 0
+    IsKept r s = IsLawful eq weigh s × (weight_of s ≡ weight_of r)
+
+    touched-kept_at : (c : Caps) (ws ps qs : List (Entry K V)) (ow op : Option (Held V)) → lookup (eq k) ws ≡ ow → lookup (eq k) ps ≡ op → IsLawful eq weigh (lists_of c ws ps qs)
+        → IsKept (lists_of c ws ps qs) (touched eq k f (lists_of c ws ps qs))
+    touched-kept_at c ws ps qs (Some h) op iw ip law =
+        let l = window-lawful c ws ps qs law in
+        subst (IsKept (lists_of c ws ps qs)) (sym (touched-window c ws ps qs (rw iw refl))) l
+    touched-kept_at c ws ps qs None (Some h) iw ip law =
+        let l = probation-lawful c ws ps qs law in
+        subst (IsKept (lists_of c ws ps qs)) (sym (touched-probation c ws ps qs iw (rw ip refl))) l
+    touched-kept_at c ws ps qs None None iw ip law =
+        let l = protected-lawful c ws ps qs law in
+        subst (IsKept (lists_of c ws ps qs)) (sym (touched-protected c ws ps qs iw ip)) l
+
+    pub touched-kept : (r : Lists K V) → IsLawful eq weigh r → IsKept r (touched eq k f r)
+    touched-kept r law = touched-kept_at r.caps r.window r.probation r.protected (lookup (eq k) r.window) (lookup (eq k) r.probation) refl refl law
 
 -- `put` at a key that is there
 put-there_at : {K V : Type 0} (eq : K → K → Bool) (c : LruCache K (Held V)) (k : K) (v : Held V) (o : Option (Entry K V)) → lookup_entry (eq k) c.entries ≡ o → is_some (lookup (eq k) c.entries) ≡ true

@@ -3,6 +3,7 @@
 #![tactic(auto)]
 
 mod cache;
+mod caches;
 mod caps;
 mod held;
 mod kinds;

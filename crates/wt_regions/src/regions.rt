@@ -1,4 +1,4 @@
-// The three regions, each an `LruCache` with the most recent entry first, and their running weight.
+// The three regions and their running weight, with what callers see of them.
 ghost use Rattle.std.specs.Prelude.{◌≡◌, ◌≤◌, false, IfOk, IfErr, OnOk, OnErr, IsOk, IsOkUnless, MatchOption};
 ghost use Rattle.wt_keys.specs.declared.fault.Fault.{Fault};
 ghost use Rattle.wt_keys.specs.declared.fault.Fault.TheVariants as fault;
@@ -11,15 +11,10 @@ ghost use Rattle.wt_regions.specs.Touch.{looked_at};
 
 mod reads;
 
-use crate::cache::{empty_cache, freshen};
+use crate::caches::Caches;
 use crate::kinds::{Caps, Cause, Found, Held, Notice};
 use crate::notices::Notices;
-use crate::place::place;
-use crate::sweep::{clean_in, clear_in, take_out};
-use crate::touch::{Seen, look, promote};
-use crate::trim::trim;
 use crate::weighs::Weighs;
-use lru::LruCache;
 use std::alloc::Global;
 use std::marker::Model;
 use wt_keys::{CacheKey, Fault, NoMemory, Share};
@@ -36,29 +31,21 @@ use wt_sketch::Sketch;
 /// caller's, in milliseconds; no call keeps one but in the entry that it writes or uses.
 #[derive(Drop)]
 pub struct Regions<K: CacheKey, V: Share + Weighs> {
-    caps: Caps,
-    window: LruCache<K, Held<V>>,
-    probation: LruCache<K, Held<V>>,
-    protected: LruCache<K, Held<V>>,
-    // What all entries weigh together; at most `caps.bound` between calls.
+    caches: Caches<K, V>,
+    // What all entries weigh together; at most the bound between calls.
     weight: u64,
 }
 
 impl<K: CacheKey, V: Share + Weighs> Model for Regions<K, V> {
-    ghost use Rattle.std.specs.Prelude.{◌≡◌, ◌+◌};
+    ghost use Rattle.std.specs.Prelude.{◌≡◌};
     ghost use Rattle.wt_regions.specs.Lawful.{IsLawful};
-    ghost use Rattle.wt_regions.specs.Lists.{Lists, main_cap, protected_cap, weight_of};
-    ghost use Rattle.wt_regions.specs.Moves.{in_caches};
+    ghost use Rattle.wt_regions.specs.Lists.{Lists, weight_of};
 
     ghost Value = { Lists K V };
 
-    ghost view = { λ r. in_caches r.caps r.window r.probation r.protected };
+    ghost view = { λ r. r.caches };
 
-    ghost invariant = { λ r. IsLawful K.eq V.weight (in_caches r.caps r.window r.probation r.protected)
-        × (r.weight ≡ weight_of (in_caches r.caps r.window r.probation r.protected))
-        × (r.window.cap ≡ r.caps.window + 1)
-        × (r.probation.cap ≡ main_cap r.caps + 1)
-        × (r.protected.cap ≡ protected_cap r.caps + 1) };
+    ghost invariant = { λ r. IsLawful K.eq V.weight r.caches × (r.weight ≡ weight_of r.caches) };
 }
 
 impl<K: CacheKey, V: Share + Weighs> Regions<K, V> {
@@ -76,16 +63,8 @@ impl<K: CacheKey, V: Share + Weighs> Regions<K, V> {
         if let Some(field) = caps.fault() {
             return Err(Fault::BadConfig { field });
         }
-        let window = empty_cache(alloc, caps.window as usize)?;
-        let probation = empty_cache(alloc, caps.main_cap())?;
-        let protected = empty_cache(alloc, caps.protected_cap())?;
-        Ok(Regions {
-            caps: *caps,
-            window,
-            probation,
-            protected,
-            weight: 0,
-        })
+        let caches = Caches::new(alloc, caps)?;
+        Ok(Regions { caches, weight: 0 })
     }
 
     /// Looks the key up at the moment `now`. A hit is used: it goes to the front of its region, or
@@ -102,24 +81,7 @@ impl<K: CacheKey, V: Share + Weighs> Regions<K, V> {
         ensures miss_succeeds { has_at K.eq key now self.old ≡ false → IsOk result }
         ensures err { OnErr result (self.new ≡ self.old) }
     {
-        let (caps, window) = (&self.caps, &self.window);
-        match look(caps, window, &self.probation, &self.protected, key, now)? {
-            Seen::InWindow(value) => {
-                freshen(&mut self.window, key, now);
-                Ok(Found::Hit(value))
-            }
-            Seen::InProbation(value, moved) => {
-                let (probation, protected) = (&mut self.probation, &mut self.protected);
-                drop(promote(&self.caps, probation, protected, key, moved)?);
-                Ok(Found::Hit(value))
-            }
-            Seen::InProtected(value) => {
-                freshen(&mut self.protected, key, now);
-                Ok(Found::Hit(value))
-            }
-            Seen::Nowhere => Ok(Found::Absent),
-            Seen::Stale => Ok(Found::Stale),
-        }
+        Ok(self.caches.get(key, now)?)
     }
 
     /// Stores the value under the key, at the moment `now` and by the step of number `stamp`.
@@ -158,11 +120,9 @@ impl<K: CacheKey, V: Share + Weighs> Regions<K, V> {
         ensures err { OnErr result ((self.new ≡ self.old) × (notices.new ≡ notices.old)) }
     {
         let weight = value.weight();
-        if weight as u64 > self.caps.bound {
-            return Err(Fault::TooHeavy {
-                weight,
-                bound: self.caps.bound,
-            });
+        let bound = self.caches.caps.bound;
+        if weight as u64 > bound {
+            return Err(Fault::TooHeavy { weight, bound });
         }
         let held = Held {
             value,
@@ -172,27 +132,9 @@ impl<K: CacheKey, V: Share + Weighs> Regions<K, V> {
             accessed: now,
         };
         let heavier = self.weight + weight as u64;
-        match place(
-            &self.caps,
-            &mut self.window,
-            &mut self.probation,
-            &mut self.protected,
-            key,
-            held,
-            sketch,
-            now,
-            notices,
-        ) {
+        match self.caches.place(key, held, sketch, notices) {
             Ok(gone) => {
-                self.weight = trim(
-                    &self.caps,
-                    &mut self.window,
-                    &mut self.probation,
-                    &mut self.protected,
-                    key,
-                    heavier - gone,
-                    notices,
-                );
+                self.weight = self.caches.trim(key, heavier - gone, notices);
                 Ok(())
             }
             Err(_) => Err(Fault::NoMemory),
@@ -209,15 +151,11 @@ impl<K: CacheKey, V: Share + Weighs> Regions<K, V> {
         ensures state { self.new ≡ (removed K.eq key now self.old).0 }
         ensures notices { notices.new ≡ appended (removed K.eq key now self.old).1 notices.old }
     {
-        match take_out(
-            &mut self.window,
-            &mut self.probation,
-            &mut self.protected,
-            key,
-        ) {
+        let caps = self.caches.caps;
+        match self.caches.take_out(key) {
             Some(held) => {
-                let cause = self.caps.cause_of(now, &held, Cause::Explicit);
-                let left = !self.caps.is_expired(now, &held);
+                let cause = caps.cause_of(now, &held, Cause::Explicit);
+                let left = !caps.is_expired(now, &held);
                 self.weight -= held.weight as u64;
                 notices.tell(Notice {
                     key,
@@ -239,9 +177,7 @@ impl<K: CacheKey, V: Share + Weighs> Regions<K, V> {
         ensures state { self.new ≡ (cleaned now self.old).0 }
         ensures notices { notices.new ≡ appended (cleaned now self.old).1 notices.old }
     {
-        let weight = clean_in(&self.caps, &mut self.window, now, self.weight, notices);
-        let weight = clean_in(&self.caps, &mut self.probation, now, weight, notices);
-        self.weight = clean_in(&self.caps, &mut self.protected, now, weight, notices);
+        self.weight = self.caches.clean(now, self.weight, notices);
     }
 
     /// Takes every entry out: window, probation, protected, each from last to first.
@@ -253,9 +189,7 @@ impl<K: CacheKey, V: Share + Weighs> Regions<K, V> {
         ensures state { self.new ≡ (cleared now self.old).0 }
         ensures notices { notices.new ≡ appended (cleared now self.old).1 notices.old }
     {
-        clear_in(&self.caps, &mut self.window, now, notices);
-        clear_in(&self.caps, &mut self.probation, now, notices);
-        clear_in(&self.caps, &mut self.protected, now, notices);
+        self.caches.clear(now, notices);
         self.weight = 0;
     }
 }

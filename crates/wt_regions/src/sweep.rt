@@ -1,44 +1,22 @@
 // Entries that leave without a new one: one key's, the expired ones, all. None of it takes memory.
-ghost use Rattle.std.specs.Prelude.{◌≡◌, ◌+◌, ◌≤◌, ◌++◌, [], length};
-ghost use Rattle.std.specs.Map.{lookup, remove_entry};
+ghost use Rattle.std.specs.Prelude.{◌≡◌, ◌+◌, ◌≤◌, [], length};
 ghost use Rattle.lru.specs.LruCache.{lru_cache};
-ghost use Rattle.wt_regions.specs.Lists.{weights};
+ghost use Rattle.wt_regions.specs.Lists.{cut, held_for, weight_of, weights};
+ghost use Rattle.wt_regions.specs.Moves.{IsPlaced};
 ghost use Rattle.wt_regions.specs.Notices.{appended};
-ghost use Rattle.wt_regions.specs.Steps.{expired_of, live_of, told_back};
+ghost use Rattle.wt_regions.specs.Steps.{cleaned, cleared, expired_of, live_of, told_back};
 
+use crate::caches::Caches;
 use crate::kinds::{Caps, Cause, Held};
 use crate::notices::{Notices, tell_left};
-use crate::place::take_below;
+use crate::weighs::Weighs;
 use lru::LruCache;
-use wt_keys::CacheKey;
-
-// Takes what is held for the key out of its region.
-pub(crate) fn take_out<K: CacheKey, V: Drop>(
-    window: &mut LruCache<K, Held<V>>,
-    probation: &mut LruCache<K, Held<V>>,
-    protected: &mut LruCache<K, Held<V>>,
-    key: K,
-) -> Option<Held<V>>
-    ensures held { result ≡ lookup (K.eq key)
-        (window.old.entries ++ (probation.old.entries ++ protected.old.entries)) }
-    ensures window { window.new ≡ lru_cache (remove_entry (K.eq key) window.old.entries) window.old.cap }
-    ensures probation { probation.new
-        ≡ lru_cache (remove_entry (K.eq key) probation.old.entries) probation.old.cap }
-    ensures protected { protected.new
-        ≡ lru_cache (remove_entry (K.eq key) protected.old.entries) protected.old.cap }
-{
-    let first = window.pop(&key);
-    let second = take_below(probation, protected, key);
-    match first {
-        Some(held) => Some(held),
-        None => second,
-    }
-}
+use wt_keys::{CacheKey, Share};
 
 // Every expired entry of the region leaves, from last to first. Of the weight before it answers
 // what is left. It looks at the last once for each entry: one that stays comes to the front, so
 // that all have their old order again after the last turn.
-pub(crate) fn clean_in<K: CacheKey, V: Drop>(
+fn clean_in<K: CacheKey, V: Drop>(
     caps: &Caps,
     cache: &mut LruCache<K, Held<V>>,
     now: u64,
@@ -70,7 +48,7 @@ pub(crate) fn clean_in<K: CacheKey, V: Drop>(
 }
 
 // Every entry of the region leaves, from last to first.
-pub(crate) fn clear_in<K: CacheKey, V: Drop>(
+fn clear_in<K: CacheKey, V: Drop>(
     caps: &Caps,
     cache: &mut LruCache<K, Held<V>>,
     now: u64,
@@ -83,5 +61,47 @@ pub(crate) fn clear_in<K: CacheKey, V: Drop>(
     while let Some((_, held)) = cache.peek_lru() {
         let cause = caps.cause_of(now, held, Cause::Explicit);
         tell_left(notices, cache.pop_lru(), cause);
+    }
+}
+
+impl<K: CacheKey, V: Share + Weighs> Caches<K, V> {
+    // Takes what is held for the key out of its region.
+    pub(crate) fn take_out(&mut self, key: K) -> Option<Held<V>>
+        ensures held { result ≡ held_for K.eq key self.old }
+        ensures state { self.new ≡ cut K.eq key self.old }
+    {
+        let first = self.window.pop(&key);
+        let second = self.take_below(key);
+        match first {
+            Some(held) => Some(held),
+            None => second,
+        }
+    }
+
+    // Every expired entry leaves. Of the weight before it answers what is left.
+    pub(crate) fn clean(&mut self, now: u64, weight: u64, notices: &mut Notices<K, V>) -> u64
+        requires placed { IsPlaced K.eq V.weight self.old }
+        requires weight { weight ≡ weight_of self.old }
+        requires room { self.old.caps.entries ≤ notices.old.room }
+        ensures state { self.new ≡ (cleaned now self.old).0 }
+        ensures notices { notices.new ≡ appended (cleaned now self.old).1 notices.old }
+        ensures weight { result ≡ weight_of self.new }
+        ensures lighter { result ≤ weight }
+    {
+        let weight = clean_in(&self.caps, &mut self.window, now, weight, notices);
+        let weight = clean_in(&self.caps, &mut self.probation, now, weight, notices);
+        clean_in(&self.caps, &mut self.protected, now, weight, notices)
+    }
+
+    // Every entry leaves.
+    pub(crate) fn clear(&mut self, now: u64, notices: &mut Notices<K, V>)
+        requires placed { IsPlaced K.eq V.weight self.old }
+        requires room { self.old.caps.entries ≤ notices.old.room }
+        ensures state { self.new ≡ (cleared now self.old).0 }
+        ensures notices { notices.new ≡ appended (cleared now self.old).1 notices.old }
+    {
+        clear_in(&self.caps, &mut self.window, now, notices);
+        clear_in(&self.caps, &mut self.probation, now, notices);
+        clear_in(&self.caps, &mut self.protected, now, notices);
     }
 }

@@ -5,11 +5,12 @@ ghost use Rattle.std.specs.Option.{option_map_or};
 ghost use Rattle.lru.specs.LruCache.{lru_cache, last_entry};
 ghost use Rattle.wt_regions.specs.declared.kinds.Cause.TheVariants.{Size};
 ghost use Rattle.wt_regions.specs.Lists.{all_entries, front, weight_of};
-ghost use Rattle.wt_regions.specs.Moves.{IsFirst, IsStep, in_caches, others};
+ghost use Rattle.wt_regions.specs.Moves.{IsFirst, IsStep, others};
 ghost use Rattle.wt_regions.specs.Notices.{appended};
 ghost use Rattle.wt_regions.specs.Settle.{holds_other, last_told, trimmed, trimmed_once};
 
-use crate::kinds::{Caps, Cause, Held};
+use crate::caches::Caches;
+use crate::kinds::{Cause, Held};
 use crate::notices::{Notices, tell_left};
 use lru::LruCache;
 use wt_keys::CacheKey;
@@ -35,68 +36,43 @@ fn take_last<K: CacheKey, V: Drop>(
     tell_left(notices, cache.pop_lru(), Cause::Size)
 }
 
-// One entry leaves, if one can. Answers the weight that left.
-fn trim_once<K: CacheKey, V: Drop>(
-    caps: &Caps,
-    window: &mut LruCache<K, Held<V>>,
-    probation: &mut LruCache<K, Held<V>>,
-    protected: &mut LruCache<K, Held<V>>,
-    key: K,
-    notices: &mut Notices<K, V>,
-) -> Option<u64>
-    requires first { IsFirst K.eq key (in_caches caps.now window.old probation.old protected.old) }
-    requires room { others K.eq key
-        (all_entries (in_caches caps.now window.old probation.old protected.old)) ≤ notices.old.room }
-    ensures step { IsStep
-        (trimmed_once K.eq key (in_caches caps.now window.old probation.old protected.old))
-        (in_caches caps.now window.old probation.old protected.old) notices.old result
-        (in_caches caps.now window.new probation.new protected.new) notices.new }
-    ensures window_cap { window.new.cap ≡ window.old.cap }
-    ensures probation_cap { probation.new.cap ≡ probation.old.cap }
-    ensures protected_cap { protected.new.cap ≡ protected.old.cap }
-{
-    if holds_other(probation, key) {
-        return Some(take_last(probation, notices));
-    }
-    if holds_other(protected, key) {
-        return Some(take_last(protected, notices));
-    }
-    if holds_other(window, key) {
-        return Some(take_last(window, notices));
-    }
-    None
-}
-
-// Entries leave while the weight is above the bound. The key was just stored. Answers the weight
-// left.
-pub(crate) fn trim<K: CacheKey, V: Drop>(
-    caps: &Caps,
-    window: &mut LruCache<K, Held<V>>,
-    probation: &mut LruCache<K, Held<V>>,
-    protected: &mut LruCache<K, Held<V>>,
-    key: K,
-    weight: u64,
-    notices: &mut Notices<K, V>,
-) -> u64
-    requires weight { weight ≡ weight_of (in_caches caps.now window.old probation.old protected.old) }
-    requires first { IsFirst K.eq key (in_caches caps.now window.old probation.old protected.old) }
-    requires room { others K.eq key
-        (all_entries (in_caches caps.now window.old probation.old protected.old)) ≤ notices.old.room }
-    ensures lists { in_caches caps.now window.new probation.new protected.new
-        ≡ (trimmed K.eq key (in_caches caps.now window.old probation.old protected.old)).0 }
-    ensures notices { notices.new ≡ appended
-        (trimmed K.eq key (in_caches caps.now window.old probation.old protected.old)).1 notices.old }
-    ensures weight { result ≡ weight_of (in_caches caps.now window.new probation.new protected.new) }
-    ensures window_cap { window.new.cap ≡ window.old.cap }
-    ensures probation_cap { probation.new.cap ≡ probation.old.cap }
-    ensures protected_cap { protected.new.cap ≡ protected.old.cap }
-{
-    let mut weight = weight;
-    while weight > caps.bound {
-        match trim_once(caps, window, probation, protected, key, notices) {
-            Some(left) => weight -= left,
-            None => return weight,
+impl<K: CacheKey, V: Drop> Caches<K, V> {
+    // One entry leaves, if one can. Answers the weight that left.
+    fn trim_once(&mut self, key: K, notices: &mut Notices<K, V>) -> Option<u64>
+        requires first { IsFirst K.eq key self.old }
+        requires room { others K.eq key (all_entries self.old) ≤ notices.old.room }
+        ensures { IsStep (trimmed_once K.eq key self.old) self.old notices.old
+            result self.new notices.new }
+    {
+        if holds_other(&self.probation, key) {
+            return Some(take_last(&mut self.probation, notices));
         }
+        if holds_other(&self.protected, key) {
+            return Some(take_last(&mut self.protected, notices));
+        }
+        if holds_other(&self.window, key) {
+            return Some(take_last(&mut self.window, notices));
+        }
+        None
     }
-    weight
+
+    // Entries leave while the weight is above the bound. The key was just stored. Answers the weight
+    // left.
+    pub(crate) fn trim(&mut self, key: K, weight: u64, notices: &mut Notices<K, V>) -> u64
+        requires weight { weight ≡ weight_of self.old }
+        requires first { IsFirst K.eq key self.old }
+        requires room { others K.eq key (all_entries self.old) ≤ notices.old.room }
+        ensures state { self.new ≡ (trimmed K.eq key self.old).0 }
+        ensures notices { notices.new ≡ appended (trimmed K.eq key self.old).1 notices.old }
+        ensures weight { result ≡ weight_of self.new }
+    {
+        let mut weight = weight;
+        while weight > self.caps.bound {
+            match self.trim_once(key, notices) {
+                Some(left) => weight -= left,
+                None => return weight,
+            }
+        }
+        weight
+    }
 }

@@ -1,12 +1,11 @@
 // What is to be seen of the regions.
-ghost use Rattle.std.specs.Prelude.{◌≡◌, length, IfOk, option_copied};
+ghost use Rattle.std.specs.Prelude.{◌≡◌, length, IfOk};
 ghost use Rattle.std.specs.Map.{keys_of};
 ghost use Rattle.wt_regions.specs.Lawful.{IsLawful};
-ghost use Rattle.wt_regions.specs.Lists.{all_entries, due_at, has_at, held_for, region_of, weight_of};
+ghost use Rattle.wt_regions.specs.Lists.{all_entries, due_at, has_at, region_of, weight_of};
 
 use super::Regions;
-use crate::cache::keys_in;
-use crate::kinds::{Held, Region};
+use crate::kinds::Region;
 use crate::weighs::Weighs;
 use std::alloc::Global;
 use wt_keys::{CacheKey, NoMemory, Share};
@@ -19,8 +18,8 @@ impl<K: CacheKey, V: Share + Weighs> Regions<K, V> {
     pub fn has(&self, key: K, now: u64) -> bool
         ensures { result ≡ has_at K.eq key now self.now }
     {
-        let caps = self.caps;
-        match self.find(key) {
+        let caps = self.caches.caps;
+        match self.caches.find(key) {
             Some(held) => !caps.is_expired(now, held),
             None => false,
         }
@@ -34,11 +33,11 @@ impl<K: CacheKey, V: Share + Weighs> Regions<K, V> {
     pub fn due(&self, key: K, now: u64) -> bool
         ensures { result ≡ due_at K.eq key now self.now }
     {
-        let caps = self.caps;
+        let caps = self.caches.caps;
         if caps.refresh.is_none() {
             return false;
         }
-        match self.find(key) {
+        match self.caches.find(key) {
             Some(held) => caps.is_due(now, held),
             None => false,
         }
@@ -50,14 +49,14 @@ impl<K: CacheKey, V: Share + Weighs> Regions<K, V> {
         // What holds of the regions at all times.
         ensures lawful { IsLawful K.eq V.weight self.now }
     {
-        self.window.len() + (self.probation.len() + self.protected.len())
+        self.caches.len()
     }
 
     /// Returns how many entries there may be, as `Caps` had it. Takes no memory. O(1).
     pub fn entries(&self) -> u32
         ensures { result ≡ self.now.caps.entries }
     {
-        self.caps.entries
+        self.caches.caps.entries
     }
 
     /// Returns what all entries weigh together, the expired ones among them: at most the bound.
@@ -75,23 +74,6 @@ impl<K: CacheKey, V: Share + Weighs> Regions<K, V> {
     pub fn order(&self, alloc: Global, region: Region) -> Result<Vec<K>, NoMemory>
         ensures { IfOk result (λ keys. keys.items ≡ keys_of (region_of region self.now)) }
     {
-        match region {
-            Region::Window => keys_in(alloc, &self.window),
-            Region::Probation => keys_in(alloc, &self.probation),
-            Region::Protected => keys_in(alloc, &self.protected),
-        }
-    }
-
-    // What is held for the key.
-    fn find(&self, key: K) -> Option<&Held<V>>
-        ensures { option_copied result ≡ held_for K.eq key self.now }
-    {
-        if let Some(held) = self.window.peek(&key) {
-            return Some(held);
-        }
-        if let Some(held) = self.probation.peek(&key) {
-            return Some(held);
-        }
-        self.protected.peek(&key)
+        self.caches.order(alloc, region)
     }
 }

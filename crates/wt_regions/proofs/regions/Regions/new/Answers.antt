@@ -1,17 +1,10 @@
-use Rattle.std.proofs.Common.{arith, refl, sym, ◌∙◌}
+use Rattle.std.proofs.Common.{arith, sym, ◌∙◌}
 use Rattle.wt_regions.specs.Lawful.{IsFit}
 use Rattle.wt_regions.proofs.Fits.{fit_of}
 use Rattle.wt_regions.proofs.Sound.{empty-lawful}
 use Rattle.wt_regions.proofs.regions.Regions.new.Goals as goal
 
-pub main_cap-requires : goal.main_cap-requires
-main_cap-requires g c = fit_of c.args.caps.now (sym c.fault.ensures ∙ c.in_default.is)
-
-pub protected_cap-requires : goal.protected_cap-requires
-protected_cap-requires g c = fit_of c.args.caps.now (sym c.fault.ensures ∙ c.in_default.is)
-
 pub invariant_of-result : goal.invariant_of-result
 invariant_of-result g c =
     let fit : IsFit c.args.caps.now = fit_of c.args.caps.now (sym c.fault.ensures ∙ c.in_default.is) in
-    rw (c.in_ok-window.ensures, c.in_ok-probation.ensures, c.in_ok-protected.ensures, c.main_cap.ensures, c.protected_cap.ensures)
-    (empty-lawful g.K.PartialEq.eq g.V.Weighs.weight c.args.caps.now fit, omega arith, refl, refl, refl)
+    rw c.in_ok-caches.ensures (empty-lawful g.K.PartialEq.eq g.V.Weighs.weight c.args.caps.now fit, omega arith)

@@ -1,5 +1,5 @@
 use Rattle.wt_regions.proofs.Moves.{lookup-append}
-use Rattle.wt_regions.proofs.regions.Regions.find.Goals as goal
+use Rattle.wt_regions.proofs.caches.Caches.find.Goals as goal
 
 pub returns-in-Some : goal.returns-in-Some
 returns-in-Some g c = simp (lookup-append, ← c.self.view_is) (rw (← c.peek.ensures, c.in-Some.is))

@@ -1,0 +1,88 @@
+// The caches of the three regions with their limits, which the movers change as one.
+ghost use Rattle.std.specs.Prelude.{◌≡◌, length, IfOk, option_copied};
+ghost use Rattle.std.specs.Map.{keys_of};
+ghost use Rattle.wt_regions.specs.Lawful.{IsFit};
+ghost use Rattle.wt_regions.specs.Lists.{all_entries, held_for, no_entries, region_of};
+
+use crate::cache::{empty_cache, keys_in};
+use crate::kinds::{Caps, Held, Region};
+use lru::LruCache;
+use std::alloc::Global;
+use std::marker::Model;
+use wt_keys::{CacheKey, NoMemory};
+
+// Three regions, each an `LruCache` with the most recent entry first. Contracts see three lists and
+// the limits.
+#[derive(Drop)]
+pub(crate) struct Caches<K: CacheKey, V> {
+    // The limits, which never change.
+    pub(crate) caps: Caps,
+    pub(crate) window: LruCache<K, Held<V>>,
+    pub(crate) probation: LruCache<K, Held<V>>,
+    pub(crate) protected: LruCache<K, Held<V>>,
+}
+
+impl<K: CacheKey, V> Model for Caches<K, V> {
+    ghost use Rattle.std.specs.Prelude.{◌≡◌, ◌+◌};
+    ghost use Rattle.wt_regions.specs.Lawful.{IsFit};
+    ghost use Rattle.wt_regions.specs.Lists.{Lists, main_cap, protected_cap};
+    ghost use Rattle.wt_regions.specs.Moves.{in_caches};
+
+    ghost Value = { Lists K V };
+
+    ghost view = { λ c. in_caches c.caps c.window c.probation c.protected };
+
+    ghost invariant = { λ c. IsFit c.caps
+        × (c.window.cap ≡ c.caps.window + 1)
+        × (c.probation.cap ≡ main_cap c.caps + 1)
+        × (c.protected.cap ≡ protected_cap c.caps + 1) };
+}
+
+impl<K: CacheKey, V: Drop> Caches<K, V> {
+    // Three empty caches, each with one place more than its region may hold.
+    pub(crate) fn new(alloc: Global, caps: &Caps) -> Result<Self, NoMemory>
+        requires { IsFit caps.now }
+        ensures { IfOk result (λ caches. caches ≡ no_entries caps.now) }
+    {
+        let window = empty_cache(alloc, caps.window as usize)?;
+        let probation = empty_cache(alloc, caps.main_cap())?;
+        let protected = empty_cache(alloc, caps.protected_cap())?;
+        Ok(Caches {
+            caps: *caps,
+            window,
+            probation,
+            protected,
+        })
+    }
+
+    // What is held for the key.
+    pub(crate) fn find(&self, key: K) -> Option<&Held<V>>
+        ensures { option_copied result ≡ held_for K.eq key self.now }
+    {
+        if let Some(held) = self.window.peek(&key) {
+            return Some(held);
+        }
+        if let Some(held) = self.probation.peek(&key) {
+            return Some(held);
+        }
+        self.protected.peek(&key)
+    }
+
+    // How many entries there are.
+    pub(crate) fn len(&self) -> usize
+        ensures { result ≡ length (all_entries self.now) }
+    {
+        self.window.len() + (self.probation.len() + self.protected.len())
+    }
+
+    // The keys of a region, the most recent first.
+    pub(crate) fn order(&self, alloc: Global, region: Region) -> Result<Vec<K>, NoMemory>
+        ensures { IfOk result (λ keys. keys.items ≡ keys_of (region_of region self.now)) }
+    {
+        match region {
+            Region::Window => keys_in(alloc, &self.window),
+            Region::Probation => keys_in(alloc, &self.probation),
+            Region::Protected => keys_in(alloc, &self.protected),
+        }
+    }
+}
