@@ -14,8 +14,10 @@ const MOST_ENTRIES: u32 = 65_536;
 const MOST_BOUND: u64 = 0x1_0000_0000_0000;
 
 impl Caps {
-    // The first field that is out of its range, in the order of the fields.
-    pub(crate) fn fault(&self) -> Option<Field>
+    /// The first field that is out of its range, in the order of the fields; `None` where each is within.
+    ///
+    /// Takes no memory. O(1).
+    pub fn fault(&self) -> Option<Field>
         ensures { result ≡ caps_fault self.now }
     {
         if self.entries < 1 || self.entries > MOST_ENTRIES {

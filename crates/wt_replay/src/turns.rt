@@ -1,6 +1,6 @@
 // What one thread of a replay turn by turn does.
 ghost use Rattle.std.specs.Prelude.{◌≡◌, ◌*◌, ◌+◌, ◌<◌, ◌≤◌, false, true, length, IfOk, OnOk, IfErr};
-ghost use Rattle.wt_core.specs.State.{is_zero};
+ghost use Rattle.wt_regions.specs.Lawful.{is_zero};
 ghost use Rattle.wt_trace.specs.Options.{option_fault};
 ghost use Rattle.wt_replay.specs.ByTurn.{IsReady};
 ghost use Rattle.wt_replay.specs.Turns.{HasActed, AreTurns, IsTurn, IsRunStop, is_turn};

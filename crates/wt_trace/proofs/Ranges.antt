@@ -1,7 +1,7 @@
 -- What options in their ranges are.
 use Rattle.std.proofs.Common.{◌≡◌, ◌<◌, ◌≤◌, None, Some, Option, Bool, true, false, not, if◌then◌else◌, arith, refl}
 use Rattle.std.proofs.lemmas.Bool.Decides.{nat_tests}
-use Rattle.wt_core.specs.State.{is_zero}
+use Rattle.wt_regions.specs.Lawful.{is_zero}
 use Rattle.wt_keys.specs.declared.fault.Field.{Field}
 use Rattle.wt_keys.specs.declared.fault.Field.TheVariants.{Shards, Entries, Window, Bound, Modulus, AfterWrite, AfterAccess, Refresh, FailMod, Flights}
 use Rattle.wt_trace.specs.Options.{option_fault, later_fault, ring_of, window_of, is_outside, is_shard_count}

@@ -1,7 +1,7 @@
 // The rules of a trace by which values weigh and loads fail.
 ghost use Rattle.std.specs.Prelude.{◌≡◌, ◌+◌, ◌%◌, ◌<◌, ◌≤◌, ◌==◌, false};
 ghost use Rattle.std.specs.Option.{option_map_or};
-ghost use Rattle.wt_core.specs.State.{is_zero};
+ghost use Rattle.wt_regions.specs.Lawful.{is_zero};
 
 /// Returns what a value weighs whose key has this word: 1 and the word modulo the modulus.
 pub fn weight_by(modulus: u64, word: u64) -> u32
