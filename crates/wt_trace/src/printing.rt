@@ -18,6 +18,9 @@ use std::thread;
 use std::thread::Threads;
 use wt_keys::NoMemory;
 
+// A summary has at most so many bytes: eight names and eight numbers of up to 20 digits.
+const MOST_SUMMARY: usize = 256;
+
 // Piece t, of at most so many lines.
 fn piece(
     alloc: Global,
@@ -67,6 +70,17 @@ fn pieces<H: Threads + Sync>(
     )
 }
 
+// Bytes for all pieces and the summary behind them, so that none is moved twice.
+fn room_for(pieces: &[Result<Vec<u8>, AllocError>]) -> usize {
+    let mut bytes = MOST_SUMMARY;
+    for piece in pieces {
+        if let Ok(piece) = piece {
+            bytes = bytes.saturating_add(piece.len());
+        }
+    }
+    bytes
+}
+
 // The lines of a report, each thread's piece behind the piece before it.
 fn lines_on_threads<H: Threads + Sync>(
     rt: &H,
@@ -83,7 +97,7 @@ fn lines_on_threads<H: Threads + Sync>(
 {
     let most = count / threads + 1;
     let pieces = pieces(rt, alloc, first, all, count, most, threads)?;
-    let mut out = Vec::new(alloc);
+    let mut out = Vec::with_capacity(alloc, room_for(&pieces))?;
     for t in 0..pieces.len() {
         match &pieces[t] {
             Ok(piece) => out.extend_from_slice(piece.as_slice())?,
