@@ -139,6 +139,15 @@ impl<'a, K> Walk<'a, K> {
         }
     }
 
+    /// Returns how many lines are left, for taking memory at once. No clause says so.
+    pub fn room(&self) -> usize {
+        let mut count = self.piece.len();
+        for piece in self.later {
+            count = count.saturating_add(piece.lines.len());
+        }
+        count
+    }
+
     /// Takes the next line, if one is left.
     pub fn next(&mut self) -> Option<&'a Line<K>>
         ensures { MatchOption result (self.old ≡ []) (λ line. self.old ≡ line.now ∷ self.new) }

@@ -232,7 +232,7 @@ pub fn shard_answers<K: TraceKey, G: Gate>(
         later: Notices::new(alloc, options.entries as usize)?,
         text: Vec::new(alloc),
     };
-    let mut ends = Vec::new(alloc);
+    let mut ends = Vec::with_capacity(alloc, lines.room())?;
     let mut rest = lines;
     let mut n = first;
     while let Some(line) = rest.next() {
