@@ -178,7 +178,7 @@ def rows_of(page, columns):
         if not line.startswith("|"):
             continue
         cells = [c.strip() for c in re.split(r"(?<!\\)\|", line)[1:-1]]
-        if len(cells) == columns and not set(cells[0]) <= set("-: ") and cells[0] not in ("Promise", "Word", "It reads", "Rule", "Label"):
+        if len(cells) == columns and not set(cells[0]) <= set("-: ") and cells[0] not in ("Promise", "Word", "It reads", "Rule", "Label", "Wrong body"):
             yield section, number, cells
 
 
