@@ -1,4 +1,4 @@
-// What the tests share: a value, and regions that are run as a cache runs them.
+// What the tests share: regions that are run as a cache runs them.
 mod beside_lists;
 mod examples;
 mod refusals;
@@ -6,29 +6,8 @@ mod refusals;
 use std::alloc::Global;
 use std::marker::Model;
 use wt_keys::{Fault, NoMemory, Share};
-use wt_regions::{Caps, Cause, Found, Notices, Regions, Weighs};
+use wt_regions::{Caps, Found, Notices, Regions, Weighs};
 use wt_sketch::Sketch;
-
-// A value that tells its versions apart, with a weight.
-#[derive(Clone, Copy, Debug, PartialEq, Eq)]
-struct Loaded {
-    version: u64,
-    weight: u32,
-}
-
-impl Share for Loaded {
-    fn share(&self) -> Result<Loaded, NoMemory> {
-        Ok(*self)
-    }
-}
-
-impl Weighs for Loaded {
-    ghost weight = { λ v. v.weight };
-
-    fn weight(&self) -> u32 {
-        self.weight
-    }
-}
 
 // Regions with a sketch, which counts the key of each look and each put last, and with the notices
 // of the latest step alone.

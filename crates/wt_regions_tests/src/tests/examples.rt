@@ -1,9 +1,10 @@
 // Worked examples, with values worked out by hand.
-use super::{Loaded, Run, caps};
+use super::{Run, caps};
 use std::process::Abort;
 use std::test::Fail;
 use wt_keys::{Fault, Field, Shared};
 use wt_regions::{Caps, Cause, Found, Region, Regions, Weighs};
+use wt_tests::Loaded;
 
 impl Run<Loaded> {
     // Puts a value of weight 1, whose version is the number of the put.

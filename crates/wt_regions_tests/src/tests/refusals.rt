@@ -3,49 +3,11 @@
 use super::{Run, caps};
 use std::alloc::Global;
 use std::cell::Cell;
-use std::marker::Model;
 use std::rc::Rc;
 use std::test::Fail;
-use wt_keys::{Fault, NoMemory, Share};
-use wt_regions::{Caps, Cause, Found, Region, Weighs};
-
-// A value that counts down with each share of it and of its like: the share that comes to 0 is
-// refused.
-#[derive(Drop)]
-struct Fussy {
-    version: u64,
-    left: Rc<Cell<u32>>,
-}
-
-impl Model for Fussy {
-    ghost use Rattle.std.specs.Prelude.{ℕ};
-
-    ghost Value = { ℕ };
-
-    ghost view = { λ f. f.version };
-}
-
-impl Share for Fussy {
-    fn share(&self) -> Result<Fussy, NoMemory> {
-        let left = self.left.get();
-        self.left.set(left.saturating_sub(1));
-        if left == 1 {
-            return Err(NoMemory);
-        }
-        Ok(Fussy {
-            version: self.version,
-            left: self.left.clone()?,
-        })
-    }
-}
-
-impl Weighs for Fussy {
-    ghost weight = { λ _. 1 };
-
-    fn weight(&self) -> u32 {
-        1
-    }
-}
+use wt_keys::{Fault, NoMemory};
+use wt_regions::{Caps, Region};
+use wt_tests::Fussy;
 
 #[derive(Clone, Copy)]
 enum Step {
@@ -162,10 +124,7 @@ fn a_refused_step_changes_nothing(rt: HostRuntime) -> Result<(), Fail> {
                 Err(_) => run.seen(rt.alloc())?,
             };
             left.set(share);
-            let value = Fussy {
-                version: version as u64,
-                left: left.clone()?,
-            };
+            let value = Fussy::new(version as u64, left.clone()?);
             let Err(fault) = run.run_step(*step, *key, value, *now) else {
                 break;
             };

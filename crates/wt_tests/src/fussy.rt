@@ -1,0 +1,61 @@
+//! A value whose shares can be refused.
+use std::cell::Cell;
+use std::marker::Model;
+use std::rc::Rc;
+use wt_keys::{Answers, NoMemory, Share};
+use wt_regions::Weighs;
+
+/// A value that counts down with each share of it and of its like: the share that comes to 0 is
+/// refused. It weighs 1, and answers each key.
+#[derive(Drop)]
+pub struct Fussy {
+    version: u64,
+    left: Rc<Cell<u32>>,
+}
+
+impl Model for Fussy {
+    ghost use Rattle.std.specs.Prelude.{ℕ};
+
+    ghost Value = { ℕ };
+
+    ghost view = { λ f. f.version };
+}
+
+impl Fussy {
+    /// Makes a value that counts by `left`.
+    pub fn new(version: u64, left: Rc<Cell<u32>>) -> Fussy {
+        Fussy { version, left }
+    }
+}
+
+impl Share for Fussy {
+    fn share(&self) -> Result<Fussy, NoMemory> {
+        let left = self.left.get();
+        self.left.set(left.saturating_sub(1));
+        if left == 1 {
+            return Err(NoMemory);
+        }
+        Ok(Fussy {
+            version: self.version,
+            left: self.left.clone()?,
+        })
+    }
+}
+
+impl Weighs for Fussy {
+    ghost weight = { λ _. 1 };
+
+    fn weight(&self) -> u32 {
+        1
+    }
+}
+
+impl Answers<u64> for Fussy {
+    ghost use Rattle.std.specs.Prelude.{true};
+
+    ghost answers = { λ v key. true };
+
+    fn answers(&self, _key: &u64) -> bool {
+        true
+    }
+}
