@@ -1,10 +1,8 @@
-// What the tests share: a value, what is done, and what is seen of a reply.
+// What the tests share: what is done, and what is seen of a reply.
 mod apart;
 mod beside_core;
 mod books;
 mod caller;
-mod dice;
-mod fussy;
 mod loads;
 mod outer;
 mod plain;
@@ -14,40 +12,10 @@ mod run;
 mod settling;
 mod soak;
 
-use wt_core::{Call, Config, Land, Reply, Weighs};
-use wt_keys::{Answers, Fault, NoMemory, Share};
+use wt_core::{Call, Config, Land, Reply};
+use wt_keys::Fault;
 use wt_shards::{Noted, Shade};
-
-// A value that tells its versions apart, with a weight. It answers each key.
-#[derive(Clone, Copy, Debug, PartialEq, Eq)]
-struct Loaded {
-    version: u64,
-    weight: u32,
-}
-
-impl Share for Loaded {
-    fn share(&self) -> Result<Loaded, NoMemory> {
-        Ok(*self)
-    }
-}
-
-impl Weighs for Loaded {
-    ghost weight = { λ v. v.weight };
-
-    fn weight(&self) -> u32 {
-        self.weight
-    }
-}
-
-impl Answers<u64> for Loaded {
-    ghost use Rattle.std.specs.Prelude.{true};
-
-    ghost answers = { λ v key. true };
-
-    fn answers(&self, _key: &u64) -> bool {
-        true
-    }
-}
+use wt_tests::{Dice, Loaded};
 
 // A value of weight 1.
 fn light(version: u64) -> Loaded {
@@ -125,6 +93,28 @@ fn call_of(act: Do, key: u64, now: u64) -> Call<u64, Loaded> {
         Do::Clear => Call::Clear(now),
         Do::Forget => Call::Forget(key, now),
         Do::Clean => Call::Clean(now),
+    }
+}
+
+// What is done next: mostly seeks, and landings of the key's own load.
+fn choose(dice: &mut Dice, first: Option<u64>, version: u64) -> Do {
+    let weight = u32::try_from(dice.roll(7)).unwrap_or(0);
+    let value = Loaded { version, weight };
+    let id = match first {
+        Some(id) if dice.roll(6) > 0 => id,
+        _ => dice.roll(20),
+    };
+    match dice.roll(40) {
+        0 => Do::DropKey,
+        1 => Do::Clean,
+        2 => Do::Clear,
+        3 => Do::Forget,
+        4..=9 => Do::Look,
+        10..=15 => Do::Put(value),
+        16..=17 => Do::Fail(id),
+        18..=19 => Do::Loose(id),
+        20..=27 => Do::Keep(id, value),
+        _ => Do::Seek,
     }
 }
 

@@ -3,10 +3,9 @@
 ghost use Rattle.std.specs.Prelude.{◌≡◌};
 ghost use Rattle.wt_shards.specs.Opening.{AreBlanksOf};
 
-use super::dice::{Dice, choose};
 use super::plain::Plain;
 use super::run::{Run, keys_of};
-use super::{Loaded, call_of, comparable, shaded};
+use super::{call_of, choose, comparable, shaded};
 use std::alloc::Global;
 use std::marker::Brand;
 use std::process::Abort;
@@ -14,6 +13,7 @@ use std::test::Fail;
 use wt_core::Config;
 use wt_keys::{Fault, NoMemory};
 use wt_shards::{Blanks, Names, Noted, Shade};
+use wt_tests::{Dice, Loaded};
 
 // The shard may answer the fault alone where the cache answers `Refused`. A step is added to those
 // made.

@@ -3,7 +3,7 @@ ghost use Rattle.std.specs.Prelude.{◌≡◌};
 ghost use Rattle.wt_shards.specs.Opening.{AreBlanksOf};
 
 use super::run::Run;
-use super::{Do, Loaded, call_of, config, light};
+use super::{Do, call_of, config, light};
 use std::alloc::Global;
 use std::marker::Brand;
 use std::process::Abort;
@@ -11,6 +11,7 @@ use std::test::Fail;
 use wt_core::Config;
 use wt_keys::Fault;
 use wt_shards::{Blanks, Names};
+use wt_tests::Loaded;
 
 fn take_all<N: Names>(
     rt: &impl Abort,

@@ -2,7 +2,7 @@
 // a test is checked without those before it. Its room is seen when it runs, and not proved.
 ghost use Rattle.std.specs.Prelude.{◌≤◌};
 
-use super::{Do, Loaded, Said, comparable};
+use super::{Do, Said, comparable};
 use std::alloc::Global;
 use std::marker::Model;
 use std::process::Abort;
@@ -11,6 +11,7 @@ use wt_core::{Land, Notice, Notices, Reply};
 use wt_flights::Lead;
 use wt_keys::Fault;
 use wt_shards::{Books, Pass, Shards, Sought};
+use wt_tests::Loaded;
 
 // The notices are those of its latest step alone. A lead stays until it is landed.
 #[derive(Drop)]

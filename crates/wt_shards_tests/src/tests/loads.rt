@@ -3,7 +3,7 @@ ghost use Rattle.std.specs.Prelude.{◌≡◌};
 ghost use Rattle.wt_shards.specs.Opening.{AreBlanksOf};
 
 use super::run::Run;
-use super::{Do, Loaded, Said, call_of, comparable, config, light};
+use super::{Do, Said, call_of, comparable, config, light};
 use std::alloc::Global;
 use std::marker::{Brand, Model};
 use std::process::Abort;
@@ -12,6 +12,7 @@ use wt_core::Config;
 use wt_flights::{Lead, Outcome, Publish, Ticket};
 use wt_keys::Fault;
 use wt_shards::{Blanks, Names, Sought};
+use wt_tests::Loaded;
 
 // The leads and tickets that seeks answered, in this order.
 #[derive(Drop)]

@@ -4,7 +4,7 @@ ghost use Rattle.wt_shards.specs.Opening.{AreBlanksOf};
 
 use super::caller::Caller;
 use super::plain::Plain;
-use super::{Do, Loaded, Said, call_of, comparable, config, light};
+use super::{Do, Said, call_of, comparable, config, light};
 use std::alloc::Global;
 use std::marker::Brand;
 use std::process::Abort;
@@ -13,6 +13,7 @@ use std::test::Fail;
 use wt_core::{Config, Notice, Stats};
 use wt_keys::{Fault, shard_of};
 use wt_shards::{Blanks, Names, Of, Shards};
+use wt_tests::Loaded;
 
 // What is done to a key at a moment, what is answered, and of how many removals is told.
 type Row = (Do, u64, u64, Said, usize);

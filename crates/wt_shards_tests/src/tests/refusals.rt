@@ -3,10 +3,9 @@
 ghost use Rattle.std.specs.Prelude.{◌≡◌};
 ghost use Rattle.wt_shards.specs.Opening.{AreBlanksOf};
 
-use super::fussy::Fussy;
 use super::plain::Plain;
 use super::run::Run;
-use super::{Do, Loaded, Said, call_of, comparable, config, light, shaded};
+use super::{Do, Said, call_of, comparable, config, light, shaded};
 use std::alloc::Global;
 use std::cell::Cell;
 use std::marker::Brand;
@@ -16,6 +15,7 @@ use std::test::Fail;
 use wt_core::{Call, Config, Land, Stats, Weighs};
 use wt_keys::{Answers, Fault, Share};
 use wt_shards::{Blanks, Names, Shade};
+use wt_tests::{Fussy, Loaded};
 
 #[derive(Clone, Copy)]
 enum Step {

@@ -3,7 +3,7 @@ ghost use Rattle.std.specs.Prelude.{◌≡◌};
 ghost use Rattle.wt_shards.specs.Opening.{AreBlanksOf};
 
 use super::run::Run;
-use super::{Do, Loaded, Said, call_of, comparable, config, light};
+use super::{Do, Said, call_of, comparable, config, light};
 use std::alloc::Global;
 use std::marker::Brand;
 use std::process::Abort;
@@ -11,6 +11,7 @@ use std::test::Fail;
 use wt_core::Config;
 use wt_keys::Fault;
 use wt_shards::{Blanks, Names};
+use wt_tests::Loaded;
 
 // What is done to a key, what is answered, and then how many records were dropped and how many are
 // kept.

@@ -3,8 +3,7 @@ ghost use Rattle.std.specs.Prelude.{◌≡◌};
 ghost use Rattle.wt_shards.specs.Opening.{AreBlanksOf};
 
 use super::caller::Caller;
-use super::dice::{Dice, choose};
-use super::{Do, Loaded, Said, config};
+use super::{Do, Said, choose, config};
 use std::alloc::Global;
 use std::marker::Brand;
 use std::process::Abort;
@@ -15,6 +14,7 @@ use std::thread::Threads;
 use wt_core::Config;
 use wt_keys::Fault;
 use wt_shards::{Blanks, Names, Of, Pass, Shards};
+use wt_tests::{Dice, Loaded};
 
 // How many threads call, and the turns of each.
 const CALLERS: usize = 4;
