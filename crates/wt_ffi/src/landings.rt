@@ -29,7 +29,8 @@ pub extern "C" fn rd_land_keep(
     answer: &mut Answer,
 ) -> u64
     ensures state { IfSome (numbered handle.old.pointer.cache) (λ c. handle.new.pointer.cache
-        ≡ Some (opened.Numbers (after answer.new.kind (call.Land id key (land.Keep value) now) c))) }
+        ≡ Some (opened.Numbers (after answer.new.kind (call.Land id key (land.Keep value) now)
+        c))) }
     ensures number { IfSome (numbered handle.old.pointer.cache) (λ c. result
         ≡ number_after answer.new.kind (call.Land id key (land.Keep value) now) c) }
     ensures answer { IfSome (numbered handle.old.pointer.cache) (λ c. answer.new

@@ -29,7 +29,8 @@ pub extern "C" fn rd_land_keep_name(
     answer: &mut Answer,
 ) -> u64
     ensures state { IfSome (asked key.now handle.old.pointer.cache) (λ a. handle.new.pointer.cache
-        ≡ Some (opened.Names (after answer.new.kind (call.Land id a.name (land.Keep value) now) a.cache))) }
+        ≡ Some (opened.Names (after answer.new.kind (call.Land id a.name (land.Keep value) now)
+        a.cache))) }
     ensures number { IfSome (asked key.now handle.old.pointer.cache) (λ a. result
         ≡ number_after answer.new.kind (call.Land id a.name (land.Keep value) now) a.cache) }
     ensures answer { IfSome (asked key.now handle.old.pointer.cache) (λ a. answer.new
@@ -67,7 +68,8 @@ pub extern "C" fn rd_land_loose_name(
     answer: &mut Answer,
 ) -> u64
     ensures state { IfSome (asked key.now handle.old.pointer.cache) (λ a. handle.new.pointer.cache
-        ≡ Some (opened.Names (after answer.new.kind (call.Land id a.name land.Loose now) a.cache))) }
+        ≡ Some (opened.Names (after answer.new.kind (call.Land id a.name land.Loose now)
+        a.cache))) }
     ensures number { IfSome (asked key.now handle.old.pointer.cache) (λ a. result
         ≡ number_after answer.new.kind (call.Land id a.name land.Loose now) a.cache) }
     ensures answer { IfSome (asked key.now handle.old.pointer.cache) (λ a. answer.new
@@ -105,7 +107,8 @@ pub extern "C" fn rd_land_failed_name(
     answer: &mut Answer,
 ) -> u64
     ensures state { IfSome (asked key.now handle.old.pointer.cache) (λ a. handle.new.pointer.cache
-        ≡ Some (opened.Names (after answer.new.kind (call.Land id a.name land.Failed now) a.cache))) }
+        ≡ Some (opened.Names (after answer.new.kind (call.Land id a.name land.Failed now)
+        a.cache))) }
     ensures number { IfSome (asked key.now handle.old.pointer.cache) (λ a. result
         ≡ number_after answer.new.kind (call.Land id a.name land.Failed now) a.cache) }
     ensures answer { IfSome (asked key.now handle.old.pointer.cache) (λ a. answer.new

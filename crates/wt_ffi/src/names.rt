@@ -79,7 +79,8 @@ pub extern "C" fn rd_get_notice_name(
     ensures answer { IfSome (named handle.old.pointer.cache) (λ c.
         Reads (name_left_at i c.notices.list) result left.old left.new) }
     ensures closed { IsNone handle.old.pointer.cache → (result ≡ 100) × (left.new ≡ left.old) }
-    ensures other { IsSome (numbered handle.old.pointer.cache) → (result ≡ 103) × (left.new ≡ left.old) }
+    ensures other { IsSome (numbered handle.old.pointer.cache) → (result ≡ 103)
+        × (left.new ≡ left.old) }
     ensures same { handle.new.pointer.cache ≡ handle.old.pointer.cache }
 {
     let Some(opened) = handle.take(alloc) else {

@@ -109,7 +109,8 @@ pub extern "C" fn rd_get_numbers(alloc: Global, handle: &mut Handle, numbers: &m
         (result ≡ 0) × (numbers.new ≡ shown_of c)) }
     // What holds of a cache at all times.
     ensures lawful { IfSome handle.old.pointer.cache IsLawfulOpened }
-    ensures closed { IsNone handle.old.pointer.cache → (result ≡ 100) × (numbers.new ≡ numbers.old) }
+    ensures closed { IsNone handle.old.pointer.cache → (result ≡ 100)
+        × (numbers.new ≡ numbers.old) }
     ensures same { handle.new.pointer.cache ≡ handle.old.pointer.cache }
 {
     let Some(opened) = handle.take(alloc) else {
@@ -145,7 +146,8 @@ pub extern "C" fn rd_get_notice(alloc: Global, handle: &mut Handle, i: u64, left
     ensures answer { IfSome (numbered handle.old.pointer.cache) (λ c.
         Reads (left_at i c.notices.list) result left.old left.new) }
     ensures closed { IsNone handle.old.pointer.cache → (result ≡ 100) × (left.new ≡ left.old) }
-    ensures other { IsSome (named handle.old.pointer.cache) → (result ≡ 103) × (left.new ≡ left.old) }
+    ensures other { IsSome (named handle.old.pointer.cache) → (result ≡ 103)
+        × (left.new ≡ left.old) }
     ensures same { handle.new.pointer.cache ≡ handle.old.pointer.cache }
 {
     let Some(opened) = handle.take(alloc) else {

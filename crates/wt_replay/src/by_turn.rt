@@ -85,7 +85,8 @@ fn opened<K: TraceKey, N: Names + Send + Sync, R: Wait>(
     blanks: Blanks,
     options: &Options,
 ) -> Result<LoadingCache<K, Version<K>, Rules, Of<N>>, Fault>
-    requires layout { N.layout ≡ record { shards = options.now.shards; config = config_of options.now } }
+    requires layout { N.layout ≡ record
+        { shards = options.now.shards; config = config_of options.now } }
     requires blanks { AreBlanksOf N.name blanks }
     requires options { option_fault options.now ≡ None }
     ensures shards { IfOk result (λ cache. cache.layout.shards ≤ 4) }
@@ -138,13 +139,15 @@ fn session<K: TraceKey, N: Names + Send + Sync, G: Gate, R: Threads + Wait + Syn
     threads: usize,
     gate: &G,
 ) -> Result<Stats, RunFault>
-    requires layout { N.layout ≡ record { shards = options.now.shards; config = config_of options.now } }
+    requires layout { N.layout ≡ record
+        { shards = options.now.shards; config = config_of options.now } }
     requires blanks { AreBlanksOf N.name blanks }
     requires options { option_fault options.now ≡ None }
     requires first { (1 ≤ first) × (first ≤ 2) }
     requires lines { length lines.now ≤ 1000000 }
     requires threads { (1 ≤ threads) × (threads ≤ 64) }
-    ensures asked { OnOk result (AreAsked (λ _. true) (λ n. G.answers gate.now n true) first lines.now) }
+    ensures asked { OnOk result (AreAsked (λ _. true) (λ n. G.answers gate.now n true) first
+        lines.now) }
     ensures looked { IfOk result AreLooked }
 {
     let cache: LoadingCache<K, Version<K>, Rules, Of<N>> = match opened(
@@ -190,7 +193,8 @@ fn totals_by_turn<K: TraceKey, G: Gate, R: Threads + Wait + Sync>(
     requires first { (1 ≤ first) × (first ≤ 2) }
     requires lines { length lines.now ≤ 1000000 }
     requires threads { (1 ≤ threads) × (threads ≤ 64) }
-    ensures asked { OnOk result (AreAsked (λ _. true) (λ n. G.answers gate.now n true) first lines.now) }
+    ensures asked { OnOk result (AreAsked (λ _. true) (λ n. G.answers gate.now n true) first
+        lines.now) }
     ensures looked { IfOk result AreLooked }
 {
     session::<K, Brand, G, R>(
@@ -235,10 +239,13 @@ fn sums_of_trace<K: TraceKey, G: Gate, R: Threads + Wait + Sync>(
     requires options { option_fault options.now ≡ None }
     requires first { (1 ≤ first) × (first ≤ 2) }
     requires threads { (1 ≤ threads) × (threads ≤ 64) }
-    ensures asked { OnOk result (AreAsked (λ _. true) (λ n. G.answers gate.now n true) first (trace_from K.read first (lines_of bytes.now)).lines) }
+    ensures asked { OnOk result (AreAsked (λ _. true) (λ n. G.answers gate.now n true) first
+        (trace_from K.read first (lines_of bytes.now)).lines) }
     ensures looked { IfOk result AreLooked }
-    ensures sound { OnOk result (spec.faulty first (trace_from K.read first (lines_of bytes.now)) ≡ None) }
-    ensures faults { IfErr result (spec.IsTurnFault (spec.faulty first (trace_from K.read first (lines_of bytes.now)))) }
+    ensures sound { OnOk result (spec.faulty first (trace_from K.read first (lines_of bytes.now))
+        ≡ None) }
+    ensures faults { IfErr result (spec.IsTurnFault
+        (spec.faulty first (trace_from K.read first (lines_of bytes.now)))) }
 {
     let Ok(read) = read_lines::<K>(alloc, first, bytes) else {
         return Err(ReplayFault::Cache(Fault::NoMemory));

@@ -35,8 +35,10 @@ fn turns<K: TraceKey, N: Names + Send + Sync, G: Gate, R: Threads + Wait + Sync>
     gate: &G,
     room: usize,
 ) -> Result<Ran<Of<N>>, AllocError>
-    requires { IsReady cache.now.layout.shards cache.now.layout.config.entries room first (length lines.now) threads }
-    ensures each { IfOk result (λ ran. AreDone K.word cache.now (G.answers gate.now) first lines.now threads ran.items) }
+    requires { IsReady cache.now.layout.shards cache.now.layout.config.entries room first
+        (length lines.now) threads }
+    ensures each { IfOk result (λ ran. AreDone K.word cache.now (G.answers gate.now) first lines.now
+        threads ran.items) }
     ensures len { IfOk result (λ ran. vec_len ran ≡ threads) }
 {
     thread::map_indices(
@@ -44,8 +46,10 @@ fn turns<K: TraceKey, N: Names + Send + Sync, G: Gate, R: Threads + Wait + Sync>
         alloc,
         threads,
         &|t: usize| -> Result<Pass<Of<N>>, RunFault>
-            requires { IsReady cache.now.layout.shards cache.now.layout.config.entries room first (length lines.now) threads × (t < threads) }
-            ensures { IsDone K.word cache.entry.now (G.answers gate.entry.now) first lines.entry.now threads t result }
+            requires { IsReady cache.now.layout.shards cache.now.layout.config.entries room first
+                (length lines.now) threads × (t < threads) }
+            ensures { IsDone K.word cache.entry.now (G.answers gate.entry.now) first lines.entry.now
+                threads t result }
         {
             run_thread(
                 rt, alloc, cache, rules, first, lines, t, threads, gate, room,
@@ -85,8 +89,10 @@ fn handle_all<K: TraceKey, N: Names + Send + Sync, G: Gate, R: Threads + Wait + 
     room: usize,
     manned: &AtomicBool,
 ) -> Result<Ran<Of<N>>, AllocError>
-    requires { IsReady cache.now.layout.shards cache.now.layout.config.entries room first (length lines.now) threads }
-    ensures each { IfOk result (λ ran. AreDone K.word cache.now (G.answers gate.now) first lines.now threads ran.items) }
+    requires { IsReady cache.now.layout.shards cache.now.layout.config.entries room first
+        (length lines.now) threads }
+    ensures each { IfOk result (λ ran. AreDone K.word cache.now (G.answers gate.now) first lines.now
+        threads ran.items) }
     ensures len { IfOk result (λ ran. vec_len ran ≡ threads) }
 {
     await_worker(rt, cache, manned);
@@ -134,16 +140,21 @@ pub(crate) fn work_all<K: TraceKey, N: Names + Send + Sync, G: Gate, R: Threads 
     Result<Ran<Of<N>>, AllocError>,
     Result<Worked<Of<N>>, AllocError>,
 )
-    requires { IsReady cache.now.layout.shards cache.now.layout.config.entries room first (length lines.now) threads }
-    ensures each { IfOk result.0 (λ ran. AreDone K.word cache.now (G.answers gate.now) first lines.now threads ran.items) }
+    requires { IsReady cache.now.layout.shards cache.now.layout.config.entries room first
+        (length lines.now) threads }
+    ensures each { IfOk result.0 (λ ran. AreDone K.word cache.now (G.answers gate.now) first
+        lines.now threads ran.items) }
     ensures len { IfOk result.0 (λ ran. vec_len ran ≡ threads) }
 {
     let manned = AtomicBool::new(false);
     thread::join(
         rt,
         || -> Result<Ran<Of<N>>, AllocError>
-            requires { IsReady cache.now.layout.shards cache.now.layout.config.entries room first (length lines.now) threads }
-            ensures { IfOk result (λ ran. (vec_len ran ≡ threads) × AreDone K.word cache.entry.now (G.answers gate.entry.now) first lines.entry.now threads ran.items) }
+            requires { IsReady cache.now.layout.shards cache.now.layout.config.entries room first
+                (length lines.now) threads }
+            ensures { IfOk result (λ ran. (vec_len ran ≡ threads)
+                × AreDone K.word cache.entry.now (G.answers gate.entry.now) first lines.entry.now
+                threads ran.items) }
         {
             handle_all(
                 rt, alloc, cache, rules, first, lines, threads, gate, room, &manned,
@@ -157,8 +168,10 @@ pub(crate) fn work_all<K: TraceKey, N: Names + Send + Sync, G: Gate, R: Threads 
 
 /// Returns why the first thread stopped that did, if one did.
 pub(crate) fn stop_of<P>(ran: &Vec<Result<P, RunFault>>) -> Option<RunFault>
-    ensures none { IsNone result → (t : ℕ) → t < vec_len ran.now → IsOk (get_or ran.now.items t unmade) }
-    ensures some { IfSome result (λ fault. (t : ℕ) × (t < vec_len ran.now) × (get_or ran.now.items t unmade ≡ Err fault)) }
+    ensures none { IsNone result → (t : ℕ) → t < vec_len ran.now
+        → IsOk (get_or ran.now.items t unmade) }
+    ensures some { IfSome result (λ fault. (t : ℕ) × (t < vec_len ran.now)
+        × (get_or ran.now.items t unmade ≡ Err fault)) }
 {
     for t in 0..ran.len() {
         if let Err(fault) = &ran[t] {

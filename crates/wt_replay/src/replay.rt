@@ -40,11 +40,16 @@ pub fn replay_by_turn<H: Threads + Wait + Sync, R: Read, W: Write, G: Gate>(
     gate: &G,
 ) -> Result<(), ReplayFault>
     requires { (0 < threads) × (threads ≤ 64) }
-    ensures config { MatchOption (option_fault options.now) Unit (λ field. (result ≡ Err (fault.Cache (cache.BadConfig field))) × (reader.new ≡ reader.old) × (writer.new ≡ writer.old)) }
-    ensures turned { Turned (R.remaining reader.old.inner) (R.remaining reader.new.inner) (W.contents writer.old.inner) (W.contents writer.new.inner) result }
+    ensures config { MatchOption (option_fault options.now) Unit
+        (λ field. (result ≡ Err (fault.Cache (cache.BadConfig field))) × (reader.new ≡ reader.old)
+        × (writer.new ≡ writer.old)) }
+    ensures turned { Turned (R.remaining reader.old.inner) (R.remaining reader.new.inner)
+        (W.contents writer.old.inner) (W.contents writer.new.inner) result }
     ensures reads { Rises reader.old.failures reader.new.failures result fault.ReadFault }
     ensures turns { reader.new.reads ≤ reader.old.reads + 65000002 }
-    ensures asked { OnOk result ((bytes : List ℕ) × Gave (R.remaining reader.old.inner) (R.remaining reader.new.inner) bytes × IsLetThrough (λ n. G.answers gate.now n true) bytes) }
+    ensures asked { OnOk result ((bytes : List ℕ)
+        × Gave (R.remaining reader.old.inner) (R.remaining reader.new.inner) bytes
+        × IsLetThrough (λ n. G.answers gate.now n true) bytes) }
     ensures writes { Rises writer.old.failures writer.new.failures result fault.WriteFault }
 {
     if let Some(field) = options.fault() {

@@ -91,8 +91,10 @@ fn act<K: TraceKey, B: Books, R: Wait>(
 ) -> Result<(), Fault>
     requires few { cache.now.layout.shards ≤ 4 }
     requires room { 4 * cache.now.layout.config.entries ≤ notices.old.room }
-    ensures moved { OnOk result (HasActed K.word cache.now.layout cache.now.lined line.now.act pass.old pass.new) }
-    ensures whole { notices.new.room + length notices.new.list ≡ notices.old.room + length notices.old.list }
+    ensures moved { OnOk result (HasActed K.word cache.now.layout cache.now.lined line.now.act
+        pass.old pass.new) }
+    ensures whole { notices.new.room + length notices.new.list ≡ notices.old.room
+        + length notices.old.list }
 {
     let now = line.moment;
     match line.act {
@@ -137,7 +139,8 @@ fn do_line<K: TraceKey, B: Books, G: Gate, R: Wait>(
     requires few { cache.now.layout.shards ≤ 4 }
     requires room { 4 * cache.now.layout.config.entries ≤ notices.old.room }
     ensures asked { OnOk result (G.answers gate.now n true) }
-    ensures moved { OnOk result (HasActed K.word cache.now.layout cache.now.lined line.now.act pass.old pass.new) }
+    ensures moved { OnOk result (HasActed K.word cache.now.layout cache.now.lined line.now.act
+        pass.old pass.new) }
     ensures err { IfErr result (IsRunStop (λ m. G.answers gate.now m false)) }
     ensures room { 4 * cache.now.layout.config.entries ≤ notices.new.room }
 {
@@ -178,7 +181,8 @@ fn take_turn<K: TraceKey, B: Books, G: Gate, R: Wait>(
     requires room { 4 * cache.now.layout.config.entries ≤ notices.old.room }
     requires n { 1 ≤ n }
     requires threads { 1 ≤ threads }
-    ensures turn { OnOk result (IsTurn (is_turn threads t n) (G.answers gate.now n true) (HasActed K.word cache.now.layout cache.now.lined line.now.act) pass.old pass.new) }
+    ensures turn { OnOk result (IsTurn (is_turn threads t n) (G.answers gate.now n true)
+        (HasActed K.word cache.now.layout cache.now.lined line.now.act) pass.old pass.new) }
     ensures err { IfErr result (IsRunStop (λ m. G.answers gate.now m false)) }
     ensures room { 4 * cache.now.layout.config.entries ≤ notices.new.room }
 {
@@ -207,7 +211,8 @@ fn do_lines<K: TraceKey, B: Books, G: Gate, R: Wait>(
     requires first { (1 ≤ first) × (first ≤ 2) }
     requires lines { length lines.now ≤ 1000000 }
     requires threads { 1 ≤ threads }
-    ensures turns { OnOk result (AreTurns (is_turn threads t) (λ n. G.answers gate.now n true) (HasActed K.word cache.now.layout cache.now.lined) first lines.now pass.old pass.new) }
+    ensures turns { OnOk result (AreTurns (is_turn threads t) (λ n. G.answers gate.now n true)
+        (HasActed K.word cache.now.layout cache.now.lined) first lines.now pass.old pass.new) }
     ensures err { IfErr result (IsRunStop (λ n. G.answers gate.now n false)) }
 {
     let mut rest = lines;
@@ -236,8 +241,11 @@ pub(crate) fn run_thread<K: TraceKey, B: Books, G: Gate, R: Wait>(
     gate: &G,
     room: usize,
 ) -> Result<Pass<B>, RunFault>
-    requires ready { IsReady cache.now.layout.shards cache.now.layout.config.entries room first (length lines.now) threads }
-    ensures turns { IfOk result (λ pass. AreTurns (is_turn threads t) (λ n. G.answers gate.now n true) (HasActed K.word cache.now.layout cache.now.lined) first lines.now (new_pass cache.now.layout.shards) pass) }
+    requires ready { IsReady cache.now.layout.shards cache.now.layout.config.entries room first
+        (length lines.now) threads }
+    ensures turns { IfOk result (λ pass. AreTurns (is_turn threads t)
+        (λ n. G.answers gate.now n true) (HasActed K.word cache.now.layout cache.now.lined) first
+        lines.now (new_pass cache.now.layout.shards) pass) }
     ensures err { IfErr result (IsRunStop (λ n. G.answers gate.now n false)) }
 {
     let mut pass = match cache.pass(rt, alloc) {

@@ -55,8 +55,12 @@ fn part_of<K: TraceKey, G: Gate>(
     requires options { option_fault options.now ≡ None }
     requires few { first + length read.now.lines ≤ 1000001 }
     requires threads { 0 < threads }
-    ensures asked { OnOk result ((s : ℕ) → s < options.now.shards → s % threads ≡ t → AreAsked (spec.belongs (keys_by K.eq K.word K.read K.shown) options.now s) (λ n. G.answers gate.now n true) first read.now.lines) }
-    ensures answers { IfOk result (λ part. part ≡ map (part_at (spec.answers (keys_by K.eq K.word K.read K.shown) options.now first read.now.lines) threads t) (range_with_len 0 options.now.shards)) }
+    ensures asked { OnOk result ((s : ℕ) → s < options.now.shards → s % threads ≡ t
+        → AreAsked (spec.belongs (keys_by K.eq K.word K.read K.shown) options.now s)
+        (λ n. G.answers gate.now n true) first read.now.lines) }
+    ensures answers { IfOk result (λ part. part
+        ≡ map (part_at (spec.answers (keys_by K.eq K.word K.read K.shown) options.now first
+        read.now.lines) threads t) (range_with_len 0 options.now.shards)) }
     ensures err { IfErr result (IsStop (λ n. G.answers gate.now n false)) }
 {
     let mut places = Vec::new(alloc);
@@ -92,7 +96,8 @@ fn take_at(
     requires within { t < vec_len parts.old }
     requires place { IfOk (get_or parts.old.items t (Ok [])) (λ places. shard < length places) }
     ensures taken { result ≡ place_at shard (get_or parts.old.items t (Ok [])) }
-    ensures left { parts.new.items ≡ slice_set parts.old.items t (without shard (get_or parts.old.items t (Ok []))) }
+    ensures left { parts.new.items ≡ slice_set parts.old.items t
+        (without shard (get_or parts.old.items t (Ok []))) }
 {
     take(&mut parts[t], shard)
 }
@@ -111,15 +116,25 @@ fn parts<H: Threads + Sync, K: TraceKey, G: Gate>(
     requires few { first + length read.now.lines ≤ 1000001 }
     requires threads { 0 < threads }
     ensures len { IfOk result (λ parts. vec_len parts ≡ threads) }
-    ensures each { IfOk result (λ parts. (t : ℕ) → t < threads → IsPart (spec.answers (keys_by K.eq K.word K.read K.shown) options.now first read.now.lines) (λ n. G.answers gate.now n false) (λ s. AreAsked (spec.belongs (keys_by K.eq K.word K.read K.shown) options.now s) (λ n. G.answers gate.now n true) first read.now.lines) options.now.shards threads t (get_or parts.items t (Ok []))) }
+    ensures each { IfOk result (λ parts. (t : ℕ) → t < threads
+        → IsPart (spec.answers (keys_by K.eq K.word K.read K.shown) options.now first
+        read.now.lines) (λ n. G.answers gate.now n false)
+        (λ s. AreAsked (spec.belongs (keys_by K.eq K.word K.read K.shown) options.now s)
+        (λ n. G.answers gate.now n true) first read.now.lines) options.now.shards threads t
+        (get_or parts.items t (Ok []))) }
 {
     thread::map_indices(
         rt,
         alloc,
         threads,
         &|t: usize| -> Result<Part, ReplayFault>
-            requires { (option_fault options.now ≡ None) × (first + length read.now.lines ≤ 1000001) × (0 < threads) }
-            ensures { IsPart (spec.answers (keys_by K.eq K.word K.read K.shown) options.entry.now first read.entry.now.lines) (λ n. G.answers gate.entry.now n false) (λ s. AreAsked (spec.belongs (keys_by K.eq K.word K.read K.shown) options.entry.now s) (λ n. G.answers gate.entry.now n true) first read.entry.now.lines) options.entry.now.shards threads t result }
+            requires { (option_fault options.now ≡ None) × (first + length read.now.lines ≤ 1000001)
+                × (0 < threads) }
+            ensures { IsPart (spec.answers (keys_by K.eq K.word K.read K.shown) options.entry.now
+                first read.entry.now.lines) (λ n. G.answers gate.entry.now n false)
+                (λ s. AreAsked (spec.belongs (keys_by K.eq K.word K.read K.shown) options.entry.now
+                s) (λ n. G.answers gate.entry.now n true) first read.entry.now.lines)
+                options.entry.now.shards threads t result }
         { part_of(alloc, options, first, read, gate, threads, t) },
     )
 }
@@ -138,8 +153,11 @@ fn answers_by_shard<H: Threads + Sync, K: TraceKey, G: Gate>(
     requires options { option_fault options.now ≡ None }
     requires few { first + length read.now.lines ≤ 1000001 }
     requires threads { 0 < threads }
-    ensures asked { OnOk result (AllAsked (keys_by K.eq K.word K.read K.shown) options.now (λ n. G.answers gate.now n true) first read.now.lines) }
-    ensures answers { IfOk result (λ all. all.items ≡ map (spec.answers (keys_by K.eq K.word K.read K.shown) options.now first read.now.lines) (range_with_len 0 options.now.shards)) }
+    ensures asked { OnOk result (AllAsked (keys_by K.eq K.word K.read K.shown) options.now
+        (λ n. G.answers gate.now n true) first read.now.lines) }
+    ensures answers { IfOk result (λ all. all.items
+        ≡ map (spec.answers (keys_by K.eq K.word K.read K.shown) options.now first read.now.lines)
+        (range_with_len 0 options.now.shards)) }
     ensures err { IfErr result (IsStop (λ n. G.answers gate.now n false)) }
 {
     let mut parts = parts(rt, alloc, options, first, read, gate, threads)?;
@@ -167,8 +185,12 @@ fn report_of<H: Threads + Sync, K: TraceKey, G: Gate>(
     requires options { option_fault options.now ≡ None }
     requires first { first ≤ 1000001 }
     requires threads { (0 < threads) × (threads ≤ 64) }
-    ensures asked { OnOk result (AllAsked (keys_by K.eq K.word K.read K.shown) options.now (λ n. G.answers gate.now n true) first (trace_from K.read first (lines_of bytes.now)).lines) }
-    ensures report { IfOk result (λ r. report.IsReport (report.report_of (keys_by K.eq K.word K.read K.shown) options.now first (trace_from K.read first (lines_of bytes.now))) r.0.items r.1) }
+    ensures asked { OnOk result (AllAsked (keys_by K.eq K.word K.read K.shown) options.now
+        (λ n. G.answers gate.now n true) first
+        (trace_from K.read first (lines_of bytes.now)).lines) }
+    ensures report { IfOk result (λ r. report.IsReport
+        (report.report_of (keys_by K.eq K.word K.read K.shown) options.now first
+        (trace_from K.read first (lines_of bytes.now))) r.0.items r.1) }
     ensures err { IfErr result (IsStop (λ n. G.answers gate.now n false)) }
 {
     let read = read_on_threads::<H, K>(rt, alloc, first, bytes, threads)?;
@@ -192,7 +214,8 @@ pub fn report_by_shard<H: Threads + Sync, G: Gate>(
     requires options { option_fault options.now ≡ None }
     requires threads { (0 < threads) × (threads ≤ 64) }
     ensures asked { OnOk result (Asked options.now (λ n. G.answers gate.now n true) bytes.now) }
-    ensures report { IfOk result (λ r. report.IsReport (report.report options.now bytes.now) r.0.items r.1) }
+    ensures report { IfOk result (λ r. report.IsReport (report.report options.now bytes.now)
+        r.0.items r.1) }
     ensures err { IfErr result (IsStop (λ n. G.answers gate.now n false)) }
 {
     let Some(rest) = behind_header(bytes) else {

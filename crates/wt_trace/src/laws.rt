@@ -18,7 +18,8 @@ use crate::key::TraceKey;
 pub fn a_get_leaves_no_load_open<K: TraceKey>()
     ensures { (options : Options) (shard n moment : ℕ) (key : K) (s : State K (Version K))
         → IsLawful K.eq s.flights
-        → map (λ r. r.id) (act_step (keys_by K.eq K.word K.read K.shown) options shard n moment (act.Get key) s).state.flights.rows
+        → map (λ r. r.id) (act_step (keys_by K.eq K.word K.read K.shown) options shard n
+        moment (act.Get key) s).state.flights.rows
         ≡ map (λ r. r.id) s.flights.rows }
 {}
 

@@ -90,7 +90,8 @@ impl<K: CacheKey> Answers<K> for Version<K> {
 
 // The value of digits, unless it is 2^64 or more.
 fn value_of(digits: &[u8]) -> Option<u64>
-    ensures some { IfSome result (λ n. AllDigits 10 digits.now × (n ≡ digits_value 10 digits.now) × (n < 2 ^ 64)) }
+    ensures some { IfSome result (λ n. AllDigits 10 digits.now × (n ≡ digits_value 10 digits.now)
+        × (n < 2 ^ 64)) }
     ensures none { IsNone result → AllDigits 10 digits.now → 2 ^ 64 ≤ digits_value 10 digits.now }
 {
     let mut n = 0u64;

@@ -168,7 +168,8 @@ impl Options {
     /// Checks each option against its range, in the order of the fields, and answers `BadConfig` of
     /// the first that is out of it. Takes no memory.
     pub fn check(&self) -> Result<(), ReplayFault>
-        ensures { MatchOption (option_fault self.now) (result ≡ Ok tt) (λ field. result ≡ Err (fault.Cache (cache.BadConfig field))) }
+        ensures { MatchOption (option_fault self.now) (result ≡ Ok tt)
+            (λ field. result ≡ Err (fault.Cache (cache.BadConfig field))) }
     {
         match self.fault() {
             Some(field) => Err(ReplayFault::Cache(Fault::BadConfig { field })),

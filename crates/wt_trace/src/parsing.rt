@@ -100,7 +100,9 @@ fn read_pieces<H: Threads + Sync, K: TraceKey>(
 ) -> Result<Vec<Option<Piece<K>>>, AllocError>
     requires { first ≤ 1000001 }
     ensures len { IfOk result (λ read. vec_len read ≡ length pieces.now) }
-    ensures each { IfOk result (λ read. (t : ℕ) → t < length pieces.now → IfSome (get_or read.items t None) (IsFaultless (trace_from K.read first (lines_of (get_or pieces.now t []))))) }
+    ensures each { IfOk result (λ read. (t : ℕ) → t < length pieces.now
+        → IfSome (get_or read.items t None)
+        (IsFaultless (trace_from K.read first (lines_of (get_or pieces.now t []))))) }
 {
     thread::map_indices(
         rt,
@@ -108,7 +110,8 @@ fn read_pieces<H: Threads + Sync, K: TraceKey>(
         pieces.len(),
         &|t: usize| -> Option<Piece<K>>
             requires { (first ≤ 1000001) × (t < length pieces.now) }
-            ensures { IfSome result (IsFaultless (trace_from K.read first (lines_of (get_or pieces.entry.now t [])))) }
+            ensures { IfSome result (IsFaultless
+                (trace_from K.read first (lines_of (get_or pieces.entry.now t [])))) }
         { read_piece(alloc, first, bytes_at(pieces, t)) },
     )
 }
@@ -124,8 +127,10 @@ fn numbered<K: TraceKey>(
     requires n { n ≤ 1000001 }
     requires sound { IfSome read (IsFaultless (trace_from K.read first (lines_of bytes.now))) }
     ensures few { IfOk result (λ lines. n + length lines.lines.items ≤ 1000001) }
-    ensures lines { IfOk result (λ lines. lines.lines.items ≡ (trace_from K.read n (lines_of bytes.now)).lines) }
-    ensures verdict { IfOk result (λ lines. lines.verdict ≡ (trace_from K.read n (lines_of bytes.now)).verdict) }
+    ensures lines { IfOk result (λ lines. lines.lines.items
+        ≡ (trace_from K.read n (lines_of bytes.now)).lines) }
+    ensures verdict { IfOk result (λ lines. lines.verdict
+        ≡ (trace_from K.read n (lines_of bytes.now)).verdict) }
 {
     if let Some(piece) = read {
         let lines = piece.into_lines();
@@ -157,7 +162,9 @@ fn put_together<K: TraceKey>(
 ) -> Result<Pieces<K>, NoMemory>
     requires first { first ≤ 1000001 }
     requires len { vec_len read ≡ length pieces.now }
-    requires each { (t : ℕ) → t < length pieces.now → IfSome (get_or read.items t None) (IsFaultless (trace_from K.read first (lines_of (get_or pieces.now t [])))) }
+    requires each { (t : ℕ) → t < length pieces.now
+        → IfSome (get_or read.items t None)
+        (IsFaultless (trace_from K.read first (lines_of (get_or pieces.now t [])))) }
     ensures few { IfOk result (λ all. first + length all.lines ≤ 1000001) }
     ensures lines { IfOk result (λ all. all ≡ trace_from K.read first (lines_of_all pieces.now)) }
 {

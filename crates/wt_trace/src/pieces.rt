@@ -76,7 +76,8 @@ impl<K: TraceKey> Pieces<K> {
     /// Appends lines, and takes their verdict.
     pub fn push(&mut self, read: Lines<K>) -> Result<(), AllocError>
         requires { length self.old.lines + length read.lines.items < 2 ^ 64 }
-        ensures { OnOk result (self.new ≡ record { lines = self.old.lines ++ read.lines.items; verdict = read.verdict }) }
+        ensures { OnOk result (self.new ≡ record
+            { lines = self.old.lines ++ read.lines.items; verdict = read.verdict }) }
     {
         let Lines { lines, verdict } = read;
         let count = lines.len();

@@ -57,14 +57,17 @@ fn pieces<H: Threads + Sync>(
     requires most { most ≤ 1000002 }
     requires threads { threads ≤ 64 }
     ensures len { IfOk result (λ pieces. vec_len pieces ≡ threads) }
-    ensures each { IfOk result (λ pieces. (t : ℕ) → t < threads → IfOk (get_or pieces.items t (Err alloc_error)) (λ out. out.items ≡ piece_text first all.now count most t)) }
+    ensures each { IfOk result (λ pieces. (t : ℕ) → t < threads
+        → IfOk (get_or pieces.items t (Err alloc_error))
+        (λ out. out.items ≡ piece_text first all.now count most t)) }
 {
     thread::map_indices(
         rt,
         alloc,
         threads,
         &|t: usize| -> Result<Vec<u8>, AllocError>
-            requires { All (λ a. length a.texts ≡ count) all.now × (first + count < 2 ^ 64) × (most ≤ 1000002) × (t < 64) }
+            requires { All (λ a. length a.texts ≡ count) all.now × (first + count < 2 ^ 64)
+                × (most ≤ 1000002) × (t < 64) }
             ensures { IfOk result (λ out. out.items ≡ piece_text first all.entry.now count most t) }
         { piece(alloc, first, all, count, most, t) },
     )
@@ -123,8 +126,10 @@ pub fn text_on_threads<H: Threads + Sync, K: TraceKey>(
     requires options { option_fault options.now ≡ None }
     requires few { first + length read.now.lines ≤ 1000001 }
     requires threads { (0 < threads) × (threads ≤ 64) }
-    requires all { all.now ≡ map (answers (keys_by K.eq K.word K.read K.shown) options.now first read.now.lines) (range_with_len 0 options.now.shards) }
-    ensures { IfOk result (λ out. out.items ≡ (spec.report_of (keys_by K.eq K.word K.read K.shown) options.now first read.now).text) }
+    requires all { all.now ≡ map (answers (keys_by K.eq K.word K.read K.shown) options.now first
+        read.now.lines) (range_with_len 0 options.now.shards) }
+    ensures { IfOk result (λ out. out.items
+        ≡ (spec.report_of (keys_by K.eq K.word K.read K.shown) options.now first read.now).text) }
 {
     let mut out = lines_on_threads(rt, alloc, first, all, read.len(), threads)?;
     if read.verdict().is_ok() {

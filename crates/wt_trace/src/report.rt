@@ -50,7 +50,8 @@ pub fn show_lines(
 ) -> Result<(), AllocError>
     requires whole { All (λ a. from + len ≤ length a.texts) all.now }
     requires fits { first + from + len < 2 ^ 64 }
-    ensures { OnOk result (out.new.items ≡ out.old.items ++ spec.lines_text first all.now from len) }
+    ensures { OnOk result (out.new.items ≡ out.old.items
+        ++ spec.lines_text first all.now from len) }
 {
     for i in 0..len {
         show_line(out, first, all, from + i)?;
@@ -165,8 +166,11 @@ pub fn text_of<K: TraceKey>(
 ) -> Result<Vec<u8>, NoMemory>
     requires options { option_fault options.now ≡ None }
     requires first { first ≤ 1000001 }
-    requires all { all.now ≡ map (answers (keys_by K.eq K.word K.read K.shown) options.now first read.now.lines.items) (range_with_len 0 options.now.shards) }
-    ensures { IfOk result (λ out. out.items ≡ (spec.report_of (keys_by K.eq K.word K.read K.shown) options.now first (record { lines = read.now.lines.items; verdict = read.now.verdict })).text) }
+    requires all { all.now ≡ map (answers (keys_by K.eq K.word K.read K.shown) options.now first
+        read.now.lines.items) (range_with_len 0 options.now.shards) }
+    ensures { IfOk result (λ out. out.items
+        ≡ (spec.report_of (keys_by K.eq K.word K.read K.shown) options.now first
+        (record { lines = read.now.lines.items; verdict = read.now.verdict })).text) }
 {
     let text = print(alloc, first, read.lines.len(), read.verdict.is_ok(), all)?;
     Ok(text)
@@ -182,7 +186,9 @@ fn answers_in_order<K: TraceKey>(
 ) -> Result<Vec<Answers>, ReplayFault>
     requires options { option_fault options.now ≡ None }
     requires few { first + length lines.now ≤ 1000001 }
-    ensures answers { IfOk result (λ all. all.items ≡ map (answers (keys_by K.eq K.word K.read K.shown) options.now first lines.now) (range_with_len 0 options.now.shards)) }
+    ensures answers { IfOk result (λ all. all.items
+        ≡ map (answers (keys_by K.eq K.word K.read K.shown) options.now first lines.now)
+        (range_with_len 0 options.now.shards)) }
     ensures err { IfErr result (IsStop (λ _. ⊥)) }
 {
     let mut all = Vec::new(alloc);
@@ -202,7 +208,9 @@ fn report_of<K: TraceKey>(
 ) -> Result<(Vec<u8>, Result<(), ReplayFault>), ReplayFault>
     requires options { option_fault options.now ≡ None }
     requires first { first ≤ 1000001 }
-    ensures report { IfOk result (λ r. spec.IsReport (spec.report_of (keys_by K.eq K.word K.read K.shown) options.now first (trace_from K.read first (lines_of bytes.now))) r.0.items r.1) }
+    ensures report { IfOk result (λ r. spec.IsReport
+        (spec.report_of (keys_by K.eq K.word K.read K.shown) options.now first
+        (trace_from K.read first (lines_of bytes.now))) r.0.items r.1) }
     ensures err { IfErr result (IsStop (λ _. ⊥)) }
 {
     let read = read_lines::<K>(alloc, first, bytes)?;
@@ -214,7 +222,8 @@ fn report_of<K: TraceKey>(
 /// keys are names.
 #[tactic(auto, using(crate::proofs::Reports::header_first, crate::proofs::Reports::behind_first))]
 pub fn behind_header(bytes: &[u8]) -> Option<&[u8]>
-    ensures some { IfSome result (λ rest. (is_header (lines_of bytes.now) ≡ true) × (drop 1 (lines_of bytes.now) ≡ lines_of rest.now)) }
+    ensures some { IfSome result (λ rest. (is_header (lines_of bytes.now) ≡ true)
+        × (drop 1 (lines_of bytes.now) ≡ lines_of rest.now)) }
     ensures none { IsNone result → is_header (lines_of bytes.now) ≡ false }
 {
     let (first, rest) = cut(bytes, b'\n');
@@ -229,7 +238,8 @@ pub fn report(
     options: &Options,
 ) -> Result<(Vec<u8>, Result<(), ReplayFault>), ReplayFault>
     requires { option_fault options.now ≡ None }
-    ensures report { IfOk result (λ r. spec.IsReport (spec.report options.now bytes.now) r.0.items r.1) }
+    ensures report { IfOk result (λ r. spec.IsReport (spec.report options.now bytes.now) r.0.items
+        r.1) }
     ensures err { IfErr result (IsStop (λ _. ⊥)) }
 {
     let Some(rest) = behind_header(bytes) else {

@@ -31,9 +31,11 @@ pub fn read_up_to<R: Read>(
     reader: &mut Tallied<R>,
     most: usize,
 ) -> Result<Vec<u8>, ReplayFault>
-    ensures given { IfOk result (λ bytes. Consumes (R.remaining reader.old.inner) (R.remaining reader.new.inner) bytes.items) }
+    ensures given { IfOk result (λ bytes. Consumes (R.remaining reader.old.inner)
+        (R.remaining reader.new.inner) bytes.items) }
     ensures few { IfOk result (λ bytes. vec_len bytes ≤ most) }
-    ensures all { IfOk result (λ bytes. (vec_len bytes ≡ most) ⊎ IsAtEnd (R.remaining reader.new.inner)) }
+    ensures all { IfOk result (λ bytes. (vec_len bytes ≡ most)
+        ⊎ IsAtEnd (R.remaining reader.new.inner)) }
     ensures turns { reader.new.reads ≤ reader.old.reads + most + 1 }
     ensures faults { IfErr result (λ e. (e ≡ fault.Cache cache.NoMemory) ⊎ (e ≡ fault.ReadFault)) }
     ensures kind { IfErr result (λ e. is_config_fault e ≡ false) }
@@ -60,8 +62,10 @@ pub fn read_up_to<R: Read>(
 ///
 /// `WriteFault` exactly where the writer failed or took nothing: a front of the bytes was written.
 pub fn write_out<W: Write>(writer: &mut Tallied<W>, bytes: &[u8]) -> Result<(), ReplayFault>
-    ensures ok { OnOk result (Appends (W.contents writer.old.inner) (W.contents writer.new.inner) bytes.now) }
-    ensures err { IfErr result (λ e. (e ≡ fault.WriteFault) × AppendsFront (W.contents writer.old.inner) (W.contents writer.new.inner) bytes.now) }
+    ensures ok { OnOk result (Appends (W.contents writer.old.inner) (W.contents writer.new.inner)
+        bytes.now) }
+    ensures err { IfErr result (λ e. (e ≡ fault.WriteFault)
+        × AppendsFront (W.contents writer.old.inner) (W.contents writer.new.inner) bytes.now) }
     ensures kind { IfErr result (λ e. is_config_fault e ≡ false) }
     ensures failed { Rises writer.old.failures writer.new.failures result fault.WriteFault }
 {
@@ -89,8 +93,13 @@ pub fn replay<R: Read, W: Write>(
     writer: &mut Tallied<W>,
     options: &Options,
 ) -> Result<(), ReplayFault>
-    ensures config { MatchOption (option_fault options.now) (IfErr result (λ e. is_config_fault e ≡ false)) (λ field. (result ≡ Err (fault.Cache (cache.BadConfig field))) × (reader.new ≡ reader.old) × (writer.new ≡ writer.old)) }
-    ensures replayed { Replayed options.now (R.remaining reader.old.inner) (R.remaining reader.new.inner) (W.contents writer.old.inner) (W.contents writer.new.inner) result }
+    ensures config { MatchOption (option_fault options.now)
+        (IfErr result (λ e. is_config_fault e ≡ false))
+        (λ field. (result ≡ Err (fault.Cache (cache.BadConfig field))) × (reader.new ≡ reader.old)
+        × (writer.new ≡ writer.old)) }
+    ensures replayed { Replayed options.now (R.remaining reader.old.inner)
+        (R.remaining reader.new.inner) (W.contents writer.old.inner) (W.contents writer.new.inner)
+        result }
     ensures reads { Rises reader.old.failures reader.new.failures result fault.ReadFault }
     ensures turns { reader.new.reads ≤ reader.old.reads + 65000002 }
     ensures writes { Rises writer.old.failures writer.new.failures result fault.WriteFault }
@@ -123,13 +132,19 @@ pub fn replay_by_shard<H: Threads + Sync, R: Read, W: Write, G: Gate>(
     gate: &G,
 ) -> Result<(), ReplayFault>
     requires { (0 < threads) × (threads ≤ 64) }
-    ensures config { MatchOption (option_fault options.now) (IfErr result (λ e. is_config_fault e ≡ false)) (λ field. (result ≡ Err (fault.Cache (cache.BadConfig field))) × (reader.new ≡ reader.old) × (writer.new ≡ writer.old)) }
-    ensures replayed { Replayed options.now (R.remaining reader.old.inner) (R.remaining reader.new.inner) (W.contents writer.old.inner) (W.contents writer.new.inner) result }
+    ensures config { MatchOption (option_fault options.now)
+        (IfErr result (λ e. is_config_fault e ≡ false))
+        (λ field. (result ≡ Err (fault.Cache (cache.BadConfig field))) × (reader.new ≡ reader.old)
+        × (writer.new ≡ writer.old)) }
+    ensures replayed { Replayed options.now (R.remaining reader.old.inner)
+        (R.remaining reader.new.inner) (W.contents writer.old.inner) (W.contents writer.new.inner)
+        result }
     ensures reads { Rises reader.old.failures reader.new.failures result fault.ReadFault }
     ensures turns { reader.new.reads ≤ reader.old.reads + 65000002 }
     ensures writes { Rises writer.old.failures writer.new.failures result fault.WriteFault }
     ensures shut { ShutsOnly (λ n. G.answers gate.now n false) result }
-    ensures asked { LetThrough options.now (λ n. G.answers gate.now n true) (R.remaining reader.old.inner) (R.remaining reader.new.inner) result }
+    ensures asked { LetThrough options.now (λ n. G.answers gate.now n true)
+        (R.remaining reader.old.inner) (R.remaining reader.new.inner) result }
 {
     if let Some(field) = options.fault() {
         return Err(ReplayFault::Cache(Fault::BadConfig { field }));

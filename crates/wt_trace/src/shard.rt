@@ -55,8 +55,12 @@ impl<K: TraceKey> Model for Shard<K> {
 impl<K: TraceKey> Shard<K> {
     // Makes one call, and appends its words and its notices.
     fn one_call(&mut self, call: Call<K, Version<K>>) -> Result<(), NoMemory>
-        ensures state { OnOk result (self.new.state ≡ (spec.one_call (keys_by K.eq K.word K.read K.shown) self.old.shard self.old.state call).state) }
-        ensures text { OnOk result (self.new.text ≡ self.old.text ++ (spec.one_call (keys_by K.eq K.word K.read K.shown) self.old.shard self.old.state call).text) }
+        ensures state { OnOk result (self.new.state
+            ≡ (spec.one_call (keys_by K.eq K.word K.read K.shown) self.old.shard self.old.state
+            call).state) }
+        ensures text { OnOk result (self.new.text ≡ self.old.text
+            ++ (spec.one_call (keys_by K.eq K.word K.read K.shown) self.old.shard self.old.state
+            call).text) }
         ensures same { (self.new.options ≡ self.old.options) × (self.new.shard ≡ self.old.shard) }
     {
         self.told.empty();
@@ -69,8 +73,15 @@ impl<K: TraceKey> Shard<K> {
     // Lands a flight that a seek has just opened, and appends the words of the load and the notices
     // of both.
     fn land_now(&mut self, id: u64, n: u64, key: K, moment: u64) -> Result<(), NoMemory>
-        ensures state { OnOk result (self.new.state ≡ (spec.take (keys_by K.eq K.word K.read K.shown) self.old.state (spec.landing_of (keys_by K.eq K.word K.read K.shown) self.old.options id n key moment)).state) }
-        ensures text { OnOk result (self.new.text ≡ self.old.text ++ (spec.landed_at_once (keys_by K.eq K.word K.read K.shown) [] self.old.told (spec.take (keys_by K.eq K.word K.read K.shown) self.old.state (spec.landing_of (keys_by K.eq K.word K.read K.shown) self.old.options id n key moment))).text) }
+        ensures state { OnOk result (self.new.state
+            ≡ (spec.take (keys_by K.eq K.word K.read K.shown) self.old.state
+            (spec.landing_of (keys_by K.eq K.word K.read K.shown) self.old.options id n key
+            moment)).state) }
+        ensures text { OnOk result (self.new.text ≡ self.old.text
+            ++ (spec.landed_at_once (keys_by K.eq K.word K.read K.shown) [] self.old.told
+            (spec.take (keys_by K.eq K.word K.read K.shown) self.old.state
+            (spec.landing_of (keys_by K.eq K.word K.read K.shown) self.old.options id n key
+            moment))).text) }
         ensures same { (self.new.options ≡ self.old.options) × (self.new.shard ≡ self.old.shard) }
     {
         self.later.empty();
@@ -84,8 +95,12 @@ impl<K: TraceKey> Shard<K> {
 
     // Does a line of letter G: a seek, and the landing of the flight that it opens.
     fn fetch(&mut self, n: u64, key: K, moment: u64) -> Result<(), NoMemory>
-        ensures state { OnOk result (self.new.state ≡ (spec.act_step (keys_by K.eq K.word K.read K.shown) self.old.options self.old.shard n moment (act.Get key) self.old.state).state) }
-        ensures text { OnOk result (self.new.text ≡ self.old.text ++ (spec.act_step (keys_by K.eq K.word K.read K.shown) self.old.options self.old.shard n moment (act.Get key) self.old.state).text) }
+        ensures state { OnOk result (self.new.state
+            ≡ (spec.act_step (keys_by K.eq K.word K.read K.shown) self.old.options self.old.shard n
+            moment (act.Get key) self.old.state).state) }
+        ensures text { OnOk result (self.new.text ≡ self.old.text
+            ++ (spec.act_step (keys_by K.eq K.word K.read K.shown) self.old.options self.old.shard n
+            moment (act.Get key) self.old.state).text) }
         ensures same { (self.new.options ≡ self.old.options) × (self.new.shard ≡ self.old.shard) }
     {
         self.told.empty();
@@ -106,8 +121,12 @@ impl<K: TraceKey> Shard<K> {
 
     // Does a line of letter E: the landing of the key's oldest open flight, if there is one.
     fn land_oldest(&mut self, n: u64, key: K, moment: u64) -> Result<(), NoMemory>
-        ensures state { OnOk result (self.new.state ≡ (spec.act_step (keys_by K.eq K.word K.read K.shown) self.old.options self.old.shard n moment (act.Land key) self.old.state).state) }
-        ensures text { OnOk result (self.new.text ≡ self.old.text ++ (spec.act_step (keys_by K.eq K.word K.read K.shown) self.old.options self.old.shard n moment (act.Land key) self.old.state).text) }
+        ensures state { OnOk result (self.new.state
+            ≡ (spec.act_step (keys_by K.eq K.word K.read K.shown) self.old.options self.old.shard n
+            moment (act.Land key) self.old.state).state) }
+        ensures text { OnOk result (self.new.text ≡ self.old.text
+            ++ (spec.act_step (keys_by K.eq K.word K.read K.shown) self.old.options self.old.shard n
+            moment (act.Land key) self.old.state).text) }
         ensures same { (self.new.options ≡ self.old.options) × (self.new.shard ≡ self.old.shard) }
     {
         match self.core.first_of(key) {
@@ -124,8 +143,12 @@ impl<K: TraceKey> Shard<K> {
 
     // Does what line n asks for, and appends what the shard adds to it.
     fn act(&mut self, n: u64, line: &Line<K>) -> Result<(), NoMemory>
-        ensures state { OnOk result (self.new.state ≡ (spec.act_step (keys_by K.eq K.word K.read K.shown) self.old.options self.old.shard n line.now.moment line.now.act self.old.state).state) }
-        ensures text { OnOk result (self.new.text ≡ self.old.text ++ (spec.act_step (keys_by K.eq K.word K.read K.shown) self.old.options self.old.shard n line.now.moment line.now.act self.old.state).text) }
+        ensures state { OnOk result (self.new.state
+            ≡ (spec.act_step (keys_by K.eq K.word K.read K.shown) self.old.options self.old.shard n
+            line.now.moment line.now.act self.old.state).state) }
+        ensures text { OnOk result (self.new.text ≡ self.old.text
+            ++ (spec.act_step (keys_by K.eq K.word K.read K.shown) self.old.options self.old.shard n
+            line.now.moment line.now.act self.old.state).text) }
         ensures same { (self.new.options ≡ self.old.options) × (self.new.shard ≡ self.old.shard) }
     {
         let now = line.moment;
@@ -149,10 +172,15 @@ impl<K: TraceKey> Shard<K> {
     // shard adds to it.
     #[tactic(auto, unfolding(crate::specs::Answers::line_step))]
     fn do_line<G: Gate>(&mut self, gate: &G, n: u64, line: &Line<K>) -> Result<(), ReplayFault>
-        ensures state { OnOk result (self.new.state ≡ (spec.line_step (keys_by K.eq K.word K.read K.shown) self.old.options self.old.shard n line.now self.old.state).state) }
-        ensures text { OnOk result (self.new.text ≡ self.old.text ++ (spec.line_step (keys_by K.eq K.word K.read K.shown) self.old.options self.old.shard n line.now self.old.state).text) }
+        ensures state { OnOk result (self.new.state
+            ≡ (spec.line_step (keys_by K.eq K.word K.read K.shown) self.old.options self.old.shard n
+            line.now self.old.state).state) }
+        ensures text { OnOk result (self.new.text ≡ self.old.text
+            ++ (spec.line_step (keys_by K.eq K.word K.read K.shown) self.old.options self.old.shard
+            n line.now self.old.state).text) }
         ensures same { (self.new.options ≡ self.old.options) × (self.new.shard ≡ self.old.shard) }
-        ensures asked { OnOk result (spec.belongs (keys_by K.eq K.word K.read K.shown) self.old.options self.old.shard line.now.act ≡ true → G.answers gate.now n true) }
+        ensures asked { OnOk result (spec.belongs (keys_by K.eq K.word K.read K.shown)
+            self.old.options self.old.shard line.now.act ≡ true → G.answers gate.now n true) }
         ensures err { IfErr result (IsStop (λ m. G.answers gate.now m false)) }
     {
         if !belongs(&self.options, self.number, &line.act) {
@@ -217,8 +245,11 @@ pub fn shard_answers<K: TraceKey, G: Gate>(
 ) -> Result<Answers, ReplayFault>
     requires options { option_fault options.now ≡ None }
     requires few { first + length lines ≤ 1000001 }
-    ensures answers { IfOk result (λ a. a ≡ spec.answers (keys_by K.eq K.word K.read K.shown) options.now first lines.entry number) }
-    ensures asked { OnOk result (AreAsked (spec.belongs (keys_by K.eq K.word K.read K.shown) options.now number) (λ n. G.answers gate.now n true) first lines.entry) }
+    ensures answers { IfOk result (λ a. a
+        ≡ spec.answers (keys_by K.eq K.word K.read K.shown) options.now first lines.entry number) }
+    ensures asked { OnOk result (AreAsked
+        (spec.belongs (keys_by K.eq K.word K.read K.shown) options.now number)
+        (λ n. G.answers gate.now n true) first lines.entry) }
     ensures err { IfErr result (IsStop (λ n. G.answers gate.now n false)) }
 {
     let Ok(core) = Core::new(alloc, &options.config()) else {

@@ -71,7 +71,8 @@ impl<T: Read> Read for Tallied<T> {
 
     fn read(&mut self, buf: &mut [u8]) -> io::Result<usize>
         ensures bound { ReadsAtMost result buf.new }
-        ensures bytes { ReadConsumes (T.remaining self.old.inner) (T.remaining self.new.inner) result buf.new }
+        ensures bytes { ReadConsumes (T.remaining self.old.inner) (T.remaining self.new.inner)
+            result buf.new }
         ensures reads { self.new.reads ≡ one_more self.old.reads }
         ensures tally { self.new.failures ≡ tally self.old.failures (is_err result) }
     {
@@ -89,7 +90,8 @@ impl<T: Write> Write for Tallied<T> {
 
     fn write(&mut self, buf: &[u8]) -> io::Result<usize>
         ensures bound { WritesAtMost result buf.now }
-        ensures bytes { WriteAppends (T.contents self.old.inner) (T.contents self.new.inner) result buf.now }
+        ensures bytes { WriteAppends (T.contents self.old.inner) (T.contents self.new.inner) result
+            buf.now }
         ensures same { self.new.reads ≡ self.old.reads }
         ensures tally { self.new.failures ≡ tally self.old.failures (wrote_nothing result buf.now) }
     {

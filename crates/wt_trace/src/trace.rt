@@ -47,8 +47,10 @@ pub fn read_lines<K: TraceKey>(
 ) -> Result<Lines<K>, NoMemory>
     requires { first ≤ 1000001 }
     ensures few { IfOk result (λ read. first + length read.lines.items ≤ 1000001) }
-    ensures lines { IfOk result (λ read. read.lines.items ≡ (trace_from K.read first (lines_of bytes.now)).lines) }
-    ensures verdict { IfOk result (λ read. read.verdict ≡ (trace_from K.read first (lines_of bytes.now)).verdict) }
+    ensures lines { IfOk result (λ read. read.lines.items
+        ≡ (trace_from K.read first (lines_of bytes.now)).lines) }
+    ensures verdict { IfOk result (λ read. read.verdict
+        ≡ (trace_from K.read first (lines_of bytes.now)).verdict) }
 {
     let mut lines = Vec::new(alloc);
     let mut rest = bytes;

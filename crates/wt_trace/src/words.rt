@@ -42,7 +42,8 @@ fn show_notice<K: TraceKey>(
     out: &mut Vec<u8>,
     notice: &Notice<K, Version<K>>,
 ) -> Result<(), AllocError>
-    ensures { OnOk result (out.new.items ≡ out.old.items ++ spec.notice_text (keys_by K.eq K.word K.read K.shown) notice.now) }
+    ensures { OnOk result (out.new.items ≡ out.old.items
+        ++ spec.notice_text (keys_by K.eq K.word K.read K.shown) notice.now) }
 {
     show(out, " ")?;
     notice.key.show(out)?;
@@ -56,7 +57,8 @@ pub(crate) fn show_notices<K: TraceKey>(
     out: &mut Vec<u8>,
     notices: &[Notice<K, Version<K>>],
 ) -> Result<(), AllocError>
-    ensures { OnOk result (out.new.items ≡ out.old.items ++ flat_map (spec.notice_text (keys_by K.eq K.word K.read K.shown)) notices.now) }
+    ensures { OnOk result (out.new.items ≡ out.old.items
+        ++ flat_map (spec.notice_text (keys_by K.eq K.word K.read K.shown)) notices.now) }
 {
     for notice in notices {
         show_notice(out, notice)?;
