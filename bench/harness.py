@@ -28,8 +28,8 @@ def crates_below(names):
     return found
 
 
-def build(folder, harness, name, deps):
-    """The program of a harness, which stands on these crates, proved and built in the folder.
+def build(folder, harness, name, deps, *words):
+    """The program of a harness, which stands on these crates, proved and built in the folder, and run once with these words.
 
     A crate comes with its out/, so that what is proved of it isn't proved again. Built it is as every proved program is: by LLVM, at -O3.
     """
@@ -40,7 +40,7 @@ def build(folder, harness, name, deps):
     unpack(harness, crates / name)
     (folder / "crates.txt").write_text("\n".join([*below.values(), f"{name}: {deps}\n"]))
     shutil.copy(ROOT / "HANDLES", folder / "HANDLES")
-    made = subprocess.run(["rt", "run"], cwd=crates / name, capture_output=True, text=True)
+    made = subprocess.run(["rt", "run", "--", *words], cwd=crates / name, capture_output=True, text=True)
     if made.returncode != 0:
         raise SystemExit(made.stdout + made.stderr)
     return crates / name / "out" / name
