@@ -15,106 +15,13 @@ mod soak;
 use wt_core::{Call, Config, Land, Reply};
 use wt_keys::Fault;
 use wt_shards::{Noted, Shade};
-use wt_tests::{Dice, Loaded};
-
-// A value of weight 1.
-fn light(version: u64) -> Loaded {
-    Loaded { version, weight: 1 }
-}
+use wt_tests::{Do, Loaded, Said, comparable};
 
 // A reply or a fault, which can be compared.
-#[derive(Clone, Copy, Debug, PartialEq, Eq)]
-enum Said {
-    Hit(Loaded),
-    Absent,
-    HitLead(Loaded, u64),
-    Join(u64),
-    Lead(u64),
-    Kept(u64),
-    Loose(u64),
-    Failed(u64),
-    Gone,
-    Stored,
-    Dropped(bool),
-    Cleared,
-    Forgot(bool),
-    Cleaned,
-    Refused(Fault),
-}
-
-fn comparable(reply: Result<Reply<Loaded>, Fault>) -> Said {
-    let reply = match reply {
-        Ok(reply) => reply,
-        Err(fault) => return Said::Refused(fault),
-    };
+fn answered(reply: Result<Reply<Loaded>, Fault>) -> Said {
     match reply {
-        Reply::Hit(value) => Said::Hit(value),
-        Reply::Absent => Said::Absent,
-        Reply::HitLead(value, id) => Said::HitLead(value, id),
-        Reply::Join(id) => Said::Join(id),
-        Reply::Lead(id) => Said::Lead(id),
-        Reply::Kept(sharers) => Said::Kept(sharers),
-        Reply::Loose(sharers) => Said::Loose(sharers),
-        Reply::Failed(sharers) => Said::Failed(sharers),
-        Reply::Gone => Said::Gone,
-        Reply::Stored => Said::Stored,
-        Reply::Dropped(left) => Said::Dropped(left),
-        Reply::Cleared => Said::Cleared,
-        Reply::Forgot(was) => Said::Forgot(was),
-        Reply::Cleaned => Said::Cleaned,
-        Reply::Refused(fault) => Said::Refused(fault),
-    }
-}
-
-// What is done to a key, as a row of a table has it; a landing with its id.
-#[derive(Clone, Copy)]
-enum Do {
-    Look,
-    Seek,
-    Keep(u64, Loaded),
-    Loose(u64),
-    Fail(u64),
-    Put(Loaded),
-    DropKey,
-    Clear,
-    Forget,
-    Clean,
-}
-
-fn call_of(act: Do, key: u64, now: u64) -> Call<u64, Loaded> {
-    match act {
-        Do::Look => Call::Look(key, now),
-        Do::Seek => Call::Seek(key, now),
-        Do::Keep(id, value) => Call::Land(id, key, Land::Keep(value), now),
-        Do::Loose(id) => Call::Land(id, key, Land::Loose, now),
-        Do::Fail(id) => Call::Land(id, key, Land::Failed, now),
-        Do::Put(value) => Call::Put(key, value, now),
-        Do::DropKey => Call::DropKey(key, now),
-        Do::Clear => Call::Clear(now),
-        Do::Forget => Call::Forget(key, now),
-        Do::Clean => Call::Clean(now),
-    }
-}
-
-// What is done next: mostly seeks, and landings of the key's own load.
-fn choose(dice: &mut Dice, first: Option<u64>, version: u64) -> Do {
-    let weight = u32::try_from(dice.roll(7)).unwrap_or(0);
-    let value = Loaded { version, weight };
-    let id = match first {
-        Some(id) if dice.roll(6) > 0 => id,
-        _ => dice.roll(20),
-    };
-    match dice.roll(40) {
-        0 => Do::DropKey,
-        1 => Do::Clean,
-        2 => Do::Clear,
-        3 => Do::Forget,
-        4..=9 => Do::Look,
-        10..=15 => Do::Put(value),
-        16..=17 => Do::Fail(id),
-        18..=19 => Do::Loose(id),
-        20..=27 => Do::Keep(id, value),
-        _ => Do::Seek,
+        Ok(reply) => comparable(reply),
+        Err(fault) => Said::Refused(fault),
     }
 }
 

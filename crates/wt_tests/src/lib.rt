@@ -1,13 +1,18 @@
-//! What the tests of several crates share: a value, one whose shares can be refused, random
-//! numbers, and the rules of the regions once more over plain lists. Its contracts promise nothing.
+//! What the tests of several crates share: a value, one whose shares can be refused, what is done
+//! and said as rows of a table, random numbers, and the rules of the regions once more over plain
+//! lists. Its contracts promise nothing.
 #![tactic(auto)]
 
+mod acts;
 mod dice;
 mod fussy;
 mod lists;
 mod loaded;
+mod said;
 
+pub use acts::{Do, call_of, choose};
 pub use dice::Dice;
 pub use fussy::Fussy;
 pub use lists::{Lists, Row, is_past};
-pub use loaded::Loaded;
+pub use loaded::{Loaded, light};
+pub use said::{Said, comparable};

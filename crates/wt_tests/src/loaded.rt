@@ -34,3 +34,8 @@ impl Answers<u64> for Loaded {
         true
     }
 }
+
+/// Returns a value of weight 1.
+pub fn light(version: u64) -> Loaded {
+    Loaded { version, weight: 1 }
+}

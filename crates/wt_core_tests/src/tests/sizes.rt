@@ -1,9 +1,9 @@
 // The greatest sizes: as many entries as may be held, as many loads as may be open.
-use super::{Do, Run, Said, config, light, told};
+use super::{Run, config, told};
 use std::test::Fail;
 use wt_core::Config;
 use wt_keys::Fault;
-use wt_tests::Loaded;
+use wt_tests::{Do, Loaded, Said, light};
 
 #[test]
 fn as_many_entries_are_held_as_may_be(rt: HostRuntime) -> Result<(), Fail> {

@@ -5,7 +5,7 @@ ghost use Rattle.wt_shards.specs.Opening.{AreBlanksOf};
 
 use super::plain::Plain;
 use super::run::{Run, keys_of};
-use super::{call_of, choose, comparable, shaded};
+use super::{answered, shaded};
 use std::alloc::Global;
 use std::marker::Brand;
 use std::process::Abort;
@@ -13,7 +13,7 @@ use std::test::Fail;
 use wt_core::Config;
 use wt_keys::{Fault, NoMemory};
 use wt_shards::{Blanks, Names, Noted, Shade};
-use wt_tests::{Dice, Loaded};
+use wt_tests::{Dice, Loaded, call_of, choose};
 
 // The shard may answer the fault alone where the cache answers `Refused`. A step is added to those
 // made.
@@ -25,11 +25,11 @@ fn one_call<N: Names>(
     made: &mut Vec<Noted<u64>>,
     (key, version, now): (u64, u64, u64),
 ) -> Result<(), NoMemory> {
-    let act = choose(dice, plain.core.first_of(key), version);
+    let act = choose(dice, plain.core.first_of(key), 20, version);
     let before = plain.core.step();
     let wanted = plain.make(call_of(act, key, now));
     let reply = run.make(call_of(act, key, now));
-    assert_eq!(rt; comparable(reply), comparable(wanted));
+    assert_eq!(rt; answered(reply), answered(wanted));
     if plain.core.step() > before {
         made.push(shaded(act, key, now))?;
     }

@@ -2,8 +2,8 @@
 ghost use Rattle.std.specs.Prelude.{◌≡◌};
 ghost use Rattle.wt_shards.specs.Opening.{AreBlanksOf};
 
+use super::config;
 use super::run::Run;
-use super::{Do, call_of, config, light};
 use std::alloc::Global;
 use std::marker::Brand;
 use std::process::Abort;
@@ -11,7 +11,7 @@ use std::test::Fail;
 use wt_core::Config;
 use wt_keys::Fault;
 use wt_shards::{Blanks, Names};
-use wt_tests::Loaded;
+use wt_tests::{Do, Loaded, call_of, light};
 
 fn take_all<N: Names>(
     rt: &impl Abort,

@@ -2,7 +2,7 @@
 // a test is checked without those before it. Its room is seen when it runs, and not proved.
 ghost use Rattle.std.specs.Prelude.{◌≤◌};
 
-use super::{Do, Said, comparable};
+use super::answered;
 use std::alloc::Global;
 use std::marker::Model;
 use std::process::Abort;
@@ -11,7 +11,7 @@ use wt_core::{Land, Notice, Notices, Reply};
 use wt_flights::Lead;
 use wt_keys::Fault;
 use wt_shards::{Books, Pass, Shards, Sought};
-use wt_tests::Loaded;
+use wt_tests::{Do, Loaded, Said};
 
 // The notices are those of its latest step alone. A lead stays until it is landed.
 #[derive(Drop)]
@@ -110,7 +110,7 @@ impl<B: Books> Caller<B> {
     ) -> (Said, u64) {
         ready(rt, &mut self.notices, shards.entries() as usize);
         match shards.look(rt, &mut self.pass, key, now, &mut self.notices) {
-            Ok(done) => (comparable(Ok(done.reply)), done.step),
+            Ok(done) => (answered(Ok(done.reply)), done.step),
             Err(fault) => (Said::Refused(fault), 0),
         }
     }
@@ -142,7 +142,7 @@ impl<B: Books> Caller<B> {
         };
         ready(rt, &mut self.notices, shards.entries() as usize);
         match shards.land(rt, &mut self.pass, &lead, what, now, &mut self.notices) {
-            Ok(done) => (comparable(Ok(done.reply)), done.step),
+            Ok(done) => (answered(Ok(done.reply)), done.step),
             Err(fault) => (Said::Refused(fault), 0),
         }
     }
@@ -157,7 +157,7 @@ impl<B: Books> Caller<B> {
     ) -> (Said, u64) {
         ready(rt, &mut self.notices, shards.entries() as usize);
         match shards.put(rt, &mut self.pass, key, value, now, &mut self.notices) {
-            Ok(done) => (comparable(Ok(Reply::Stored)), done.step),
+            Ok(done) => (answered(Ok(Reply::Stored)), done.step),
             Err(fault) => (Said::Refused(fault), 0),
         }
     }
@@ -171,7 +171,7 @@ impl<B: Books> Caller<B> {
     ) -> (Said, u64) {
         ready(rt, &mut self.notices, shards.entries() as usize);
         match shards.drop_key(rt, &mut self.pass, key, now, &mut self.notices) {
-            Ok(done) => (comparable(Ok(Reply::Dropped(done.reply))), done.step),
+            Ok(done) => (answered(Ok(Reply::Dropped(done.reply))), done.step),
             Err(fault) => (Said::Refused(fault), 0),
         }
     }
@@ -185,7 +185,7 @@ impl<B: Books> Caller<B> {
     ) -> (Said, u64) {
         ready(rt, &mut self.notices, shards.entries() as usize);
         match shards.forget(rt, &mut self.pass, key, now, &mut self.notices) {
-            Ok(done) => (comparable(Ok(Reply::Forgot(done.reply))), done.step),
+            Ok(done) => (answered(Ok(Reply::Forgot(done.reply))), done.step),
             Err(fault) => (Said::Refused(fault), 0),
         }
     }

@@ -3,7 +3,7 @@ ghost use Rattle.std.specs.Prelude.{◌≡◌};
 ghost use Rattle.wt_shards.specs.Opening.{AreBlanksOf};
 
 use super::run::Run;
-use super::{Do, Said, call_of, comparable, config, light};
+use super::{answered, config};
 use std::alloc::Global;
 use std::marker::{Brand, Model};
 use std::process::Abort;
@@ -12,7 +12,7 @@ use wt_core::Config;
 use wt_flights::{Lead, Outcome, Publish, Ticket};
 use wt_keys::Fault;
 use wt_shards::{Blanks, Names, Sought};
-use wt_tests::Loaded;
+use wt_tests::{Do, Loaded, Said, call_of, light};
 
 // The leads and tickets that seeks answered, in this order.
 #[derive(Drop)]
@@ -106,7 +106,7 @@ fn tell<N: Names>(
             let sought = run.seek(key, now)?;
             loads.keep(sought)
         }
-        Act::Step(act) => Ok(Told::Step(comparable(run.make(call_of(act, key, now))))),
+        Act::Step(act) => Ok(Told::Step(answered(run.make(call_of(act, key, now))))),
         Act::Publish(value) => {
             loads.publish(rt, value)?;
             Ok(Told::Published)

@@ -4,7 +4,7 @@ ghost use Rattle.wt_shards.specs.Opening.{AreBlanksOf};
 
 use super::caller::Caller;
 use super::plain::Plain;
-use super::{Do, Said, call_of, comparable, config, light};
+use super::{answered, config};
 use std::alloc::Global;
 use std::marker::Brand;
 use std::process::Abort;
@@ -13,7 +13,7 @@ use std::test::Fail;
 use wt_core::{Config, Notice, Stats};
 use wt_keys::{Fault, shard_of};
 use wt_shards::{Blanks, Names, Of, Shards};
-use wt_tests::Loaded;
+use wt_tests::{Do, Loaded, Said, call_of, light};
 
 // What is done to a key at a moment, what is answered, and of how many removals is told.
 type Row = (Do, u64, u64, Said, usize);
@@ -44,7 +44,7 @@ impl Plains {
             Do::Clear | Do::Clean => {
                 let mut said = Said::Gone;
                 for cache in &mut self.caches {
-                    said = comparable(cache.make(call_of(act, key, now)));
+                    said = answered(cache.make(call_of(act, key, now)));
                 }
                 (said, self.steps(0))
             }
@@ -55,7 +55,7 @@ impl Plains {
                     0
                 };
                 let said = match self.caches.get_mut(home) {
-                    Some(cache) => comparable(cache.make(call_of(act, key, now))),
+                    Some(cache) => answered(cache.make(call_of(act, key, now))),
                     None => Said::Gone,
                 };
                 (said, self.steps(home))

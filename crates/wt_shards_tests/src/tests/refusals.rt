@@ -5,7 +5,7 @@ ghost use Rattle.wt_shards.specs.Opening.{AreBlanksOf};
 
 use super::plain::Plain;
 use super::run::Run;
-use super::{Do, Said, call_of, comparable, config, light, shaded};
+use super::{answered, config, shaded};
 use std::alloc::Global;
 use std::cell::Cell;
 use std::marker::Brand;
@@ -15,7 +15,7 @@ use std::test::Fail;
 use wt_core::{Call, Config, Land, Stats, Weighs};
 use wt_keys::{Answers, Fault, Share};
 use wt_shards::{Blanks, Names, Shade};
-use wt_tests::{Fussy, Loaded};
+use wt_tests::{Do, Fussy, Loaded, Said, call_of, light};
 
 #[derive(Clone, Copy)]
 enum Step {
@@ -228,12 +228,12 @@ fn ask<N: Names>(
 ) {
     run.forget_notices();
     let before = seen(rt, run);
-    let said = comparable(run.make(call_of(act, key, 0)));
+    let said = answered(run.make(call_of(act, key, 0)));
     if said == Said::Refused(Fault::NoMemory) {
         assert!(rt; !takes_no_memory(act));
         assert_eq!(rt; seen(rt, run), before);
         expect_explained(rt, alloc, limits, run);
-        let said = comparable(run.make(call_of(act, key, 0)));
+        let said = answered(run.make(call_of(act, key, 0)));
         assert_eq!(rt; said, answer);
     } else {
         assert_eq!(rt; said, answer);

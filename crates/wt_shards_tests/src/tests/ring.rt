@@ -3,7 +3,7 @@ ghost use Rattle.std.specs.Prelude.{◌≡◌};
 ghost use Rattle.wt_shards.specs.Opening.{AreBlanksOf};
 
 use super::run::Run;
-use super::{Do, Said, call_of, comparable, config, light};
+use super::{answered, config};
 use std::alloc::Global;
 use std::marker::Brand;
 use std::process::Abort;
@@ -11,7 +11,7 @@ use std::test::Fail;
 use wt_core::Config;
 use wt_keys::Fault;
 use wt_shards::{Blanks, Names};
-use wt_tests::Loaded;
+use wt_tests::{Do, Loaded, Said, call_of, light};
 
 // What is done to a key, what is answered, and then how many records were dropped and how many are
 // kept.
@@ -30,7 +30,7 @@ fn play<N: Names>(
     let mut run: Run<Loaded, N> = Run::new(alloc, limits, blanks)?;
     for (act, key, answer, dropped, kept) in rows {
         let reply = run.make(call_of(*act, *key, 0));
-        assert_eq!(rt; comparable(reply), *answer);
+        assert_eq!(rt; answered(reply), *answer);
         assert_eq!(rt; run.records(), (*dropped, *kept));
     }
     Ok(())

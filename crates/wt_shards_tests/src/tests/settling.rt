@@ -3,7 +3,7 @@ ghost use Rattle.std.specs.Prelude.{◌≡◌};
 ghost use Rattle.wt_shards.specs.Opening.{AreBlanksOf};
 
 use super::caller::Caller;
-use super::{Do, Said, config, light};
+use super::config;
 use std::alloc::Global;
 use std::marker::Brand;
 use std::process::Abort;
@@ -14,7 +14,7 @@ use std::thread::Threads;
 use wt_core::Config;
 use wt_keys::Fault;
 use wt_shards::{Blanks, Names, Of, Shards};
-use wt_tests::Loaded;
+use wt_tests::{Do, Loaded, Said, light};
 
 // Steps and hits at each of the four shards.
 type Counts = [(u64, u64); 4];

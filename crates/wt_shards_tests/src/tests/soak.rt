@@ -3,7 +3,7 @@ ghost use Rattle.std.specs.Prelude.{◌≡◌};
 ghost use Rattle.wt_shards.specs.Opening.{AreBlanksOf};
 
 use super::caller::Caller;
-use super::{Do, Said, choose, config};
+use super::config;
 use std::alloc::Global;
 use std::marker::Brand;
 use std::process::Abort;
@@ -14,7 +14,7 @@ use std::thread::Threads;
 use wt_core::Config;
 use wt_keys::Fault;
 use wt_shards::{Blanks, Names, Of, Pass, Shards};
-use wt_tests::{Dice, Loaded};
+use wt_tests::{Dice, Do, Loaded, Said, choose};
 
 // How many threads call, and the turns of each.
 const CALLERS: usize = 4;
@@ -30,7 +30,7 @@ fn next<N: Names>(dice: &mut Dice, caller: &Caller<Of<N>>, version: u64) -> (Do,
         return (Do::Fail(id), key);
     }
     let key = dice.roll(8);
-    (choose(dice, caller.led(key), version), key)
+    (choose(dice, caller.led(key), 20, version), key)
 }
 
 // How many steps an answer tells of: a sweep is one at each shard, and a landing without a lead

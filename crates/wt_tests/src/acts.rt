@@ -1,0 +1,58 @@
+//! What is done to a key, as a row of a table or by chance.
+use crate::dice::Dice;
+use crate::loaded::Loaded;
+use wt_core::{Call, Land};
+
+/// What is done; a landing with its id.
+#[derive(Clone, Copy)]
+pub enum Do {
+    Look,
+    Seek,
+    Keep(u64, Loaded),
+    Loose(u64),
+    Fail(u64),
+    Put(Loaded),
+    DropKey,
+    Clear,
+    Forget,
+    Clean,
+}
+
+/// Returns the call that does it to the key.
+pub fn call_of(act: Do, key: u64, now: u64) -> Call<u64, Loaded> {
+    match act {
+        Do::Look => Call::Look(key, now),
+        Do::Seek => Call::Seek(key, now),
+        Do::Keep(id, value) => Call::Land(id, key, Land::Keep(value), now),
+        Do::Loose(id) => Call::Land(id, key, Land::Loose, now),
+        Do::Fail(id) => Call::Land(id, key, Land::Failed, now),
+        Do::Put(value) => Call::Put(key, value, now),
+        Do::DropKey => Call::DropKey(key, now),
+        Do::Clear => Call::Clear(now),
+        Do::Forget => Call::Forget(key, now),
+        Do::Clean => Call::Clean(now),
+    }
+}
+
+/// Returns what is done next to a key: mostly seeks, and landings of its own load, whose id is
+/// `own`, or now and then of any id below `ids`.
+pub fn choose(dice: &mut Dice, own: Option<u64>, ids: u64, version: u64) -> Do {
+    let weight = u32::try_from(dice.roll(7)).unwrap_or(0);
+    let value = Loaded { version, weight };
+    let id = match own {
+        Some(id) if dice.roll(6) > 0 => id,
+        _ => dice.roll(ids),
+    };
+    match dice.roll(40) {
+        0 => Do::DropKey,
+        1 => Do::Clean,
+        2 => Do::Clear,
+        3 => Do::Forget,
+        4..=9 => Do::Look,
+        10..=15 => Do::Put(value),
+        16..=17 => Do::Fail(id),
+        18..=19 => Do::Loose(id),
+        20..=27 => Do::Keep(id, value),
+        _ => Do::Seek,
+    }
+}
