@@ -2,18 +2,18 @@
 use Rattle.std.proofs.Common.{◌≡◌, ℕ, Bool, true, false, cond, List, [], ◌∷◌, ◌++◌, Option, Some, None, refl}
 use Rattle.std.specs.Option.{option_map_or}
 use Rattle.wt_keys.specs.declared.fault.Fault.{Fault}
-use Rattle.wt_regions.specs.declared.kinds.Found.{Found}
-use Rattle.wt_regions.specs.declared.kinds.Found.TheVariants as found
+use Rattle.wt_regions.specs.declared.touch.Found.{Found}
+use Rattle.wt_regions.specs.declared.touch.Found.TheVariants as found
 use Rattle.wt_flights.specs.declared.row.Row.{Row}
 use Rattle.wt_flights.specs.Rows.{Flights, begun, current_of, forgotten, forgotten_all, joined, landed, row_of}
-use Rattle.wt_core.specs.declared.kinds.Call.{Call}
-use Rattle.wt_core.specs.declared.kinds.Call.TheVariants.{Look, Seek, Land, Put, DropKey, Clear, Forget, Clean}
-use Rattle.wt_core.specs.declared.kinds.Land.{Land as Landing}
-use Rattle.wt_core.specs.declared.kinds.Land.TheVariants as land
-use Rattle.wt_core.specs.declared.kinds.Reply.TheVariants.{Hit, HitLead, Join, Lead, Kept, Loose, Gone}
+use Rattle.wt_core.specs.declared.calls.Call.{Call}
+use Rattle.wt_core.specs.declared.calls.Call.TheVariants.{Look, Seek, Land, Put, DropKey, Clear, Forget, Clean}
+use Rattle.wt_core.specs.declared.calls.Land.{Land as Landing}
+use Rattle.wt_core.specs.declared.calls.Land.TheVariants as land
+use Rattle.wt_core.specs.declared.calls.Reply.TheVariants.{Hit, HitLead, Join, Lead, Kept, Loose, Gone}
 use Rattle.wt_core.specs.State.{State, found as found_in, made, stepped, with_flights, with_load}
 use Rattle.wt_core.specs.Seek.{met, refreshes}
-use Rattle.wt_core.specs.Step.{aired, is_kept, landing, looked, refusal_of, sought, step, storing}
+use Rattle.wt_core.specs.Step.{own_expired, is_kept, landing, looked, refusal_of, sought, step, storing}
 use Rattle.wt_core.specs.Run.{run, taken, taken_if}
 
 -- what each change of the table keeps
@@ -34,7 +34,7 @@ module _ {K V : Type 0} (eq : K → K → Bool) (word : K → ℕ) (weight : V �
         looked-keeps : (f : Found V) → P (looked eq k f here).state.flights
         looked-keeps (found.Hit v) = h
         looked-keeps found.Absent = h
-        looked-keeps found.Stale = h
+        looked-keeps found.Expired = h
 
         met_hit-keeps : (v : V) (b : Bool) → P (sought eq k (cond b (HitLead v s.flights.next) (Hit v)) here).state.flights
         met_hit-keeps v true = keeps.begins k s.flights h
@@ -47,15 +47,15 @@ module _ {K V : Type 0} (eq : K → K → Bool) (word : K → ℕ) (weight : V �
         sought-keeps : (f : Found V) → P (sought eq k (met eq k f here) here).state.flights
         sought-keeps (found.Hit v) = met_hit-keeps v (refreshes eq k here)
         sought-keeps found.Absent = met_miss-keeps (current_of eq k s.flights)
-        sought-keeps found.Stale = met_miss-keeps (current_of eq k s.flights)
+        sought-keeps found.Expired = met_miss-keeps (current_of eq k s.flights)
 
         kept-keeps : (id : ℕ) (row : Row K) (v : V) (b : Bool) → (let t : State K V = with_flights (landed id s.flights) here in
-            P (cond b (made (with_load t) (storing eq word weight k v t) (Kept row.sharers)) (made (with_load t) (aired eq k t) (Loose row.sharers))).state.flights)
+            P (cond b (made (with_load t) (storing eq word weight k v t) (Kept row.sharers)) (made (with_load t) (own_expired eq k t) (Loose row.sharers))).state.flights)
         kept-keeps id row v true = keeps.lands id s.flights h
         kept-keeps id row v false = keeps.lands id s.flights h
 
         landing-keeps : (id : ℕ) (what : Landing V) (o : Option (Row K))
-            → P (option_map_or (λ row. landing eq word weight k row what (with_flights (landed id s.flights) here)) o (made here (aired eq k here) Gone)).state.flights
+            → P (option_map_or (λ row. landing eq word weight k row what (with_flights (landed id s.flights) here)) o (made here (own_expired eq k here) Gone)).state.flights
         landing-keeps id what None = h
         landing-keeps id (land.Keep v) (Some row) = kept-keeps id row v (is_kept weight row v here)
         landing-keeps id land.Loose (Some row) = keeps.lands id s.flights h

@@ -1,11 +1,11 @@
 -- What is foreseen of a seek, and what it answers.
 use Rattle.std.proofs.Common.{ℕ, Bool, true, false, cond, Option, Some, None, refl}
 use Rattle.std.specs.Option.{option_map_or}
-use Rattle.wt_regions.specs.declared.kinds.Found.{Found}
-use Rattle.wt_regions.specs.declared.kinds.Found.TheVariants as found
+use Rattle.wt_regions.specs.declared.touch.Found.{Found}
+use Rattle.wt_regions.specs.declared.touch.Found.TheVariants as found
 use Rattle.wt_flights.specs.Rows.{current_of}
-use Rattle.wt_core.specs.declared.kinds.Reply.{Reply}
-use Rattle.wt_core.specs.declared.kinds.Reply.TheVariants.{Hit, HitLead, Join, Lead}
+use Rattle.wt_core.specs.declared.calls.Reply.{Reply}
+use Rattle.wt_core.specs.declared.calls.Reply.TheVariants.{Hit, HitLead, Join, Lead}
 use Rattle.wt_core.specs.State.{State, found as found_in, stepped}
 use Rattle.wt_core.specs.Seek.{foreseen_of, met, refreshes}
 use Rattle.wt_core.specs.Step.{sought}
@@ -26,7 +26,7 @@ module _ {K V : Type 0} (eq : K → K → Bool) (k : K) (s : State K V) where
   seek-met : (f : Found V) → IsMetBy (foreseen_of (met eq k f s)) (sought eq k (met eq k f s) s).reply
   seek-met (found.Hit v) = hit-met v (refreshes eq k s)
   seek-met found.Absent = miss-met (current_of eq k s.flights)
-  seek-met found.Stale = miss-met (current_of eq k s.flights)
+  seek-met found.Expired = miss-met (current_of eq k s.flights)
 
 pub foresees : {K V : Type 0} (eq : K → K → Bool) (word : K → ℕ) (weight : V → ℕ) (s : State K V) → ForeseesSeek eq word weight s
 foresees eq word weight s k now = seek-met eq k (stepped now s) (found_in eq k (stepped now s))

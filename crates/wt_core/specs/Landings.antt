@@ -3,10 +3,10 @@ use Rattle.std.specs.Prelude.{◌≡◌, ℕ, max, Bool, false, IsTrue, Option, 
 use Rattle.wt_regions.specs.Lists.{has_at}
 use Rattle.wt_flights.specs.declared.row.Row.{Row}
 use Rattle.wt_flights.specs.Rows.{row_of}
-use Rattle.wt_core.specs.declared.kinds.Call.{Call}
-use Rattle.wt_core.specs.declared.kinds.Call.TheVariants as call
-use Rattle.wt_core.specs.declared.kinds.Land.{Land}
-use Rattle.wt_core.specs.declared.kinds.Land.TheVariants.{Keep, Loose, Failed}
+use Rattle.wt_core.specs.declared.calls.Call.{Call}
+use Rattle.wt_core.specs.declared.calls.Call.TheVariants as call
+use Rattle.wt_core.specs.declared.calls.Land.{Land}
+use Rattle.wt_core.specs.declared.calls.Land.TheVariants.{Keep, Loose, Failed}
 use Rattle.wt_core.specs.State.{State}
 use Rattle.wt_core.specs.Step.{is_kept}
 

@@ -1,13 +1,13 @@
--- What becomes of a load whose result is out of date, and what a landing leaves.
+-- What becomes of a load whose result is stale, and what a landing leaves.
 use Rattle.std.specs.Prelude.{◌≡◌, ◌⊎◌, ℕ, max, Bool, true, false, List, ◌∷◌, ◌++◌, None, IfSome}
-use Rattle.wt_regions.specs.Lists.{cut, held_for, is_expired}
-use Rattle.wt_core.specs.declared.kinds.Call.{Call}
-use Rattle.wt_core.specs.declared.kinds.Call.TheVariants.{Seek, Land, Put, DropKey, Clear, Forget}
-use Rattle.wt_core.specs.declared.kinds.Foreseen.{Foreseen}
-use Rattle.wt_core.specs.declared.kinds.Foreseen.TheVariants as foreseen
-use Rattle.wt_core.specs.declared.kinds.Land.{Land as Landing}
-use Rattle.wt_core.specs.declared.kinds.Reply.{Reply}
-use Rattle.wt_core.specs.declared.kinds.Reply.TheVariants.{Hit, HitLead, Join, Lead, Kept}
+use Rattle.wt_regions.specs.Lists.{without, held_for, is_expired}
+use Rattle.wt_core.specs.declared.calls.Call.{Call}
+use Rattle.wt_core.specs.declared.calls.Call.TheVariants.{Seek, Land, Put, DropKey, Clear, Forget}
+use Rattle.wt_core.specs.declared.calls.Foreseen.{Foreseen}
+use Rattle.wt_core.specs.declared.calls.Foreseen.TheVariants as foreseen
+use Rattle.wt_core.specs.declared.calls.Land.{Land as Landing}
+use Rattle.wt_core.specs.declared.calls.Reply.{Reply}
+use Rattle.wt_core.specs.declared.calls.Reply.TheVariants.{Hit, HitLead, Join, Lead, Kept}
 use Rattle.wt_core.specs.State.{State, Made}
 use Rattle.wt_core.specs.Seek.{foreseen_at}
 use Rattle.wt_core.specs.Step.{step, refusal_of}
@@ -28,18 +28,18 @@ IsMetBy (foreseen.Lead id) (Lead there) = there ≡ id
 IsMetBy _ _ = ⊥
 
 module _ {K V : Type 0} (eq : K → K → Bool) where
-  -- whether a call makes what is being loaded for the key out of date
-  abbrev pub outdates : K → Call K V → Bool
-  outdates k (Put j v now) = eq k j
-  outdates k (DropKey j now) = eq k j
-  outdates k (Forget j now) = eq k j
-  outdates k (Clear now) = true
-  outdates k _ = false
+  -- whether a call makes what is being loaded for the key stale
+  abbrev pub makes_stale : K → Call K V → Bool
+  makes_stale k (Put j v now) = eq k j
+  makes_stale k (DropKey j now) = eq k j
+  makes_stale k (Forget j now) = eq k j
+  makes_stale k (Clear now) = true
+  makes_stale k _ = false
 
   -- every entry stays as it is, its value, its stamp, its times and its place; only the key's own may leave, where it has expired
   pub record KeepsEntries (k : K) (now : ℕ) (s t : State K V) : Type 0 where
     pub live : IfSome (held_for eq k s.regions) (λ h. is_expired s.regions.caps (max s.latest now) h ≡ false) → t.regions ≡ s.regions
-    pub others : (t.regions ≡ s.regions) ⊎ (t.regions ≡ cut eq k s.regions)
+    pub others : (t.regions ≡ s.regions) ⊎ (t.regions ≡ without eq k s.regions)
 
   -- a landing stored nothing and left every entry
   pub record IsUnstored (k : K) (now : ℕ) (s : State K V) (m : Made K V) : Type 0 where
@@ -52,11 +52,11 @@ module _ {K V : Type 0} (eq : K → K → Bool) where
     UnkeptKeepsEntries s = (id : ℕ) (k : K) (what : Landing V) (now : ℕ) → IsUnkept (taken eq word weight s (Land id k what now)).reply
         → KeepsEntries k now s (taken eq word weight s (Land id k what now)).state
 
-    -- a load that a seek opened, and that a call between made out of date, lands without being stored
+    -- a load that a seek opened, and that a call between made stale, lands without being stored
     abbrev pub StaleIsUnstored : State K V → Type 0
     StaleIsUnstored s = (k : K) (id moment : ℕ) (before after : List (Call K V)) (newer : Call K V) (what : Landing V) (now : ℕ)
         → is_lead id (taken eq word weight s (Seek k moment)).reply ≡ true
-        → outdates k newer ≡ true
+        → makes_stale k newer ≡ true
         → refusal_of eq word weight (run eq word weight s (Seek k moment ∷ before)) newer ≡ None
         → (let t : State K V = run eq word weight s (Seek k moment ∷ before ++ newer ∷ after) in IsUnstored k now t (taken eq word weight t (Land id k what now)))
 

@@ -6,8 +6,8 @@ ghost use Rattle.wt_core.specs.Landings.{TakesNone};
 ghost use Rattle.wt_core.specs.Run.{taken, run, replies, last_notices};
 ghost use Rattle.wt_core.specs.Step.{refusal_of};
 
-use crate::cache::Core;
-use crate::kinds::{Call, Reply};
+use crate::calls::{Call, Reply};
+use crate::sequential::Core;
 use std::alloc::Global;
 use wt_keys::{CacheKey, Fault, NoMemory, Share};
 use wt_regions::{Notices, Weighs};
@@ -36,7 +36,8 @@ impl<K: CacheKey, V: Share + Weighs> Core<K, V> {
         requires room { self.old.regions.caps.entries ≤ notices.old.room }
 
         ensures state { OnOk result (self.new ≡ (taken K.eq K.word V.weight self.old call).state) }
-        ensures answer { IfOk result (λ reply. reply ≡ (taken K.eq K.word V.weight self.old call).reply) }
+        ensures answer { IfOk result (λ reply. reply
+            ≡ (taken K.eq K.word V.weight self.old call).reply) }
         ensures notices { OnOk result (notices.new
             ≡ appended (taken K.eq K.word V.weight self.old call).notices notices.old) }
 
@@ -84,7 +85,8 @@ pub fn run_calls<K: CacheKey, V: Share + Weighs>(
     requires room { core.old.regions.caps.entries ≤ notices.old.room + length notices.old.list }
 
     ensures state { OnOk result (core.new ≡ run K.eq K.word V.weight core.old calls.items) }
-    ensures answer { IfOk result (λ made. made.items ≡ replies K.eq K.word V.weight core.old calls.items) }
+    ensures answer { IfOk result (λ made. made.items
+        ≡ replies K.eq K.word V.weight core.old calls.items) }
     ensures notices { OnOk result (notices.new
         ≡ last_notices K.eq K.word V.weight core.old calls.items notices.old) }
 
@@ -93,7 +95,8 @@ pub fn run_calls<K: CacheKey, V: Share + Weighs>(
     ensures same { core.new.regions.caps ≡ core.old.regions.caps }
     ensures whole { notices.new.room + length notices.new.list
         ≡ notices.old.room + length notices.old.list }
-    ensures err { OnErr result ((n : ℕ) × (core.new ≡ run K.eq K.word V.weight core.old (take n calls.items))) }
+    ensures err { OnErr result ((n : ℕ)
+        × (core.new ≡ run K.eq K.word V.weight core.old (take n calls.items))) }
 {
     let mut made = Vec::with_capacity(alloc, calls.len())?;
     for call in calls {

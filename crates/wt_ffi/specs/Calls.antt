@@ -2,9 +2,9 @@
 use Rattle.std.specs.Prelude.{IsSome, ℕ, ◌==◌, Bool, if◌then◌else◌, length}
 use Rattle.wt_keys.specs.Faults.{fault_number}
 use Rattle.wt_regions.specs.Notices.{appended, emptied}
-use Rattle.wt_core.specs.declared.kinds.Call.{Call}
-use Rattle.wt_core.specs.declared.kinds.Reply.{Reply}
-use Rattle.wt_core.specs.declared.kinds.Reply.TheVariants.{Hit, Absent, HitLead, Join, Lead, Kept, Loose, Failed, Gone, Stored, Dropped, Cleared, Forgot, Cleaned, Refused}
+use Rattle.wt_core.specs.declared.calls.Call.{Call}
+use Rattle.wt_core.specs.declared.calls.Reply.{Reply}
+use Rattle.wt_core.specs.declared.calls.Reply.TheVariants.{Hit, Absent, HitLead, Join, Lead, Kept, Loose, Failed, Gone, Stored, Dropped, Cleared, Forgot, Cleaned, Refused}
 use Rattle.wt_core.specs.State.{Made}
 use Rattle.wt_core.specs.Run.{taken}
 use Rattle.wt_core.specs.Step.{refusal_of}

@@ -1,6 +1,6 @@
 -- What C is told of a call where keys are numbers.
 use Rattle.std.specs.Prelude.{ℕ, nat_eq}
-use Rattle.wt_core.specs.declared.kinds.Call.{Call}
+use Rattle.wt_core.specs.declared.calls.Call.{Call}
 use Rattle.wt_ffi.specs.declared.token.Token.{Token}
 use Rattle.wt_ffi.specs.declared.answer.Answer.{Answer}
 use Rattle.wt_ffi.specs.Calls as calls

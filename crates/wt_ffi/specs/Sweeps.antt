@@ -1,7 +1,7 @@
 -- What C is told of a call that goes through all entries.
 use Rattle.std.specs.Prelude.{ℕ}
-use Rattle.wt_core.specs.declared.kinds.Call.{Call}
-use Rattle.wt_core.specs.declared.kinds.Call.TheVariants as call
+use Rattle.wt_core.specs.declared.calls.Call.{Call}
+use Rattle.wt_core.specs.declared.calls.Call.TheVariants as call
 use Rattle.wt_ffi.specs.declared.token.Token.{Token}
 use Rattle.wt_ffi.specs.declared.answer.Answer.{Answer}
 use Rattle.wt_ffi.specs.declared.opened.Opened.{Opened}

@@ -1,6 +1,6 @@
 // Looking up and storing, each one step of the definition.
 ghost use Rattle.std.specs.Prelude.{◌≡◌, ◌<◌, Some, IfSome, IsNone, IsSome, None};
-ghost use Rattle.wt_core.specs.declared.kinds.Call.TheVariants as call;
+ghost use Rattle.wt_core.specs.declared.calls.Call.TheVariants as call;
 ghost use Rattle.wt_ffi.specs.declared.opened.Opened.TheVariants as opened;
 ghost use Rattle.wt_ffi.specs.Kinds.{numbered, named};
 ghost use Rattle.wt_ffi.specs.Numbered.{after, number_after, answer_after, IsRefused, IsFree};

@@ -1,6 +1,6 @@
 // Taking names out and letting their loads go, each call one step of the definition.
 ghost use Rattle.std.specs.Prelude.{◌≡◌, ◌<◌, Some, IfSome, IsNone};
-ghost use Rattle.wt_core.specs.declared.kinds.Call.TheVariants as call;
+ghost use Rattle.wt_core.specs.declared.calls.Call.TheVariants as call;
 ghost use Rattle.wt_ffi.specs.declared.opened.Opened.TheVariants as opened;
 ghost use Rattle.wt_ffi.specs.Names.{asked, number_unasked};
 ghost use Rattle.wt_ffi.specs.Named.{after, number_after, answer_after, IsRefused, IsFree};

@@ -7,10 +7,10 @@ use Rattle.std.specs.Cmp.{IsEquivalence}
 use Rattle.std.proofs.lemmas.Map.{none_passes_from_lookup}
 use Rattle.lru.specs.LruCache.{last_entry}
 use Rattle.lru.proofs.CallerLemmas.{Contains-lookup_entry}
-use Rattle.wt_regions.specs.declared.kinds.Held.{Held}
-use Rattle.wt_regions.specs.declared.kinds.Caps.{Caps}
+use Rattle.wt_regions.specs.declared.held.Held.{Held}
+use Rattle.wt_regions.specs.declared.caps.Caps.{Caps}
 use Rattle.wt_regions.proofs.Moves.{split_of_last, lookup-from_entry, lookup_none-entry}
-use Rattle.wt_regions.specs.Lists.{Entry, front, protected_cap}
+use Rattle.wt_regions.specs.Lists.{Entry, all_but_last, protected_cap}
 use Rattle.wt_regions.specs.Touch.{promoted}
 
 module _ {X : Type 0} (P : X → Type 0) where
@@ -101,7 +101,7 @@ pub no_last_none : {K V : Type 0} (e : K × V) (es : List (K × V)) → last_ent
 no_last_none e es h = let n : length (e ∷ es) - 1 ≡ length es = omega arith in no_last_at e es (rw n at h)
 
 module _ {K V : Type 0} (c : Caps) (e : Entry K V) (ps qs : List (Entry K V)) where
-  pub promote-full : (l : Entry K V) → protected_cap c ≤ length qs → last_entry qs ≡ Some l → promoted c e ps qs ≡ (l ∷ ps, front (e ∷ qs))
+  pub promote-full : (l : Entry K V) → protected_cap c ≤ length qs → last_entry qs ≡ Some l → promoted c e ps qs ≡ (l ∷ ps, all_but_last (e ∷ qs))
   promote-full l h is = let t : nat_lt (length qs) (protected_cap c) ≡ false = not_below (length qs) (protected_cap c) h in
       let there : last_entry (e ∷ qs) ≡ Some l = last_below e qs l is in rw (t, there)
 

@@ -4,11 +4,11 @@ use Rattle.std.specs.Prelude.{nat_le, sum_by}
 use Rattle.std.specs.List.{IsDistinct, AllByRecursion}
 use Rattle.std.specs.Map.{keys_of}
 use Rattle.std.specs.Cmp.{IsEquivalence}
-use Rattle.wt_regions.specs.declared.kinds.Notice.{Notice}
+use Rattle.wt_regions.specs.declared.notices.Notice.{Notice}
 use Rattle.wt_regions.proofs.Loop.{one_less}
 use Rattle.wt_regions.proofs.Sound.{one_placed, turned}
-use Rattle.wt_regions.specs.declared.kinds.Cause.TheVariants.{Size}
-use Rattle.wt_regions.specs.Lists.{Entry, Lists, all_entries, front, lists_of, weight_of}
+use Rattle.wt_regions.specs.declared.notices.Cause.TheVariants.{Size}
+use Rattle.wt_regions.specs.Lists.{Entry, Lists, all_entries, all_but_last, lists_of, weight_of}
 use Rattle.wt_regions.specs.Settle.{holds_other, last_told, trimmed_once, trimmed_within}
 use Rattle.wt_regions.specs.Moves.{IsPlaced}
 
@@ -67,9 +67,9 @@ module _ {K V : Type 0} (eq : K → K → Bool) (laws : IsEquivalence eq) (k : K
       cc
 
   abbrev step_by : Lists K V → Bool → Bool → Bool → Option (Lists K V × List (Notice K V))
-  step_by r x y z = cond x (Some (lists_of r.caps r.window (front r.probation) r.protected, last_told Size r.probation))
-      (cond y (Some (lists_of r.caps r.window r.probation (front r.protected), last_told Size r.protected))
-      (cond z (Some (lists_of r.caps (front r.window) r.probation r.protected, last_told Size r.window)) None))
+  step_by r x y z = cond x (Some (lists_of r.caps r.window (all_but_last r.probation) r.protected, last_told Size r.probation))
+      (cond y (Some (lists_of r.caps r.window r.probation (all_but_last r.protected), last_told Size r.protected))
+      (cond z (Some (lists_of r.caps (all_but_last r.window) r.probation r.protected, last_told Size r.window)) None))
 
   none_other_at : (r : Lists K V) (x y z : Bool) → holds_other eq k r.probation ≡ x → holds_other eq k r.protected ≡ y → holds_other eq k r.window ≡ z
       → step_by r x y z ≡ None
@@ -89,20 +89,20 @@ module _ {K V : Type 0} (eq : K → K → Bool) (laws : IsEquivalence eq) (k : K
       → step_by r x y z ≡ Some one
       → IsLight (all_entries r) → IsLight (all_entries one.0)
   light-one_at r true y z one h l =
-      let is : (lists_of r.caps r.window (front r.probation) r.protected, last_told Size r.probation) ≡ one = cc in
+      let is : (lists_of r.caps r.window (all_but_last r.probation) r.protected, last_told Size r.probation) ≡ one = cc in
       let lw = light-left r.window (r.probation ++ r.protected) l in let lr = light-right r.window (r.probation ++ r.protected) l in
       subst (λ (p : Lists K V × List (Notice K V)). IsLight (all_entries p.0)) is
-      (light-append r.window (front r.probation ++ r.protected) lw (light-append (front r.probation) r.protected (light-take (length r.probation - 1) r.probation (light-left r.probation r.protected lr)) (light-right r.probation r.protected lr)))
+      (light-append r.window (all_but_last r.probation ++ r.protected) lw (light-append (all_but_last r.probation) r.protected (light-take (length r.probation - 1) r.probation (light-left r.probation r.protected lr)) (light-right r.probation r.protected lr)))
   light-one_at r false true z one h l =
-      let is : (lists_of r.caps r.window r.probation (front r.protected), last_told Size r.protected) ≡ one = cc in
+      let is : (lists_of r.caps r.window r.probation (all_but_last r.protected), last_told Size r.protected) ≡ one = cc in
       let lw = light-left r.window (r.probation ++ r.protected) l in let lr = light-right r.window (r.probation ++ r.protected) l in
       subst (λ (p : Lists K V × List (Notice K V)). IsLight (all_entries p.0)) is
-      (light-append r.window (r.probation ++ front r.protected) lw (light-append r.probation (front r.protected) (light-left r.probation r.protected lr) (light-take (length r.protected - 1) r.protected (light-right r.probation r.protected lr))))
+      (light-append r.window (r.probation ++ all_but_last r.protected) lw (light-append r.probation (all_but_last r.protected) (light-left r.probation r.protected lr) (light-take (length r.protected - 1) r.protected (light-right r.probation r.protected lr))))
   light-one_at r false false true one h l =
-      let is : (lists_of r.caps (front r.window) r.probation r.protected, last_told Size r.window) ≡ one = cc in
+      let is : (lists_of r.caps (all_but_last r.window) r.probation r.protected, last_told Size r.window) ≡ one = cc in
       let lw = light-left r.window (r.probation ++ r.protected) l in let lr = light-right r.window (r.probation ++ r.protected) l in
       subst (λ (p : Lists K V × List (Notice K V)). IsLight (all_entries p.0)) is
-      (light-append (front r.window) (r.probation ++ r.protected) (light-take (length r.window - 1) r.window lw) lr)
+      (light-append (all_but_last r.window) (r.probation ++ r.protected) (light-take (length r.window - 1) r.window lw) lr)
   light-one_at r false false false one h l = cc
 
   module _ (weigh : V → ℕ) where

@@ -2,14 +2,14 @@
 use Rattle.std.proofs.Common.{◌≡◌, ℕ, suc, ◌-◌, Bool, true, false, cond, List, [], ◌∷◌, length, Option, Some, None, refl, sym, ap, ◌∙◌, arith}
 use Rattle.std.specs.Option.{option_map_or, is_some}
 use Rattle.lru.specs.LruCache.{last_entry}
-use Rattle.wt_regions.specs.declared.kinds.Caps.{Caps}
-use Rattle.wt_regions.specs.declared.kinds.Notice.{Notice}
-use Rattle.wt_regions.specs.declared.kinds.Cause.{Cause}
-use Rattle.wt_regions.specs.declared.kinds.Cause.TheVariants.{Expired, Size}
-use Rattle.wt_regions.specs.declared.kinds.Fate.{Fate}
-use Rattle.wt_regions.specs.declared.kinds.Fate.TheVariants.{Leaves, Enters, Ousts}
+use Rattle.wt_regions.specs.declared.caps.Caps.{Caps}
+use Rattle.wt_regions.specs.declared.notices.Notice.{Notice}
+use Rattle.wt_regions.specs.declared.notices.Cause.{Cause}
+use Rattle.wt_regions.specs.declared.notices.Cause.TheVariants.{Expired, Size}
+use Rattle.wt_regions.specs.declared.settle.Fate.{Fate}
+use Rattle.wt_regions.specs.declared.settle.Fate.TheVariants.{Leaves, Enters, Ousts}
 use Rattle.wt_regions.proofs.Apart.{last_below}
-use Rattle.wt_regions.specs.Lists.{Entry, Lists, front, notice}
+use Rattle.wt_regions.specs.Lists.{Entry, Lists, all_but_last, notice}
 use Rattle.wt_regions.specs.Settle.{fate, overflowed}
 
 module _ {K V : Type 0} where
@@ -20,9 +20,9 @@ module _ {K V : Type 0} where
   ousts_at false false false f None why h = cc
   ousts_at false false false f (Some x) why h = refl
 
-  pub front-cons : (x : Entry K V) (es : List (Entry K V)) → is_some (last_entry es) ≡ true → front (x ∷ es) ≡ x ∷ front es
-  front-cons x [] h = cc
-  front-cons x (e ∷ es) h =
+  pub all_but_last-cons : (x : Entry K V) (es : List (Entry K V)) → is_some (last_entry es) ≡ true → all_but_last (x ∷ es) ≡ x ∷ all_but_last es
+  all_but_last-cons x [] h = cc
+  all_but_last-cons x (e ∷ es) h =
       let n : length (x ∷ e ∷ es) - 1 ≡ suc (length es) = omega arith in
       let m : length (e ∷ es) - 1 ≡ length es = omega arith in
       rw (n, m)
@@ -39,12 +39,12 @@ module _ {K V : Type 0} where
     ousts_some caps c ps qs why h = ousts_at _ _ _ _ (last_entry ps) why h
 
     module _ (r : Lists K V) (c : Entry K V) (why : Cause) (at : last_entry r.window ≡ Some c) (is : fate estimate now r.caps c r.probation r.protected ≡ Ousts why) where
-      overflowed-ousts : overflowed estimate now r ≡ (record r { window = front r.window; probation = c ∷ front r.probation }, option_map_or (λ v. notice why v ∷ []) (last_entry r.probation) [])
+      overflowed-ousts : overflowed estimate now r ≡ (record r { window = all_but_last r.window; probation = c ∷ all_but_last r.probation }, option_map_or (λ v. notice why v ∷ []) (last_entry r.probation) [])
       overflowed-ousts = rw (at, is)
 
-      pub overflowed-ousts-0 : (overflowed estimate now r).0 ≡ record r { window = front r.window; probation = front (c ∷ r.probation) }
-      overflowed-ousts-0 = let p : (overflowed estimate now r).0 ≡ record r { window = front r.window; probation = c ∷ front r.probation } = ap (λ (p : Lists K V × List (Notice K V)). p.0) overflowed-ousts in
-          let q = front-cons c r.probation (ousts_some r.caps c r.probation r.protected why is) in p ∙ ap (λ (es : List (Entry K V)). record r { window = front r.window; probation = es }) (sym q)
+      pub overflowed-ousts-0 : (overflowed estimate now r).0 ≡ record r { window = all_but_last r.window; probation = all_but_last (c ∷ r.probation) }
+      overflowed-ousts-0 = let p : (overflowed estimate now r).0 ≡ record r { window = all_but_last r.window; probation = c ∷ all_but_last r.probation } = ap (λ (p : Lists K V × List (Notice K V)). p.0) overflowed-ousts in
+          let q = all_but_last-cons c r.probation (ousts_some r.caps c r.probation r.protected why is) in p ∙ ap (λ (es : List (Entry K V)). record r { window = all_but_last r.window; probation = es }) (sym q)
 
       pub overflowed-ousts-1 : (overflowed estimate now r).1 ≡ option_map_or (λ v. notice why v ∷ []) (last_entry (c ∷ r.probation)) []
       overflowed-ousts-1 = let p : (overflowed estimate now r).1 ≡ option_map_or (λ v. notice why v ∷ []) (last_entry r.probation) [] = ap (λ (p : Lists K V × List (Notice K V)). p.1) overflowed-ousts in

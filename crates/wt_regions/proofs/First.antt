@@ -4,12 +4,12 @@ use Rattle.std.specs.Map.{lookup}
 use Rattle.std.proofs.lemmas.List.Sums.{sum_by-append, sum_by-cons}
 use Rattle.std.proofs.lemmas.List.Sorted.{sum_by-IsPermutation}
 use Rattle.lru.specs.LruCache.{last_entry}
-use Rattle.wt_regions.specs.declared.kinds.Caps.{Caps}
-use Rattle.wt_regions.specs.declared.kinds.Notice.{Notice}
+use Rattle.wt_regions.specs.declared.caps.Caps.{Caps}
+use Rattle.wt_regions.specs.declared.notices.Notice.{Notice}
 use Rattle.wt_regions.proofs.Moves.{IsPermutation-last}
 use Rattle.wt_regions.proofs.Apart.{none_at_last, no_last}
-use Rattle.wt_regions.specs.declared.kinds.Cause.TheVariants.{Size}
-use Rattle.wt_regions.specs.Lists.{Entry, Lists, all_entries, front, lists_of}
+use Rattle.wt_regions.specs.declared.notices.Cause.TheVariants.{Size}
+use Rattle.wt_regions.specs.Lists.{Entry, Lists, all_entries, all_but_last, lists_of}
 use Rattle.wt_regions.specs.Settle.{holds_other, last_told, trimmed_once}
 use Rattle.wt_regions.specs.Moves.{IsFirst, others}
 
@@ -29,10 +29,10 @@ module _ {K V : Type 0} (test : K → Bool) where
     | false ↦ λ q. q
   ]) h
 
-  pub first-front : (es : List (Entry K V)) → lookup test (drop 1 es) ≡ None → lookup test (drop 1 (front es)) ≡ None
-  first-front [] h = refl
-  first-front (x ∷ []) h = refl
-  first-front (x ∷ y ∷ ys) h =
+  pub first-all_but_last : (es : List (Entry K V)) → lookup test (drop 1 es) ≡ None → lookup test (drop 1 (all_but_last es)) ≡ None
+  first-all_but_last [] h = refl
+  first-all_but_last (x ∷ []) h = refl
+  first-all_but_last (x ∷ y ∷ ys) h =
       let n : length (x ∷ y ∷ ys) - 1 ≡ suc (length ys) = omega arith in
       rw n (none-take (length ys) (y ∷ ys) h)
 
@@ -83,41 +83,41 @@ module _ {K V : Type 0} (eq : K → K → Bool) (k : K) where
       let below : last_entry (y ∷ ys) ≡ Some l = rw m (rw n at is) in
       none_at_last (eq k) (y ∷ ys) l f below
 
-  others-front_at : (es : List (Entry K V)) (o : Option (Entry K V)) → last_entry es ≡ o → lookup (eq k) (drop 1 es) ≡ None → holds_other eq k es ≡ true → suc (others eq k (front es)) ≡ others eq k es
-  others-front_at es None is f h = let e = no_last es is in let n = rw e at h in cc
-  others-front_at es (Some l) is f h =
+  others-all_but_last_at : (es : List (Entry K V)) (o : Option (Entry K V)) → last_entry es ≡ o → lookup (eq k) (drop 1 es) ≡ None → holds_other eq k es ≡ true → suc (others eq k (all_but_last es)) ≡ others eq k es
+  others-all_but_last_at es None is f h = let e = no_last es is in let n = rw e at h in cc
+  others-all_but_last_at es (Some l) is f h =
       let off = last-other es l is f h in
-      let s : others eq k (l ∷ front es) ≡ others eq k es = sum_by-IsPermutation (λ (e : Entry K V). cond (eq k e.0) 0 1) es (l ∷ front es) (IsPermutation-last es l is) in
-      let c = others-other l (front es) off in
+      let s : others eq k (l ∷ all_but_last es) ≡ others eq k es = sum_by-IsPermutation (λ (e : Entry K V). cond (eq k e.0) 0 1) es (l ∷ all_but_last es) (IsPermutation-last es l is) in
+      let c = others-other l (all_but_last es) off in
       omega (arith, s, c)
 
-  pub others-front : (es : List (Entry K V)) → lookup (eq k) (drop 1 es) ≡ None → holds_other eq k es ≡ true → suc (others eq k (front es)) ≡ others eq k es
-  others-front es f h = others-front_at es (last_entry es) refl f h
+  pub others-all_but_last : (es : List (Entry K V)) → lookup (eq k) (drop 1 es) ≡ None → holds_other eq k es ≡ true → suc (others eq k (all_but_last es)) ≡ others eq k es
+  others-all_but_last es f h = others-all_but_last_at es (last_entry es) refl f h
 
   one_first_at : (c : Caps) (ws ps qs : List (Entry K V)) (a b d : Bool) → holds_other eq k ps ≡ a → holds_other eq k qs ≡ b → holds_other eq k ws ≡ d
       → (one : Lists K V × List (Notice K V))
-      → cond a (Some (lists_of c ws (front ps) qs, last_told Size ps)) (cond b (Some (lists_of c ws ps (front qs), last_told Size qs)) (cond d (Some (lists_of c (front ws) ps qs, last_told Size ws)) None)) ≡ Some one
+      → cond a (Some (lists_of c ws (all_but_last ps) qs, last_told Size ps)) (cond b (Some (lists_of c ws ps (all_but_last qs), last_told Size qs)) (cond d (Some (lists_of c (all_but_last ws) ps qs, last_told Size ws)) None)) ≡ Some one
       → IsFirst eq k (lists_of c ws ps qs) → IsFirst eq k one.0 × (suc (others eq k (all_entries one.0)) ≡ others eq k (all_entries (lists_of c ws ps qs)))
   one_first_at c ws ps qs true b d ha hb hd one h f =
-      let is : (lists_of c ws (front ps) qs, last_told Size ps) ≡ one = cc in
-      let n = others-front ps f.probation ha in
+      let is : (lists_of c ws (all_but_last ps) qs, last_told Size ps) ≡ one = cc in
+      let n = others-all_but_last ps f.probation ha in
       subst (λ (p : Lists K V × List (Notice K V)). IsFirst eq k p.0 × (suc (others eq k (all_entries p.0)) ≡ others eq k (all_entries (lists_of c ws ps qs)))) is (
-        record { window = f.window; probation = first-front (eq k) ps f.probation; protected = f.protected },
-        omega (arith, n, others-parts c ws ps qs, others-parts c ws (front ps) qs),
+        record { window = f.window; probation = first-all_but_last (eq k) ps f.probation; protected = f.protected },
+        omega (arith, n, others-parts c ws ps qs, others-parts c ws (all_but_last ps) qs),
       )
   one_first_at c ws ps qs false true d ha hb hd one h f =
-      let is : (lists_of c ws ps (front qs), last_told Size qs) ≡ one = cc in
-      let n = others-front qs f.protected hb in
+      let is : (lists_of c ws ps (all_but_last qs), last_told Size qs) ≡ one = cc in
+      let n = others-all_but_last qs f.protected hb in
       subst (λ (p : Lists K V × List (Notice K V)). IsFirst eq k p.0 × (suc (others eq k (all_entries p.0)) ≡ others eq k (all_entries (lists_of c ws ps qs)))) is (
-        record { window = f.window; probation = f.probation; protected = first-front (eq k) qs f.protected },
-        omega (arith, n, others-parts c ws ps qs, others-parts c ws ps (front qs)),
+        record { window = f.window; probation = f.probation; protected = first-all_but_last (eq k) qs f.protected },
+        omega (arith, n, others-parts c ws ps qs, others-parts c ws ps (all_but_last qs)),
       )
   one_first_at c ws ps qs false false true ha hb hd one h f =
-      let is : (lists_of c (front ws) ps qs, last_told Size ws) ≡ one = cc in
-      let n = others-front ws f.window hd in
+      let is : (lists_of c (all_but_last ws) ps qs, last_told Size ws) ≡ one = cc in
+      let n = others-all_but_last ws f.window hd in
       subst (λ (p : Lists K V × List (Notice K V)). IsFirst eq k p.0 × (suc (others eq k (all_entries p.0)) ≡ others eq k (all_entries (lists_of c ws ps qs)))) is (
-        record { window = first-front (eq k) ws f.window; probation = f.probation; protected = f.protected },
-        omega (arith, n, others-parts c ws ps qs, others-parts c (front ws) ps qs),
+        record { window = first-all_but_last (eq k) ws f.window; probation = f.probation; protected = f.protected },
+        omega (arith, n, others-parts c ws ps qs, others-parts c (all_but_last ws) ps qs),
       )
   one_first_at c ws ps qs false false false ha hb hd one h f = cc
 

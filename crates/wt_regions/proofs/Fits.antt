@@ -3,7 +3,7 @@ use Rattle.std.proofs.Common.{◌≡◌, ℕ, ◌≤◌, Bool, true, false, cond
 use Rattle.std.specs.Prelude.{nat_lt}
 use Rattle.wt_keys.specs.declared.fault.Field.{Field}
 use Rattle.wt_keys.specs.declared.fault.Field.TheVariants.{Entries, Window, Bound}
-use Rattle.wt_regions.specs.declared.kinds.Caps.{Caps}
+use Rattle.wt_regions.specs.declared.caps.Caps.{Caps}
 use Rattle.wt_regions.specs.Lawful.{IsFit, caps_fault}
 
 not_under : (a b : ℕ) → nat_lt a b ≡ false → b ≤ a

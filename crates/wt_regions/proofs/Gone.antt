@@ -4,14 +4,14 @@ use Rattle.std.specs.Map.{lookup}
 use Rattle.std.specs.Cmp.{IsEquivalence}
 use Rattle.std.proofs.lemmas.List.{append-nil}
 use Rattle.std.proofs.lemmas.List.Sorted.{IsPermutation-middle}
-use Rattle.wt_regions.specs.declared.kinds.Held.{Held}
-use Rattle.wt_regions.specs.declared.kinds.Caps.{Caps}
-use Rattle.wt_regions.specs.declared.kinds.Cause.TheVariants.{Expired, Explicit}
+use Rattle.wt_regions.specs.declared.held.Held.{Held}
+use Rattle.wt_regions.specs.declared.caps.Caps.{Caps}
+use Rattle.wt_regions.specs.declared.notices.Cause.TheVariants.{Expired, Explicit}
 use Rattle.wt_regions.proofs.Moves.{lawful_of, placed_of}
 use Rattle.wt_regions.proofs.Weights.{weight-is, weights-moves, weights-cons}
 use Rattle.wt_regions.proofs.Settled.{IsSound, sound-loses}
-use Rattle.wt_regions.proofs.Cut.{where-is, cut-placed, cut-perm, cut-none}
-use Rattle.wt_regions.specs.Lists.{Entry, Lists, all_entries, cut, is_expired, lists_of, notice, weight_of}
+use Rattle.wt_regions.proofs.Without.{where-is, without-placed, without-perm, without-none}
+use Rattle.wt_regions.specs.Lists.{Entry, Lists, all_entries, without, is_expired, lists_of, notice, weight_of}
 use Rattle.wt_regions.specs.Steps.{expired_of, live_of, told_back}
 use Rattle.wt_regions.specs.Notices.{NoticeList, appended}
 use Rattle.wt_regions.specs.Lawful.{IsLawful}
@@ -21,19 +21,19 @@ module _ {K V : Type 0} (eq : K → K → Bool) (laws : IsEquivalence eq) (weigh
   -- ---- one entry is taken out
   module _ (k : K) (c : Caps) (ws ps qs : List (Entry K V)) (law : IsLawful eq weigh (lists_of c ws ps qs)) where
     pub taken-some : (h : Held V) → lookup (eq k) (ws ++ (ps ++ qs)) ≡ Some h
-        → IsLawful eq weigh (cut eq k (lists_of c ws ps qs)) × (weight_of (cut eq k (lists_of c ws ps qs)) + h.weight ≡ weight_of (lists_of c ws ps qs))
+        → IsLawful eq weigh (without eq k (lists_of c ws ps qs)) × (weight_of (without eq k (lists_of c ws ps qs)) + h.weight ≡ weight_of (lists_of c ws ps qs))
     taken-some h is =
         let at = where-is eq laws k ws ps qs h law.distinct is in
-        let m = weights-moves (ws ++ (ps ++ qs)) (at.0 ∷ all_entries (cut eq k (lists_of c ws ps qs))) (cut-perm eq laws k c ws ps qs at.0 at.2) in
-        let w = weights-cons at.0 (all_entries (cut eq k (lists_of c ws ps qs))) in
+        let m = weights-moves (ws ++ (ps ++ qs)) (at.0 ∷ all_entries (without eq k (lists_of c ws ps qs))) (without-perm eq laws k c ws ps qs at.0 at.2) in
+        let w = weights-cons at.0 (all_entries (without eq k (lists_of c ws ps qs))) in
         let s : at.0.1.weight ≡ h.weight = ap (λ (g : Held V). g.weight) at.1 in
-        let a = weight-is (cut eq k (lists_of c ws ps qs)) in
+        let a = weight-is (without eq k (lists_of c ws ps qs)) in
         let b = weight-is (lists_of c ws ps qs) in
-        (lawful_of eq weigh (cut eq k (lists_of c ws ps qs)) (cut-placed eq laws k weigh c ws ps qs at.0 at.2 (placed_of eq weigh (lists_of c ws ps qs) law)) (omega (arith, m, w, s, a, b, law.bound)), omega (arith, m, w, s, a, b))
+        (lawful_of eq weigh (without eq k (lists_of c ws ps qs)) (without-placed eq laws k weigh c ws ps qs at.0 at.2 (placed_of eq weigh (lists_of c ws ps qs) law)) (omega (arith, m, w, s, a, b, law.bound)), omega (arith, m, w, s, a, b))
 
     pub taken-none : lookup (eq k) (ws ++ (ps ++ qs)) ≡ None
-        → IsLawful eq weigh (cut eq k (lists_of c ws ps qs)) × (weight_of (cut eq k (lists_of c ws ps qs)) ≡ weight_of (lists_of c ws ps qs))
-    taken-none n = let e = cut-none eq laws k c ws ps qs n in (subst (IsLawful eq weigh) (sym e) law, ap (λ (r : Lists K V). weight_of r) e)
+        → IsLawful eq weigh (without eq k (lists_of c ws ps qs)) × (weight_of (without eq k (lists_of c ws ps qs)) ≡ weight_of (lists_of c ws ps qs))
+    taken-none n = let e = without-none eq laws k c ws ps qs n in (subst (IsLawful eq weigh) (sym e) law, ap (λ (r : Lists K V). weight_of r) e)
 
   -- ---- the expired leave
   sound-kept : (now : ℕ) (c : Caps) (xs es bs : List (Entry K V)) → IsSound eq laws weigh (xs ++ (es ++ bs)) → IsSound eq laws weigh (xs ++ (live_of now c es ++ bs))

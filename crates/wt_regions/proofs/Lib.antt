@@ -1,4 +1,4 @@
-pub mod Rows
+pub mod Examples
 pub mod Moves
 pub mod Apart
 pub mod Touches
@@ -9,7 +9,7 @@ pub mod Loop
 pub mod Sound
 pub mod Bound
 pub mod Settled
-pub mod Cut
+pub mod Without
 pub mod Ready
 pub mod Past
 pub mod Placed

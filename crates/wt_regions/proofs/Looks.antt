@@ -4,12 +4,12 @@ use Rattle.std.specs.Option.{option_map_or, is_some}
 use Rattle.std.specs.Map.{lookup}
 use Rattle.std.specs.Prelude.{IsSome}
 use Rattle.std.specs.Cmp.{IsEquivalence}
-use Rattle.wt_regions.specs.declared.kinds.Caps.{Caps}
-use Rattle.wt_regions.specs.declared.kinds.Found.{Found}
-use Rattle.wt_regions.specs.declared.kinds.Found.TheVariants.{Hit, Absent, Stale as StaleFound}
-use Rattle.wt_regions.specs.declared.kinds.Held.{Held}
+use Rattle.wt_regions.specs.declared.caps.Caps.{Caps}
+use Rattle.wt_regions.specs.declared.touch.Found.{Found}
+use Rattle.wt_regions.specs.declared.touch.Found.TheVariants.{Hit, Absent, Expired as FoundExpired}
+use Rattle.wt_regions.specs.declared.held.Held.{Held}
 use Rattle.wt_regions.specs.declared.touch.Seen.{Seen}
-use Rattle.wt_regions.specs.declared.touch.Seen.TheVariants.{InWindow, InProbation, InProtected, Nowhere, Stale}
+use Rattle.wt_regions.specs.declared.touch.Seen.TheVariants.{InWindow, InProbation, InProtected, Nowhere, Expired}
 use Rattle.wt_regions.specs.Lists.{Entry, Lists, lists_of, held_for, found_at, has_at, is_expired, used, weight_of}
 use Rattle.wt_regions.specs.Touch.{looked_at, touched, used_if}
 use Rattle.wt_regions.specs.Lawful.{IsLawful}
@@ -48,36 +48,36 @@ module _ {K V : Type 0} (eq : K → K → Bool) (same : (a b : K) → eq a b ≡
       × (lookup (eq k) ws ≡ None) × IsSome (lookup (eq k) ps)
   IsLook (InProtected v) = (found_at eq k now r ≡ Hit v) × (looked_at eq k now r ≡ lists_of c ws ps (in_front eq k (used now) qs))
   IsLook Nowhere = (found_at eq k now r ≡ Absent) × (looked_at eq k now r ≡ r)
-  IsLook Stale = (found_at eq k now r ≡ StaleFound) × (looked_at eq k now r ≡ r)
+  IsLook Expired = (found_at eq k now r ≡ FoundExpired) × (looked_at eq k now r ≡ r)
 
-  stale : (h : Held V) → held_for eq k r ≡ Some h → is_expired c now h ≡ true → IsLook Stale
-  stale h is old = (rw (is, old) refl, rw (is, old) refl)
+  expired : (h : Held V) → held_for eq k r ≡ Some h → is_expired c now h ≡ true → IsLook Expired
+  expired h is old = (rw (is, old) refl, rw (is, old) refl)
 
-  window_if : (h : Held V) (b : Bool) → lookup (eq k) ws ≡ Some h → is_expired c now h ≡ b → IsLook (cond b Stale (InWindow h.value))
-  window_if h true at e = stale h (held-window eq k now c ws ps qs h at) e
+  window_if : (h : Held V) (b : Bool) → lookup (eq k) ws ≡ Some h → is_expired c now h ≡ b → IsLook (cond b Expired (InWindow h.value))
+  window_if h true at e = expired h (held-window eq k now c ws ps qs h at) e
   window_if h false at e =
       let is = held-window eq k now c ws ps qs h at in
       let there : is_some (lookup (eq k) ws) ≡ true = rw at refl in
       (rw (is, e) refl, rw (is, e) (touched-window eq k (used now) c ws ps qs there))
 
-  probation_if : (h : Held V) (b : Bool) → lookup (eq k) ws ≡ None → lookup (eq k) ps ≡ Some h → is_expired c now h ≡ b → IsLook (cond b Stale (InProbation h.value (used now h)))
-  probation_if h true nw at e = stale h (held-probation eq k now c ws ps qs h nw at) e
+  probation_if : (h : Held V) (b : Bool) → lookup (eq k) ws ≡ None → lookup (eq k) ps ≡ Some h → is_expired c now h ≡ b → IsLook (cond b Expired (InProbation h.value (used now h)))
+  probation_if h true nw at e = expired h (held-probation eq k now c ws ps qs h nw at) e
   probation_if h false nw at e =
       let is = held-probation eq k now c ws ps qs h nw at in
       let there : is_some (lookup (eq k) ps) ≡ true = rw at refl in
       let entry = entry-from_lookup eq same k ps h at in
       (rw (is, e) refl, rw (is, e, lookup_entry-none (eq k) ws nw, entry) refl, nw, there)
 
-  protected_if : (h : Held V) (b : Bool) → lookup (eq k) ws ≡ None → lookup (eq k) ps ≡ None → lookup (eq k) qs ≡ Some h → is_expired c now h ≡ b → IsLook (cond b Stale (InProtected h.value))
-  protected_if h true nw np at e = stale h (held-protected eq k now c ws ps qs h nw np at) e
+  protected_if : (h : Held V) (b : Bool) → lookup (eq k) ws ≡ None → lookup (eq k) ps ≡ None → lookup (eq k) qs ≡ Some h → is_expired c now h ≡ b → IsLook (cond b Expired (InProtected h.value))
+  protected_if h true nw np at e = expired h (held-protected eq k now c ws ps qs h nw np at) e
   protected_if h false nw np at e =
       let is = held-protected eq k now c ws ps qs h nw np at in
       (rw (is, e) refl, rw (is, e) (touched-protected eq k (used now) c ws ps qs nw np))
 
   look_at : (ow op oq : Option (Held V)) → lookup (eq k) ws ≡ ow → lookup (eq k) ps ≡ op → lookup (eq k) qs ≡ oq
-      → IsLook (option_map_or (λ (h : Held V). cond (is_expired c now h) Stale (InWindow h.value)) ow
-      (option_map_or (λ (h : Held V). cond (is_expired c now h) Stale (InProbation h.value (used now h))) op
-      (option_map_or (λ (h : Held V). cond (is_expired c now h) Stale (InProtected h.value)) oq Nowhere)))
+      → IsLook (option_map_or (λ (h : Held V). cond (is_expired c now h) Expired (InWindow h.value)) ow
+      (option_map_or (λ (h : Held V). cond (is_expired c now h) Expired (InProbation h.value (used now h))) op
+      (option_map_or (λ (h : Held V). cond (is_expired c now h) Expired (InProtected h.value)) oq Nowhere)))
   look_at (Some h) op oq iw ip iq = window_if h (is_expired c now h) iw refl
   look_at None (Some h) oq iw ip iq = probation_if h (is_expired c now h) iw ip refl
   look_at None None (Some h) iw ip iq = protected_if h (is_expired c now h) iw ip iq refl
@@ -94,7 +94,7 @@ module _ {K V : Type 0} (eq : K → K → Bool) (laws : IsEquivalence eq) (weigh
   used-kept : (g : Found V) (r : Lists K V) → IsLawful eq weigh r → Keeps r (used_if eq k now g r)
   used-kept (Hit v) r law = touched-kept eq k (used now) laws weigh (λ e. refl) r law
   used-kept Absent r law = (law, refl)
-  used-kept StaleFound r law = (law, refl)
+  used-kept FoundExpired r law = (law, refl)
 
   pub looked-kept : (r : Lists K V) → IsLawful eq weigh r → Keeps r (looked_at eq k now r)
   looked-kept r law = used-kept (found_at eq k now r) r law

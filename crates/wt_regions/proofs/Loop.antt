@@ -5,12 +5,12 @@ use Rattle.std.specs.Option.{option_map_or}
 use Rattle.std.specs.List.{list_any}
 use Rattle.std.proofs.lemmas.List.{length-take, append-nil}
 use Rattle.lru.specs.LruCache.{last_entry}
-use Rattle.wt_regions.specs.declared.kinds.Caps.{Caps}
-use Rattle.wt_regions.specs.declared.kinds.Notice.{Notice}
-use Rattle.wt_regions.specs.declared.kinds.Cause.TheVariants.{Size}
+use Rattle.wt_regions.specs.declared.caps.Caps.{Caps}
+use Rattle.wt_regions.specs.declared.notices.Notice.{Notice}
+use Rattle.wt_regions.specs.declared.notices.Cause.TheVariants.{Size}
 use Rattle.wt_regions.proofs.Apart.{no_last_none}
 use Rattle.wt_regions.proofs.First.{one_first}
-use Rattle.wt_regions.specs.Lists.{Entry, Lists, all_entries, front, lists_of, notice, weight_of}
+use Rattle.wt_regions.specs.Lists.{Entry, Lists, all_entries, all_but_last, lists_of, notice, weight_of}
 use Rattle.wt_regions.specs.Settle.{holds_other, last_told, trimmed, trimmed_once, trimmed_within}
 use Rattle.wt_regions.specs.Notices.{NoticeList, appended}
 use Rattle.wt_regions.specs.Moves.{IsFirst, IsStep, others}
@@ -27,7 +27,7 @@ module _ {K V : Type 0} where
   out_at x xs (Some l) h = omega arith
 
   -- a list that holds another entry gives up one
-  pub out_one : (f : Entry K V → Bool) (es : List (Entry K V)) → list_any f es ≡ true → (length (last_told Size es) ≡ 1) × (suc (length (front es)) ≡ length es)
+  pub out_one : (f : Entry K V → Bool) (es : List (Entry K V)) → list_any f es ≡ true → (length (last_told Size es) ≡ 1) × (suc (length (all_but_last es)) ≡ length es)
   out_one f [] h = cc
   out_one f (x ∷ xs) h = (out_at x xs (last_entry (x ∷ xs)) refl, let n = length-take (length (x ∷ xs) - 1) (x ∷ xs) in omega (arith, n))
 
@@ -41,20 +41,20 @@ module _ {K V : Type 0} where
     -- one step has one notice and one entry less
     one_less_at : (c : Caps) (ws ps qs : List (Entry K V)) (a b d : Bool) → holds_other eq k ps ≡ a → holds_other eq k qs ≡ b → holds_other eq k ws ≡ d
         → (one : Lists K V × List (Notice K V))
-        → cond a (Some (lists_of c ws (front ps) qs, last_told Size ps)) (cond b (Some (lists_of c ws ps (front qs), last_told Size qs)) (cond d (Some (lists_of c (front ws) ps qs, last_told Size ws)) None)) ≡ Some one
+        → cond a (Some (lists_of c ws (all_but_last ps) qs, last_told Size ps)) (cond b (Some (lists_of c ws ps (all_but_last qs), last_told Size qs)) (cond d (Some (lists_of c (all_but_last ws) ps qs, last_told Size ws)) None)) ≡ Some one
         → (length one.1 ≡ 1) × (suc (length (all_entries one.0)) ≡ length (all_entries (lists_of c ws ps qs))) × (one.0.caps ≡ c)
     one_less_at c ws ps qs true b d ha hb hd one h = let o = out_one (λ e. not (eq k e.0)) ps ha in
-        let is : (lists_of c ws (front ps) qs, last_told Size ps) ≡ one = cc in
+        let is : (lists_of c ws (all_but_last ps) qs, last_told Size ps) ≡ one = cc in
         subst (λ (p : Lists K V × List (Notice K V)). (length p.1 ≡ 1) × (suc (length (all_entries p.0)) ≡ length (all_entries (lists_of c ws ps qs))) × (p.0.caps ≡ c)) is
-        (o.0, omega (arith, o.1, length-append ws (ps ++ qs), length-append ps qs, length-append ws (front ps ++ qs), length-append (front ps) qs), refl)
+        (o.0, omega (arith, o.1, length-append ws (ps ++ qs), length-append ps qs, length-append ws (all_but_last ps ++ qs), length-append (all_but_last ps) qs), refl)
     one_less_at c ws ps qs false true d ha hb hd one h = let o = out_one (λ e. not (eq k e.0)) qs hb in
-        let is : (lists_of c ws ps (front qs), last_told Size qs) ≡ one = cc in
+        let is : (lists_of c ws ps (all_but_last qs), last_told Size qs) ≡ one = cc in
         subst (λ (p : Lists K V × List (Notice K V)). (length p.1 ≡ 1) × (suc (length (all_entries p.0)) ≡ length (all_entries (lists_of c ws ps qs))) × (p.0.caps ≡ c)) is
-        (o.0, omega (arith, o.1, length-append ws (ps ++ qs), length-append ps qs, length-append ws (ps ++ front qs), length-append ps (front qs)), refl)
+        (o.0, omega (arith, o.1, length-append ws (ps ++ qs), length-append ps qs, length-append ws (ps ++ all_but_last qs), length-append ps (all_but_last qs)), refl)
     one_less_at c ws ps qs false false true ha hb hd one h = let o = out_one (λ e. not (eq k e.0)) ws hd in
-        let is : (lists_of c (front ws) ps qs, last_told Size ws) ≡ one = cc in
+        let is : (lists_of c (all_but_last ws) ps qs, last_told Size ws) ≡ one = cc in
         subst (λ (p : Lists K V × List (Notice K V)). (length p.1 ≡ 1) × (suc (length (all_entries p.0)) ≡ length (all_entries (lists_of c ws ps qs))) × (p.0.caps ≡ c)) is
-        (o.0, omega (arith, o.1, length-append ws (ps ++ qs), length-append (front ws) (ps ++ qs)), refl)
+        (o.0, omega (arith, o.1, length-append ws (ps ++ qs), length-append (all_but_last ws) (ps ++ qs)), refl)
     one_less_at c ws ps qs false false false ha hb hd one h = cc
 
     pub one_less : (r : Lists K V) (one : Lists K V × List (Notice K V)) → trimmed_once eq k r ≡ Some one

@@ -15,9 +15,9 @@ use Rattle.std.proofs.lemmas.List.Sums.{sum_by-cons}
 use Rattle.std.proofs.lemmas.List.Elements.{All-cons, All-tail}
 use Rattle.std.proofs.lemmas.Map.Keys.{IsDistinct-IsPermutation}
 use Rattle.std.proofs.lemmas.List.Sorted.{IsPermutation-refl, IsPermutation-sym, IsPermutation-trans, IsPermutation-cons, IsPermutation-middle, IsPermutation-to_front, IsPermutation-append_left, IsPermutation-append_right, IsPermutation-map, length_permutation, sum_by-IsPermutation, All-permutation}
-use Rattle.wt_regions.specs.declared.kinds.Held.{Held}
-use Rattle.wt_regions.specs.declared.kinds.Caps.{Caps}
-use Rattle.wt_regions.specs.Lists.{Entry, Lists, all_entries, front, main_cap, protected_cap, weight_of, weights}
+use Rattle.wt_regions.specs.declared.held.Held.{Held}
+use Rattle.wt_regions.specs.declared.caps.Caps.{Caps}
+use Rattle.wt_regions.specs.Lists.{Entry, Lists, all_entries, all_but_last, main_cap, protected_cap, weight_of, weights}
 use Rattle.wt_regions.specs.Touch.{promoted}
 use Rattle.wt_regions.specs.Lawful.{IsFit, IsLawful}
 use Rattle.wt_regions.specs.Moves.{IsPlaced}
@@ -102,18 +102,18 @@ IsPermutation-last es l h = subst (λ xs. IsPermutation xs (l ∷ take (length e
 module _ {K V : Type 0} where
   -- what promote does is a move
   abbrev pub promoted_so : Entry K V → List (Entry K V) → List (Entry K V) → Bool → Option (Entry K V) → List (Entry K V) × List (Entry K V)
-  promoted_so e ps qs b o = cond b (ps, e ∷ qs) (option_map_or (λ last. (last ∷ ps, front (e ∷ qs))) o (ps, e ∷ qs))
+  promoted_so e ps qs b o = cond b (ps, e ∷ qs) (option_map_or (λ last. (last ∷ ps, all_but_last (e ∷ qs))) o (ps, e ∷ qs))
 
   promoted-moves-all_at : (c : Caps) (e : Entry K V) (ps qs : List (Entry K V)) (b : Bool) (o : Option (Entry K V)) → last_entry (e ∷ qs) ≡ o
       → IsPermutation ((e ∷ ps) ++ qs) ((promoted_so e ps qs b o).0 ++ (promoted_so e ps qs b o).1)
   promoted-moves-all_at c e ps qs true o h = IsPermutation-sym _ _ (IsPermutation-middle ps e qs)
   promoted-moves-all_at c e ps qs false None h = IsPermutation-sym _ _ (IsPermutation-middle ps e qs)
   promoted-moves-all_at c e ps qs false (Some l) h =
-      IsPermutation-trans ((e ∷ ps) ++ qs) (ps ++ (e ∷ qs)) ((l ∷ ps) ++ front (e ∷ qs))
+      IsPermutation-trans ((e ∷ ps) ++ qs) (ps ++ (e ∷ qs)) ((l ∷ ps) ++ all_but_last (e ∷ qs))
       (IsPermutation-sym _ _ (IsPermutation-middle ps e qs))
-      (IsPermutation-trans (ps ++ (e ∷ qs)) (ps ++ (l ∷ front (e ∷ qs))) ((l ∷ ps) ++ front (e ∷ qs))
-      (IsPermutation-append_right ps (e ∷ qs) (l ∷ front (e ∷ qs)) (IsPermutation-last (e ∷ qs) l h))
-      (IsPermutation-middle ps l (front (e ∷ qs))))
+      (IsPermutation-trans (ps ++ (e ∷ qs)) (ps ++ (l ∷ all_but_last (e ∷ qs))) ((l ∷ ps) ++ all_but_last (e ∷ qs))
+      (IsPermutation-append_right ps (e ∷ qs) (l ∷ all_but_last (e ∷ qs)) (IsPermutation-last (e ∷ qs) l h))
+      (IsPermutation-middle ps l (all_but_last (e ∷ qs))))
 
   pub promoted-moves-all : (c : Caps) (e : Entry K V) (ps qs : List (Entry K V)) → IsPermutation ((e ∷ ps) ++ qs) ((promoted c e ps qs).0 ++ (promoted c e ps qs).1)
   promoted-moves-all c e ps qs = promoted-moves-all_at c e ps qs (nat_lt (length qs) (protected_cap c)) (last_entry (e ∷ qs)) refl

@@ -6,17 +6,17 @@ use Rattle.std.specs.Map.{lookup, remove_entry}
 use Rattle.std.specs.Cmp.{IsEquivalence}
 use Rattle.std.proofs.lemmas.List.{append-nil}
 use Rattle.lru.specs.LruCache.{last_entry}
-use Rattle.wt_regions.specs.declared.kinds.Held.{Held}
-use Rattle.wt_regions.specs.declared.kinds.Caps.{Caps}
-use Rattle.wt_regions.specs.declared.kinds.Notice.{Notice}
-use Rattle.wt_regions.specs.declared.kinds.Cause.TheVariants.{Expired}
+use Rattle.wt_regions.specs.declared.held.Held.{Held}
+use Rattle.wt_regions.specs.declared.caps.Caps.{Caps}
+use Rattle.wt_regions.specs.declared.notices.Notice.{Notice}
+use Rattle.wt_regions.specs.declared.notices.Cause.TheVariants.{Expired}
 use Rattle.wt_regions.proofs.Moves.{lookup-append}
 use Rattle.wt_regions.proofs.Apart.{no_last_none, apart, none_at_last, last_apart, distinct_after, below}
 use Rattle.wt_regions.proofs.Settled.{distinct_turned}
 use Rattle.wt_regions.proofs.Weights.{weights-cons, weights-last, weights-removed, weight-split}
 use Rattle.wt_regions.proofs.Loop.{appended-twice}
-use Rattle.wt_regions.proofs.Cut.{where-is, cut-length, remove-none}
-use Rattle.wt_regions.specs.Lists.{Entry, Lists, cut, front, is_expired, lists_of, main_cap, notice, weight_of, weights}
+use Rattle.wt_regions.proofs.Without.{where-is, without-length, remove-none}
+use Rattle.wt_regions.specs.Lists.{Entry, Lists, without, all_but_last, is_expired, lists_of, main_cap, notice, weight_of, weights}
 use Rattle.wt_regions.specs.Settle.{settled}
 use Rattle.wt_regions.specs.Notices.{NoticeList, appended}
 use Rattle.wt_regions.specs.Moves.{IsPlaced}
@@ -52,7 +52,7 @@ last_under e (x ∷ xs) l h is =
 module _ {K V : Type 0} (eq : K → K → Bool) (laws : IsEquivalence eq) (weigh : V → ℕ) (f : K → ℕ) (now : ℕ) (k : K) (h : Held V) (c : Caps) (ws ps qs : List (Entry K V))
     (law : IsPlaced eq weigh (lists_of c ws ps qs)) (off : lookup (eq k) ws ≡ None) (on : IsSome (lookup (eq k) (ps ++ qs))) where
   abbrev after : Lists K V × List (Notice K V)
-  after = settled f now (k, h) (cut eq k (lists_of c ws ps qs))
+  after = settled f now (k, h) (without eq k (lists_of c ws ps qs))
 
   -- main has room
   room : suc (length (remove_entry (eq k) ps) + length (remove_entry (eq k) qs)) ≤ main_cap c
@@ -60,7 +60,7 @@ module _ {K V : Type 0} (eq : K → K → Bool) (laws : IsEquivalence eq) (weigh
       let g = some_of (lookup (eq k) (ps ++ qs)) on in
       let is : lookup (eq k) (ws ++ (ps ++ qs)) ≡ Some g.0 = rw (lookup-append (eq k) ws (ps ++ qs), off) g.1 in
       let at = where-is eq laws k ws ps qs g.0 law.distinct is in
-      let n : suc (length (remove_entry (eq k) ws ++ (remove_entry (eq k) ps ++ remove_entry (eq k) qs))) ≡ length (ws ++ (ps ++ qs)) = cut-length eq laws k c ws ps qs at.0 at.2 in
+      let n : suc (length (remove_entry (eq k) ws ++ (remove_entry (eq k) ps ++ remove_entry (eq k) qs))) ≡ length (ws ++ (ps ++ qs)) = without-length eq laws k c ws ps qs at.0 at.2 in
       let r = remove-none (eq k) ws off in
       let m : suc (length (ws ++ (remove_entry (eq k) ps ++ remove_entry (eq k) qs))) ≡ length (ws ++ (ps ++ qs)) = rw r at n in
       omega (arith, m, law.main_part, length-append ws (ps ++ qs), length-append ps qs, length-append ws (remove_entry (eq k) ps ++ remove_entry (eq k) qs), length-append (remove_entry (eq k) ps) (remove_entry (eq k) qs))
@@ -85,7 +85,7 @@ module _ {K V : Type 0} (eq : K → K → Bool) (laws : IsEquivalence eq) (weigh
     past-first = first_at (last_entry ((k, h) ∷ ws)) refl
 
     past-full_at : (l : Entry K V) (x : Bool) → last_entry ((k, h) ∷ ws) ≡ Some l → is_expired c now l.1 ≡ x
-        → after ≡ (lists_of c (front ((k, h) ∷ ws)) (remove_entry (eq k) (cond x ps (l ∷ ps))) (remove_entry (eq k) qs), cond x (notice Expired l ∷ []) [])
+        → after ≡ (lists_of c (all_but_last ((k, h) ∷ ws)) (remove_entry (eq k) (cond x ps (l ∷ ps))) (remove_entry (eq k) qs), cond x (notice Expired l ∷ []) [])
     past-full_at l true is e = let r = remove-none (eq k) ws off in let b = over_at (length ((k, h) ∷ ws)) c.window full in rw (r, b, is, e)
     past-full_at l false is e = let r = remove-none (eq k) ws off in let b = over_at (length ((k, h) ∷ ws)) c.window full in
         let n = not_own l is in
@@ -94,12 +94,12 @@ module _ {K V : Type 0} (eq : K → K → Bool) (laws : IsEquivalence eq) (weigh
         rw (r, b, is, e, m, t, n)
 
     full_by : (l : Entry K V) (x : Bool) → last_entry ((k, h) ∷ ws) ≡ Some l → is_expired c now l.1 ≡ x
-        → (lists_of c (front ((k, h) ∷ ws)) (remove_entry (eq k) (cond x ps (l ∷ ps))) (remove_entry (eq k) qs) ≡ after.0) × (option_map_or (λ (l : Entry K V). notice Expired l ∷ []) (cond x (Some l) None) [] ≡ after.1)
+        → (lists_of c (all_but_last ((k, h) ∷ ws)) (remove_entry (eq k) (cond x ps (l ∷ ps))) (remove_entry (eq k) qs) ≡ after.0) × (option_map_or (λ (l : Entry K V). notice Expired l ∷ []) (cond x (Some l) None) [] ≡ after.1)
     full_by l true is e = let p = past-full_at l true is e in (sym (ap (λ (p : Lists K V × List (Notice K V)). p.0) p), sym (ap (λ (p : Lists K V × List (Notice K V)). p.1) p))
     full_by l false is e = let p = past-full_at l false is e in (sym (ap (λ (p : Lists K V × List (Notice K V)). p.0) p), sym (ap (λ (p : Lists K V × List (Notice K V)). p.1) p))
 
     full_at : (o : Option (Entry K V)) → last_entry ((k, h) ∷ ws) ≡ o
-        → (lists_of c (front ((k, h) ∷ ws)) (remove_entry (eq k) (option_map_or (λ (l : Entry K V). cond (is_expired c now l.1) ps (l ∷ ps)) o ps)) (remove_entry (eq k) qs) ≡ after.0)
+        → (lists_of c (all_but_last ((k, h) ∷ ws)) (remove_entry (eq k) (option_map_or (λ (l : Entry K V). cond (is_expired c now l.1) ps (l ∷ ps)) o ps)) (remove_entry (eq k) qs) ≡ after.0)
         × (option_map_or (λ (l : Entry K V). notice Expired l ∷ []) (option_map_or (λ (l : Entry K V). cond (is_expired c now l.1) (Some l) None) o None) [] ≡ after.1)
     full_at None is = absurd (no_last_none (k, h) ws is)
     full_at (Some l) is = full_by l (is_expired c now l.1) is refl
@@ -110,7 +110,7 @@ module _ {K V : Type 0} (eq : K → K → Bool) (laws : IsEquivalence eq) (weigh
     abbrev pub left : Option (Entry K V)
     left = option_map_or (λ (l : Entry K V). cond (is_expired c now l.1) (Some l) None) (last_entry ((k, h) ∷ ws)) None
 
-    pub past-lists : lists_of c (front ((k, h) ∷ ws)) (remove_entry (eq k) pushed) (remove_entry (eq k) qs) ≡ after.0
+    pub past-lists : lists_of c (all_but_last ((k, h) ∷ ws)) (remove_entry (eq k) pushed) (remove_entry (eq k) qs) ≡ after.0
     past-lists = (full_at (last_entry ((k, h) ∷ ws)) refl).0
 
     pub past-told : option_map_or (λ (l : Entry K V). notice Expired l ∷ []) left [] ≡ after.1
@@ -141,27 +141,27 @@ module _ {K V : Type 0} (eq : K → K → Bool) (laws : IsEquivalence eq) (weigh
   past-weight-fits = omega (arith, both, weight-split c ws ps qs, weight-split c ((k, h) ∷ ws) (remove_entry (eq k) ps) (remove_entry (eq k) qs), weights-cons (k, h) ws, weights-removed (eq k) ps, weights-removed (eq k) qs)
 
   weight_by : (l : Entry K V) (x : Bool) → c.window < length ((k, h) ∷ ws) → last_entry ((k, h) ∷ ws) ≡ Some l
-      → weight_of (lists_of c (front ((k, h) ∷ ws)) (remove_entry (eq k) (cond x ps (l ∷ ps))) (remove_entry (eq k) qs)) + (heft (lookup (eq k) (ps ++ qs)) + option_map_or (λ (l : Entry K V). l.1.weight) (cond x (Some l) None) 0) ≡ weight_of (lists_of c ws ps qs) + h.weight
+      → weight_of (lists_of c (all_but_last ((k, h) ∷ ws)) (remove_entry (eq k) (cond x ps (l ∷ ps))) (remove_entry (eq k) qs)) + (heft (lookup (eq k) (ps ++ qs)) + option_map_or (λ (l : Entry K V). l.1.weight) (cond x (Some l) None) 0) ≡ weight_of (lists_of c ws ps qs) + h.weight
   weight_by l true full is =
-      let b : weights (front ((k, h) ∷ ws)) + l.1.weight ≡ weights ((k, h) ∷ ws) = rw is at (weights-last ((k, h) ∷ ws)) in
-      omega (arith, both, b, weight-split c ws ps qs, weight-split c (front ((k, h) ∷ ws)) (remove_entry (eq k) ps) (remove_entry (eq k) qs), weights-cons (k, h) ws, weights-removed (eq k) ps, weights-removed (eq k) qs)
+      let b : weights (all_but_last ((k, h) ∷ ws)) + l.1.weight ≡ weights ((k, h) ∷ ws) = rw is at (weights-last ((k, h) ∷ ws)) in
+      omega (arith, both, b, weight-split c ws ps qs, weight-split c (all_but_last ((k, h) ∷ ws)) (remove_entry (eq k) ps) (remove_entry (eq k) qs), weights-cons (k, h) ws, weights-removed (eq k) ps, weights-removed (eq k) qs)
   weight_by l false full is =
-      let b : weights (front ((k, h) ∷ ws)) + l.1.weight ≡ weights ((k, h) ∷ ws) = rw is at (weights-last ((k, h) ∷ ws)) in
+      let b : weights (all_but_last ((k, h) ∷ ws)) + l.1.weight ≡ weights ((k, h) ∷ ws) = rw is at (weights-last ((k, h) ∷ ws)) in
       let n = not_own full l is in
-      rw n (omega (arith, both, b, weight-split c ws ps qs, weight-split c (front ((k, h) ∷ ws)) (l ∷ remove_entry (eq k) ps) (remove_entry (eq k) qs), weights-cons l (remove_entry (eq k) ps), weights-cons (k, h) ws, weights-removed (eq k) ps, weights-removed (eq k) qs))
+      rw n (omega (arith, both, b, weight-split c ws ps qs, weight-split c (all_but_last ((k, h) ∷ ws)) (l ∷ remove_entry (eq k) ps) (remove_entry (eq k) qs), weights-cons l (remove_entry (eq k) ps), weights-cons (k, h) ws, weights-removed (eq k) ps, weights-removed (eq k) qs))
 
   weight_at : (o : Option (Entry K V)) → c.window < length ((k, h) ∷ ws) → last_entry ((k, h) ∷ ws) ≡ o
-      → weight_of (lists_of c (front ((k, h) ∷ ws)) (remove_entry (eq k) (option_map_or (λ (l : Entry K V). cond (is_expired c now l.1) ps (l ∷ ps)) o ps)) (remove_entry (eq k) qs))
+      → weight_of (lists_of c (all_but_last ((k, h) ∷ ws)) (remove_entry (eq k) (option_map_or (λ (l : Entry K V). cond (is_expired c now l.1) ps (l ∷ ps)) o ps)) (remove_entry (eq k) qs))
       + (heft (lookup (eq k) (ps ++ qs)) + option_map_or (λ (l : Entry K V). l.1.weight) (option_map_or (λ (l : Entry K V). cond (is_expired c now l.1) (Some l) None) o None) 0) ≡ weight_of (lists_of c ws ps qs) + h.weight
   weight_at None full is = absurd (no_last_none (k, h) ws is)
   weight_at (Some l) full is = weight_by l (is_expired c now l.1) full is
 
-  pub past-weight : (full : c.window < length ((k, h) ∷ ws)) → weight_of (lists_of c (front ((k, h) ∷ ws)) (remove_entry (eq k) (pushed full)) (remove_entry (eq k) qs))
+  pub past-weight : (full : c.window < length ((k, h) ∷ ws)) → weight_of (lists_of c (all_but_last ((k, h) ∷ ws)) (remove_entry (eq k) (pushed full)) (remove_entry (eq k) qs))
       + (heft (lookup (eq k) (ps ++ qs)) + option_map_or (λ (l : Entry K V). l.1.weight) (left full) 0) ≡ weight_of (lists_of c ws ps qs) + h.weight
   past-weight full = weight_at (last_entry ((k, h) ∷ ws)) full refl
 
   -- no estimate counts
-  pub past-any_at : (g : K → ℕ) (o : Option (Entry K V)) → last_entry ((k, h) ∷ ws) ≡ o → c.window < length ((k, h) ∷ ws) → settled f now (k, h) (cut eq k (lists_of c ws ps qs)) ≡ (lists_of c (front ((k, h) ∷ ws)) (remove_entry (eq k) (option_map_or (λ (l : Entry K V). cond (is_expired c now l.1) ps (l ∷ ps)) o ps)) (remove_entry (eq k) qs), option_map_or (λ (l : Entry K V). cond (is_expired c now l.1) (notice Expired l ∷ []) []) o [])
+  pub past-any_at : (g : K → ℕ) (o : Option (Entry K V)) → last_entry ((k, h) ∷ ws) ≡ o → c.window < length ((k, h) ∷ ws) → settled f now (k, h) (without eq k (lists_of c ws ps qs)) ≡ (lists_of c (all_but_last ((k, h) ∷ ws)) (remove_entry (eq k) (option_map_or (λ (l : Entry K V). cond (is_expired c now l.1) ps (l ∷ ps)) o ps)) (remove_entry (eq k) qs), option_map_or (λ (l : Entry K V). cond (is_expired c now l.1) (notice Expired l ∷ []) []) o [])
   past-any_at g None is full = absurd (no_last_none (k, h) ws is)
   past-any_at g (Some l) is full = past-full_at full l (is_expired c now l.1) is refl
 
@@ -180,11 +180,11 @@ module _ {K V : Type 0} (eq : K → K → Bool) (laws : IsEquivalence eq) (weigh
 
 module _ {K V : Type 0} (eq : K → K → Bool) (laws : IsEquivalence eq) (weigh : V → ℕ) (f g : K → ℕ) (now : ℕ) (k : K) (h : Held V) (c : Caps) (ws ps qs : List (Entry K V))
     (law : IsPlaced eq weigh (lists_of c ws ps qs)) (off : lookup (eq k) ws ≡ None) (on : IsSome (lookup (eq k) (ps ++ qs))) where
-  any_by : (x : Bool) → nat_le (length ((k, h) ∷ ws)) c.window ≡ x → settled f now (k, h) (cut eq k (lists_of c ws ps qs)) ≡ settled g now (k, h) (cut eq k (lists_of c ws ps qs))
+  any_by : (x : Bool) → nat_le (length ((k, h) ∷ ws)) c.window ≡ x → settled f now (k, h) (without eq k (lists_of c ws ps qs)) ≡ settled g now (k, h) (without eq k (lists_of c ws ps qs))
   any_by true is = let le : length ((k, h) ∷ ws) ≤ c.window = yes_at (length ((k, h) ∷ ws)) c.window is in
       past-fits eq laws weigh f now k h c ws ps qs law off on le ∙ sym (past-fits eq laws weigh g now k h c ws ps qs law off on le)
   any_by false is = let full : c.window < length ((k, h) ∷ ws) = no_at (length ((k, h) ∷ ws)) c.window is in
       past-any_at eq laws weigh f now k h c ws ps qs law off on (λ _. 0) (last_entry ((k, h) ∷ ws)) refl full ∙ sym (past-any_at eq laws weigh g now k h c ws ps qs law off on (λ _. 0) (last_entry ((k, h) ∷ ws)) refl full)
 
-  pub past-any : settled f now (k, h) (cut eq k (lists_of c ws ps qs)) ≡ settled g now (k, h) (cut eq k (lists_of c ws ps qs))
+  pub past-any : settled f now (k, h) (without eq k (lists_of c ws ps qs)) ≡ settled g now (k, h) (without eq k (lists_of c ws ps qs))
   past-any = any_by (nat_le (length ((k, h) ∷ ws)) c.window) refl

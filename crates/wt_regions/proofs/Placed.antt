@@ -5,19 +5,19 @@ use Rattle.std.specs.Option.{option_map_or}
 use Rattle.std.specs.Map.{lookup, lookup_entry, remove_entry}
 use Rattle.std.specs.Cmp.{IsEquivalence}
 use Rattle.std.proofs.lemmas.List.Sorted.{length_permutation}
-use Rattle.wt_regions.specs.declared.kinds.Held.{Held}
-use Rattle.wt_regions.specs.declared.kinds.Caps.{Caps}
-use Rattle.wt_regions.specs.declared.kinds.Notice.{Notice}
-use Rattle.wt_regions.specs.declared.kinds.Cause.TheVariants.{Expired, Replaced}
+use Rattle.wt_regions.specs.declared.held.Held.{Held}
+use Rattle.wt_regions.specs.declared.caps.Caps.{Caps}
+use Rattle.wt_regions.specs.declared.notices.Notice.{Notice}
+use Rattle.wt_regions.specs.declared.notices.Cause.TheVariants.{Expired, Replaced}
 use Rattle.wt_regions.proofs.Moves.{lookup-append, lookup_entry-none, IsPermutation-pull}
 use Rattle.wt_regions.proofs.Apart.{apart, distinct_after, entry-from_lookup}
 use Rattle.wt_regions.proofs.Settled.{fresh_parts}
 use Rattle.wt_regions.proofs.Weights.{weight-is}
 use Rattle.wt_regions.proofs.Touches.{brought}
-use Rattle.wt_regions.proofs.Cut.{where-w, where-p, where-q, remove-none}
+use Rattle.wt_regions.proofs.Without.{where-w, where-p, where-q, remove-none}
 use Rattle.wt_regions.proofs.Past.{past-any, in_by}
 use Rattle.wt_regions.proofs.Ready.{replaced-weight}
-use Rattle.wt_regions.specs.Lists.{Entry, Lists, all_entries, cut, is_expired, lists_of, notice, weight_of, weights}
+use Rattle.wt_regions.specs.Lists.{Entry, Lists, all_entries, without, is_expired, lists_of, notice, weight_of, weights}
 use Rattle.wt_regions.specs.Touch.{touched}
 use Rattle.wt_regions.specs.Settle.{settled}
 use Rattle.wt_regions.specs.Steps.{placed}
@@ -125,16 +125,16 @@ module _ {K V : Type 0} (eq : K → K → Bool) (laws : IsEquivalence eq) (same 
     on : IsSome (lookup (eq k) (ps ++ qs))
     on = rw at refl
 
-    past_by : outcome ≡ ((settled f now (k, h) (cut eq k r)).0, (notice Expired (k, g) ∷ []) ++ (settled f now (k, h) (cut eq k r)).1)
+    past_by : outcome ≡ ((settled f now (k, h) (without eq k r)).0, (notice Expired (k, g) ∷ []) ++ (settled f now (k, h) (without eq k r)).1)
     past_by = rw (lookup-append (eq k) ws (ps ++ qs), off, at, is)
 
-    any : settled (λ _. 0) now (k, h) (cut eq k r) ≡ settled f now (k, h) (cut eq k r)
+    any : settled (λ _. 0) now (k, h) (without eq k r) ≡ settled f now (k, h) (without eq k r)
     any = past-any eq laws weigh (λ _. 0) f now k h c ws ps qs law off on
 
-    pub past-in-lists : (settled (λ _. 0) now (k, h) (cut eq k r)).0 ≡ outcome.0
+    pub past-in-lists : (settled (λ _. 0) now (k, h) (without eq k r)).0 ≡ outcome.0
     past-in-lists = ap (λ (p : Lists K V × List (Notice K V)). p.0) any ∙ sym (ap (λ (p : Lists K V × List (Notice K V)). p.0) past_by)
 
-    pub past-in-told : option_map_or (λ (g : Held V). notice Expired (k, g) ∷ []) (lookup (eq k) (ps ++ qs)) [] ++ (settled (λ _. 0) now (k, h) (cut eq k r)).1 ≡ outcome.1
+    pub past-in-told : option_map_or (λ (g : Held V). notice Expired (k, g) ∷ []) (lookup (eq k) (ps ++ qs)) [] ++ (settled (λ _. 0) now (k, h) (without eq k r)).1 ≡ outcome.1
     past-in-told = rw at (ap (λ (p : Lists K V × List (Notice K V)). (notice Expired (k, g) ∷ []) ++ p.1) any ∙ sym (ap (λ (p : Lists K V × List (Notice K V)). p.1) past_by))
 
   -- ---- nowhere

@@ -10,21 +10,21 @@ use Rattle.std.proofs.lemmas.List.{length-take}
 use Rattle.std.proofs.lemmas.List.Elements.{All-cons}
 use Rattle.std.proofs.lemmas.List.Sorted.{IsPermutation-refl, IsPermutation-sym, IsPermutation-trans, IsPermutation-middle, IsPermutation-append_right, All-permutation, length_permutation, sum_by-IsPermutation}
 use Rattle.lru.specs.LruCache.{last_entry}
-use Rattle.wt_regions.specs.declared.kinds.Held.{Held}
-use Rattle.wt_regions.specs.declared.kinds.Caps.{Caps}
-use Rattle.wt_regions.specs.declared.kinds.Notice.{Notice}
-use Rattle.wt_regions.specs.declared.kinds.Cause.{Cause}
-use Rattle.wt_regions.specs.declared.kinds.Cause.TheVariants.{Expired, Replaced}
-use Rattle.wt_regions.specs.declared.kinds.Fate.{Fate}
-use Rattle.wt_regions.specs.declared.kinds.Fate.TheVariants.{Leaves, Enters, Ousts}
+use Rattle.wt_regions.specs.declared.held.Held.{Held}
+use Rattle.wt_regions.specs.declared.caps.Caps.{Caps}
+use Rattle.wt_regions.specs.declared.notices.Notice.{Notice}
+use Rattle.wt_regions.specs.declared.notices.Cause.{Cause}
+use Rattle.wt_regions.specs.declared.notices.Cause.TheVariants.{Expired, Replaced}
+use Rattle.wt_regions.specs.declared.settle.Fate.{Fate}
+use Rattle.wt_regions.specs.declared.settle.Fate.TheVariants.{Leaves, Enters, Ousts}
 use Rattle.wt_regions.proofs.Moves.{IsPermutation-pull, lookup_entry-none, promoted-moves-all, promoted_so}
 use Rattle.wt_regions.proofs.Apart.{no_last_none, apart, room_for, lookup-congr}
 use Rattle.wt_regions.proofs.Sound.{loses-below}
 use Rattle.wt_regions.proofs.Settled.{IsSound, sound-moves, sound-loses, sound-new, IsSettled, settled-kept, Light, light-none, fresh_parts}
 use Rattle.wt_regions.proofs.Weights.{weights-cons, weights-moves}
-use Rattle.wt_regions.proofs.First.{first-front, none-drop, others-own, others-none}
-use Rattle.wt_regions.proofs.Cut.{Where, where-is, where-same, cut-perm, cut-fresh, cut-placed, cut-length, remove-none}
-use Rattle.wt_regions.specs.Lists.{Entry, Lists, all_entries, cut, front, is_expired, lists_of, main_cap, notice, protected_cap, weights}
+use Rattle.wt_regions.proofs.First.{first-all_but_last, none-drop, others-own, others-none}
+use Rattle.wt_regions.proofs.Without.{Where, where-is, where-same, without-perm, without-fresh, without-placed, without-length, remove-none}
+use Rattle.wt_regions.specs.Lists.{Entry, Lists, all_entries, without, all_but_last, is_expired, lists_of, main_cap, notice, protected_cap, weights}
 use Rattle.wt_regions.specs.Touch.{promoted, touched}
 use Rattle.wt_regions.specs.Settle.{by_fate, fate, settled}
 use Rattle.wt_regions.specs.Steps.{placed}
@@ -33,9 +33,9 @@ use Rattle.wt_regions.specs.Moves.{IsFirst, IsPlaced, others}
 over_by : (a b : ℕ) → nat_le a b ≡ false → b < a
 over_by a b h = search (rules, arith)
 
-front-full : {X : Type 0} (x : X) (xs : List X) → 0 < length xs → take (length (x ∷ xs) - 1) (x ∷ xs) ≡ x ∷ take (length xs - 1) xs
-front-full x [] h = absurd (omega arith)
-front-full x (y ∷ ys) h =
+all_but_last-full : {X : Type 0} (x : X) (xs : List X) → 0 < length xs → take (length (x ∷ xs) - 1) (x ∷ xs) ≡ x ∷ take (length xs - 1) xs
+all_but_last-full x [] h = absurd (omega arith)
+all_but_last-full x (y ∷ ys) h =
     let n : length (x ∷ y ∷ ys) - 1 ≡ suc (length ys) = omega arith in
     let m : length (y ∷ ys) - 1 ≡ length ys = omega arith in
     rw (n, m)
@@ -51,12 +51,12 @@ module _ {K V : Type 0} where
   by_fate-window c r (Ousts why) = refl
 
   window_at : (e : Entry K V) (r : Lists K V) (x : Bool) (o : Option (Entry K V)) (f : Entry K V → Fate) → nat_le (length (e ∷ r.window)) r.caps.window ≡ x → 0 < r.caps.window
-      → (ws : List (Entry K V)) × ((cond x (record r { window = e ∷ r.window }, []) (option_map_or (λ c. by_fate c (record r { window = front (e ∷ r.window) }) (f c)) o (record r { window = e ∷ r.window }, []))).0.window ≡ e ∷ ws)
+      → (ws : List (Entry K V)) × ((cond x (record r { window = e ∷ r.window }, []) (option_map_or (λ c. by_fate c (record r { window = all_but_last (e ∷ r.window) }) (f c)) o (record r { window = e ∷ r.window }, []))).0.window ≡ e ∷ ws)
   window_at e r true o f le pos = (r.window, refl)
   window_at e r false None f le pos = (r.window, refl)
   window_at e r false (Some l) f le pos =
       let over = over_by (length (e ∷ r.window)) r.caps.window le in
-      (front r.window, by_fate-window l (record r { window = front (e ∷ r.window) }) (f l) ∙ front-full e r.window (omega (arith, over, pos)))
+      (all_but_last r.window, by_fate-window l (record r { window = all_but_last (e ∷ r.window) }) (f l) ∙ all_but_last-full e r.window (omega (arith, over, pos)))
 
   -- the new entry stays first in window
   pub settled-window : (estimate : K → ℕ) (now : ℕ) (e : Entry K V) (r : Lists K V) → 0 < r.caps.window → (ws : List (Entry K V)) × ((settled estimate now e r).0.window ≡ e ∷ ws)
@@ -113,7 +113,7 @@ module _ {K V : Type 0} (eq : K → K → Bool) (laws : IsEquivalence eq) (weigh
   promoted-first-1 : (c : Caps) (e : Entry K V) (ps qs : List (Entry K V)) (x : Bool) (o : Option (Entry K V)) → last_entry (e ∷ qs) ≡ o → lookup (eq k) qs ≡ None → lookup (eq k) (drop 1 (promoted_so e ps qs x o).1) ≡ None
   promoted-first-1 c e ps qs true o is n = n
   promoted-first-1 c e ps qs false None is n = absurd (no_last_none e qs is)
-  promoted-first-1 c e ps qs false (Some l) is n = first-front (eq k) (e ∷ qs) n
+  promoted-first-1 c e ps qs false (Some l) is n = first-all_but_last (eq k) (e ∷ qs) n
 
   promoted-fits : (c : Caps) (e : Entry K V) (ps qs : List (Entry K V)) (x : Bool) → nat_lt (length qs) (protected_cap c) ≡ x → (o : Option (Entry K V)) → last_entry (e ∷ qs) ≡ o → length qs ≤ protected_cap c → length (promoted_so e ps qs x o).1 ≤ protected_cap c
   promoted-fits c e ps qs true t o l h = room_for (length qs) (protected_cap c) t
@@ -122,11 +122,11 @@ module _ {K V : Type 0} (eq : K → K → Bool) (laws : IsEquivalence eq) (weigh
 
   module _ (h : Held V) (c : Caps) (ws ps qs : List (Entry K V)) (o : Entry K V) (law : IsPlaced eq weigh (lists_of c ws ps qs)) where
     rest : List (Entry K V)
-    rest = all_entries (cut eq k (lists_of c ws ps qs))
+    rest = all_entries (without eq k (lists_of c ws ps qs))
 
     fresh : lookup (eq k) rest ≡ None
     unfolding rest
-    fresh = cut-fresh eq laws k c ws ps qs law.distinct
+    fresh = without-fresh eq laws k c ws ps qs law.distinct
 
     fresh-0 : lookup (eq k) (remove_entry (eq k) ws) ≡ None
     unfolding rest
@@ -209,7 +209,7 @@ module _ {K V : Type 0} (eq : K → K → Bool) (laws : IsEquivalence eq) (weigh
         let f = touched-fits at in
         let same = touched-caps at in
         let p = touched-perm at in
-        let q = cut-perm eq laws k c ws ps qs o at in
+        let q = without-perm eq laws k c ws ps qs o at in
         let sound : IsSound eq laws weigh (all_entries replaced) = sound-moves eq laws weigh ((o.0, h) ∷ rest) (all_entries replaced) p
         (sound-new eq laws weigh (o.0, h) rest (own-fresh own) w (sound-loses eq laws weigh o (ws ++ (ps ++ qs)) rest q (record { distinct = law.distinct; weights = law.weights }))) in
         let n = length_permutation (ws ++ (ps ++ qs)) (o ∷ rest) q in
@@ -227,7 +227,7 @@ module _ {K V : Type 0} (eq : K → K → Bool) (laws : IsEquivalence eq) (weigh
     unfolding rest
     replaced-weight at =
         let p = weights-moves ((o.0, h) ∷ rest) (all_entries replaced) (touched-perm at) in
-        let q = weights-moves (ws ++ (ps ++ qs)) (o ∷ rest) (cut-perm eq laws k c ws ps qs o at) in
+        let q = weights-moves (ws ++ (ps ++ qs)) (o ∷ rest) (without-perm eq laws k c ws ps qs o at) in
         omega (arith, p, q, weights-cons (o.0, h) rest, weights-cons o rest)
 
   -- ---- a value is put in
@@ -236,18 +236,18 @@ module _ {K V : Type 0} (eq : K → K → Bool) (laws : IsEquivalence eq) (weigh
 
   module _ (estimate : K → ℕ) (now : ℕ) (h : Held V) (c : Caps) (ws ps qs : List (Entry K V)) (law : IsPlaced eq weigh (lists_of c ws ps qs)) (w : h.weight ≡ weigh h.value) (low : h.weight ≤ b) where
     some-ready : (g : Held V) (x : Bool) → lookup (eq k) (ws ++ (ps ++ qs)) ≡ Some g
-        → IsReady c (length (ws ++ (ps ++ qs))) (cond x (after_notice (notice Expired (k, g) ∷ []) (settled estimate now (k, h) (cut eq k (lists_of c ws ps qs)))) (touched eq k (λ _. h) (lists_of c ws ps qs), notice Replaced (k, g) ∷ []))
+        → IsReady c (length (ws ++ (ps ++ qs))) (cond x (after_notice (notice Expired (k, g) ∷ []) (settled estimate now (k, h) (without eq k (lists_of c ws ps qs)))) (touched eq k (λ _. h) (lists_of c ws ps qs), notice Replaced (k, g) ∷ []))
     some-ready g true is =
         let at = where-is eq laws k ws ps qs g law.distinct is in
-        let n = cut-fresh eq laws k c ws ps qs law.distinct in
-        later c (length (ws ++ (ps ++ qs))) (length (all_entries (cut eq k (lists_of c ws ps qs)))) g (settled estimate now (k, h) (cut eq k (lists_of c ws ps qs))) (cut-length eq laws k c ws ps qs at.0 at.2)
-        (settled-ready estimate now (k, h) (cut eq k (lists_of c ws ps qs)) (laws.refl k) (cut-placed eq laws k weigh c ws ps qs at.0 at.2 law) n n w low)
+        let n = without-fresh eq laws k c ws ps qs law.distinct in
+        later c (length (ws ++ (ps ++ qs))) (length (all_entries (without eq k (lists_of c ws ps qs)))) g (settled estimate now (k, h) (without eq k (lists_of c ws ps qs))) (without-length eq laws k c ws ps qs at.0 at.2)
+        (settled-ready estimate now (k, h) (without eq k (lists_of c ws ps qs)) (laws.refl k) (without-placed eq laws k weigh c ws ps qs at.0 at.2 law) n n w low)
     some-ready g false is =
         let at = where-is eq laws k ws ps qs g law.distinct is in
         replaced-ready h c ws ps qs at.0 law Replaced at.2 w low g
 
     ready_at : (o : Option (Held V)) → lookup (eq k) (ws ++ (ps ++ qs)) ≡ o
-        → IsReady c (length (ws ++ (ps ++ qs))) (option_map_or (λ (g : Held V). cond (is_expired c now g) (after_notice (notice Expired (k, g) ∷ []) (settled estimate now (k, h) (cut eq k (lists_of c ws ps qs)))) (touched eq k (λ _. h) (lists_of c ws ps qs), notice Replaced (k, g) ∷ [])) o (settled estimate now (k, h) (lists_of c ws ps qs)))
+        → IsReady c (length (ws ++ (ps ++ qs))) (option_map_or (λ (g : Held V). cond (is_expired c now g) (after_notice (notice Expired (k, g) ∷ []) (settled estimate now (k, h) (without eq k (lists_of c ws ps qs)))) (touched eq k (λ _. h) (lists_of c ws ps qs), notice Replaced (k, g) ∷ [])) o (settled estimate now (k, h) (lists_of c ws ps qs)))
     ready_at None is = settled-ready estimate now (k, h) (lists_of c ws ps qs) (laws.refl k) law is is w low
     ready_at (Some g) is = some-ready g (is_expired c now g) is
 

@@ -1,6 +1,6 @@
 -- The room of a list of notices and its length together.
 use Rattle.std.proofs.Common.{◌≡◌, ℕ, ◌+◌, ◌≤◌, List, length, arith, length-append}
-use Rattle.wt_regions.specs.declared.kinds.Notice.{Notice}
+use Rattle.wt_regions.specs.declared.notices.Notice.{Notice}
 use Rattle.wt_regions.specs.Notices.{NoticeList, appended}
 
 -- they don't fall

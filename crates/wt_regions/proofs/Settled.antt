@@ -11,17 +11,17 @@ use Rattle.std.proofs.lemmas.List.Elements.{All-cons, All-tail}
 use Rattle.std.proofs.lemmas.List.Sorted.{IsPermutation-sym, IsPermutation-trans, IsPermutation-middle, IsPermutation-append_left, IsPermutation-append_right, IsPermutation-append_comm, IsPermutation-map, All-permutation, length_permutation}
 use Rattle.std.proofs.lemmas.Map.Keys.{IsDistinct-IsPermutation, IsDistinct-cons}
 use Rattle.lru.specs.LruCache.{last_entry}
-use Rattle.wt_regions.specs.declared.kinds.Caps.{Caps}
-use Rattle.wt_regions.specs.declared.kinds.Notice.{Notice}
-use Rattle.wt_regions.specs.declared.kinds.Cause.{Cause}
-use Rattle.wt_regions.specs.declared.kinds.Cause.TheVariants.{Expired, Size}
-use Rattle.wt_regions.specs.declared.kinds.Fate.{Fate}
-use Rattle.wt_regions.specs.declared.kinds.Fate.TheVariants.{Leaves, Enters, Ousts}
+use Rattle.wt_regions.specs.declared.caps.Caps.{Caps}
+use Rattle.wt_regions.specs.declared.notices.Notice.{Notice}
+use Rattle.wt_regions.specs.declared.notices.Cause.{Cause}
+use Rattle.wt_regions.specs.declared.notices.Cause.TheVariants.{Expired, Size}
+use Rattle.wt_regions.specs.declared.settle.Fate.{Fate}
+use Rattle.wt_regions.specs.declared.settle.Fate.TheVariants.{Leaves, Enters, Ousts}
 use Rattle.wt_regions.proofs.Moves.{IsPermutation-last}
 use Rattle.wt_regions.proofs.Apart.{no_last_none, distinct_after}
-use Rattle.wt_regions.proofs.Sound.{keys-front, weights-front, keys_none, loses-window, loses-below}
+use Rattle.wt_regions.proofs.Sound.{keys-all_but_last, weights-all_but_last, keys_none, loses-window, loses-below}
 use Rattle.wt_regions.proofs.Fates.{ousts_some}
-use Rattle.wt_regions.specs.Lists.{Entry, Lists, all_entries, front, lists_of, main_cap, notice, protected_cap}
+use Rattle.wt_regions.specs.Lists.{Entry, Lists, all_entries, all_but_last, lists_of, main_cap, notice, protected_cap}
 use Rattle.wt_regions.specs.Settle.{by_fate, fate, settled}
 use Rattle.wt_regions.specs.Lawful.{IsFit}
 use Rattle.wt_regions.specs.Moves.{IsPlaced}
@@ -50,9 +50,9 @@ module _ {K V : Type 0} where
   some_of es None h s = cc
   some_of es (Some v) h s = (v, h)
 
-  front-length : (es : List (Entry K V)) (v : Entry K V) → last_entry es ≡ Some v → suc (length (front es)) ≡ length es
-  front-length [] v h = cc
-  front-length (x ∷ xs) v h = let n = length-take (length (x ∷ xs) - 1) (x ∷ xs) in omega (arith, n)
+  all_but_last-length : (es : List (Entry K V)) (v : Entry K V) → last_entry es ≡ Some v → suc (length (all_but_last es)) ≡ length es
+  all_but_last-length [] v h = cc
+  all_but_last-length (x ∷ xs) v h = let n = length-take (length (x ∷ xs) - 1) (x ∷ xs) in omega (arith, n)
 
   module _ (eq : K → K → Bool) (laws : IsEquivalence eq) (weigh : V → ℕ) where
     -- keys once and weights right
@@ -67,7 +67,7 @@ module _ {K V : Type 0} where
     }
 
     pub sound-loses : (l : Entry K V) (es fs : List (Entry K V)) → IsPermutation es (l ∷ fs) → IsSound es → IsSound fs
-    sound-loses l es fs h s = record { distinct = keys-front eq laws weigh l es fs h s.distinct; weights = weights-front eq laws weigh l es fs h s.weights }
+    sound-loses l es fs h s = record { distinct = keys-all_but_last eq laws weigh l es fs h s.distinct; weights = weights-all_but_last eq laws weigh l es fs h s.weights }
 
     pub sound-new : (e : Entry K V) (es : List (Entry K V)) → lookup (eq e.0) es ≡ None → e.1.weight ≡ weigh e.1.value → IsSound es → IsSound (e ∷ es)
     sound-new e es n w s = record {
@@ -89,45 +89,45 @@ module _ {K V : Type 0} where
 
     module _ (P : Entry K V → Type 0) (estimate : K → ℕ) (now : ℕ) (c : Caps) (fit : IsFit c) (ws ps qs : List (Entry K V)) (l : Entry K V) (last : last_entry ws ≡ Some l)
         (sound : IsSound (ws ++ (ps ++ qs))) (w : length ws ≡ suc c.window) (q : length qs ≤ protected_cap c) (m : length ps + length qs ≤ main_cap c) where
-      given : (f : Fate) → fate estimate now c l ps qs ≡ f → IsSettled P (ws ++ (ps ++ qs)) (length (ws ++ (ps ++ qs))) c (by_fate l (lists_of c (front ws) ps qs) f)
+      given : (f : Fate) → fate estimate now c l ps qs ≡ f → IsSettled P (ws ++ (ps ++ qs)) (length (ws ++ (ps ++ qs))) c (by_fate l (lists_of c (all_but_last ws) ps qs) f)
       given (Leaves why) is =
-          let n = front-length ws l last in
-          let s = sound-loses l (ws ++ (ps ++ qs)) (front ws ++ (ps ++ qs)) (loses-window eq laws weigh l ws (ps ++ qs) (IsPermutation-last ws l last)) sound in
+          let n = all_but_last-length ws l last in
+          let s = sound-loses l (ws ++ (ps ++ qs)) (all_but_last ws ++ (ps ++ qs)) (loses-window eq laws weigh l ws (ps ++ qs) (IsPermutation-last ws l last)) sound in
           record {
-            each = λ a. All-tail P l (front ws ++ (ps ++ qs)) (All-permutation P (ws ++ (ps ++ qs)) (l ∷ (front ws ++ (ps ++ qs))) (loses-window eq laws weigh l ws (ps ++ qs) (IsPermutation-last ws l last)) a);
+            each = λ a. All-tail P l (all_but_last ws ++ (ps ++ qs)) (All-permutation P (ws ++ (ps ++ qs)) (l ∷ (all_but_last ws ++ (ps ++ qs))) (loses-window eq laws weigh l ws (ps ++ qs) (IsPermutation-last ws l last)) a);
             placed = record { fit = fit; distinct = s.distinct; window = omega (arith, n); protected = q; main_part = m; weights = s.weights };
-            count = omega (arith, n, length-append ws (ps ++ qs), length-append (front ws) (ps ++ qs));
+            count = omega (arith, n, length-append ws (ps ++ qs), length-append (all_but_last ws) (ps ++ qs));
             few = omega arith;
             caps = refl;
           }
       given Enters is =
-          let n = front-length ws l last in
+          let n = all_but_last-length ws l last in
           let t : nat_lt (length ps + length qs) (main_cap c) ≡ true = enters_at _ _ _ _ (last_entry ps) is (λ x. duel_not _ _) in
-          let p : IsPermutation (ws ++ (ps ++ qs)) (front ws ++ ((l ∷ ps) ++ qs)) = IsPermutation-trans (ws ++ (ps ++ qs)) (l ∷ (front ws ++ (ps ++ qs))) (front ws ++ ((l ∷ ps) ++ qs))
-          (loses-window eq laws weigh l ws (ps ++ qs) (IsPermutation-last ws l last)) (IsPermutation-sym _ _ (IsPermutation-middle (front ws) l (ps ++ qs))) in
-          let s = sound-moves (ws ++ (ps ++ qs)) (front ws ++ ((l ∷ ps) ++ qs)) p sound in
+          let p : IsPermutation (ws ++ (ps ++ qs)) (all_but_last ws ++ ((l ∷ ps) ++ qs)) = IsPermutation-trans (ws ++ (ps ++ qs)) (l ∷ (all_but_last ws ++ (ps ++ qs))) (all_but_last ws ++ ((l ∷ ps) ++ qs))
+          (loses-window eq laws weigh l ws (ps ++ qs) (IsPermutation-last ws l last)) (IsPermutation-sym _ _ (IsPermutation-middle (all_but_last ws) l (ps ++ qs))) in
+          let s = sound-moves (ws ++ (ps ++ qs)) (all_but_last ws ++ ((l ∷ ps) ++ qs)) p sound in
           record {
-            each = λ a. All-permutation P (ws ++ (ps ++ qs)) (front ws ++ ((l ∷ ps) ++ qs)) p a;
+            each = λ a. All-permutation P (ws ++ (ps ++ qs)) (all_but_last ws ++ ((l ∷ ps) ++ qs)) p a;
             placed = record { fit = fit; distinct = s.distinct; window = omega (arith, n); protected = q; main_part = room_of (length ps) (length qs) (main_cap c) t; weights = s.weights };
-            count = omega (arith, length_permutation (ws ++ (ps ++ qs)) (front ws ++ ((l ∷ ps) ++ qs)) p);
+            count = omega (arith, length_permutation (ws ++ (ps ++ qs)) (all_but_last ws ++ ((l ∷ ps) ++ qs)) p);
             few = omega arith;
             caps = refl;
           }
       given (Ousts why) is =
-          let n = front-length ws l last in
+          let n = all_but_last-length ws l last in
           let there = ousts_some estimate now c l ps qs why is in
           let v = some_of ps (last_entry ps) refl there in
-          let k = front-length ps v.0 v.1 in
-          let p : IsPermutation (ws ++ (ps ++ qs)) (front ws ++ ((l ∷ ps) ++ qs)) = IsPermutation-trans (ws ++ (ps ++ qs)) (l ∷ (front ws ++ (ps ++ qs))) (front ws ++ ((l ∷ ps) ++ qs))
-          (loses-window eq laws weigh l ws (ps ++ qs) (IsPermutation-last ws l last)) (IsPermutation-sym _ _ (IsPermutation-middle (front ws) l (ps ++ qs))) in
-          let cut : IsPermutation (l ∷ ps) (v.0 ∷ (l ∷ front ps)) = IsPermutation-trans (l ∷ ps) (l ∷ v.0 ∷ front ps) (v.0 ∷ l ∷ front ps) (IsPermutation-append_right (l ∷ []) ps (v.0 ∷ front ps) (IsPermutation-last ps v.0 v.1)) (IsPermutation-middle (l ∷ []) v.0 (front ps)) in
-          let out : IsPermutation (front ws ++ ((l ∷ ps) ++ qs)) (v.0 ∷ (front ws ++ ((l ∷ front ps) ++ qs))) = loses-below eq laws weigh v.0 (front ws) ((l ∷ ps) ++ qs) ((l ∷ front ps) ++ qs) (IsPermutation-append_left qs (l ∷ ps) (v.0 ∷ l ∷ front ps) cut) in
-          let s = sound-loses v.0 (front ws ++ ((l ∷ ps) ++ qs)) (front ws ++ ((l ∷ front ps) ++ qs)) out (sound-moves (ws ++ (ps ++ qs)) (front ws ++ ((l ∷ ps) ++ qs)) p sound) in
+          let k = all_but_last-length ps v.0 v.1 in
+          let p : IsPermutation (ws ++ (ps ++ qs)) (all_but_last ws ++ ((l ∷ ps) ++ qs)) = IsPermutation-trans (ws ++ (ps ++ qs)) (l ∷ (all_but_last ws ++ (ps ++ qs))) (all_but_last ws ++ ((l ∷ ps) ++ qs))
+          (loses-window eq laws weigh l ws (ps ++ qs) (IsPermutation-last ws l last)) (IsPermutation-sym _ _ (IsPermutation-middle (all_but_last ws) l (ps ++ qs))) in
+          let without : IsPermutation (l ∷ ps) (v.0 ∷ (l ∷ all_but_last ps)) = IsPermutation-trans (l ∷ ps) (l ∷ v.0 ∷ all_but_last ps) (v.0 ∷ l ∷ all_but_last ps) (IsPermutation-append_right (l ∷ []) ps (v.0 ∷ all_but_last ps) (IsPermutation-last ps v.0 v.1)) (IsPermutation-middle (l ∷ []) v.0 (all_but_last ps)) in
+          let out : IsPermutation (all_but_last ws ++ ((l ∷ ps) ++ qs)) (v.0 ∷ (all_but_last ws ++ ((l ∷ all_but_last ps) ++ qs))) = loses-below eq laws weigh v.0 (all_but_last ws) ((l ∷ ps) ++ qs) ((l ∷ all_but_last ps) ++ qs) (IsPermutation-append_left qs (l ∷ ps) (v.0 ∷ l ∷ all_but_last ps) without) in
+          let s = sound-loses v.0 (all_but_last ws ++ ((l ∷ ps) ++ qs)) (all_but_last ws ++ ((l ∷ all_but_last ps) ++ qs)) out (sound-moves (ws ++ (ps ++ qs)) (all_but_last ws ++ ((l ∷ ps) ++ qs)) p sound) in
           let one = one_out why (last_entry ps) there in
           record {
-            each = λ a. All-tail P v.0 (front ws ++ ((l ∷ front ps) ++ qs)) (All-permutation P (front ws ++ ((l ∷ ps) ++ qs)) (v.0 ∷ (front ws ++ ((l ∷ front ps) ++ qs))) out (All-permutation P (ws ++ (ps ++ qs)) (front ws ++ ((l ∷ ps) ++ qs)) p a));
+            each = λ a. All-tail P v.0 (all_but_last ws ++ ((l ∷ all_but_last ps) ++ qs)) (All-permutation P (all_but_last ws ++ ((l ∷ ps) ++ qs)) (v.0 ∷ (all_but_last ws ++ ((l ∷ all_but_last ps) ++ qs))) out (All-permutation P (ws ++ (ps ++ qs)) (all_but_last ws ++ ((l ∷ ps) ++ qs)) p a));
             placed = record { fit = fit; distinct = s.distinct; window = omega (arith, n); protected = q; main_part = omega (arith, k); weights = s.weights };
-            count = omega (arith, one, length_permutation (ws ++ (ps ++ qs)) (front ws ++ ((l ∷ ps) ++ qs)) p, length_permutation (front ws ++ ((l ∷ ps) ++ qs)) (v.0 ∷ (front ws ++ ((l ∷ front ps) ++ qs))) out);
+            count = omega (arith, one, length_permutation (ws ++ (ps ++ qs)) (all_but_last ws ++ ((l ∷ ps) ++ qs)) p, length_permutation (all_but_last ws ++ ((l ∷ ps) ++ qs)) (v.0 ∷ (all_but_last ws ++ ((l ∷ all_but_last ps) ++ qs))) out);
             few = omega (arith, one);
             caps = refl;
           }
@@ -143,7 +143,7 @@ module _ {K V : Type 0} where
       grown-sound = sound-new e (all_entries r) fresh w (record { distinct = law.distinct; weights = law.weights })
 
       kept_at : (b : Bool) → nat_le (length (e ∷ r.window)) r.caps.window ≡ b → (o : Option (Entry K V)) → last_entry (e ∷ r.window) ≡ o
-          → IsSettled P (e ∷ all_entries r) (suc (length (all_entries r))) r.caps (cond b (record r { window = e ∷ r.window }, []) (option_map_or (λ c. by_fate c (record r { window = front (e ∷ r.window) }) (fate estimate now r.caps c r.probation r.protected)) o (record r { window = e ∷ r.window }, [])))
+          → IsSettled P (e ∷ all_entries r) (suc (length (all_entries r))) r.caps (cond b (record r { window = e ∷ r.window }, []) (option_map_or (λ c. by_fate c (record r { window = all_but_last (e ∷ r.window) }) (fate estimate now r.caps c r.probation r.protected)) o (record r { window = e ∷ r.window }, [])))
       kept_at true le o is = record {
         each = λ a. a;
         placed = record { fit = law.fit; distinct = grown-sound.distinct; window = in_by (length (e ∷ r.window)) r.caps.window le; protected = law.protected; main_part = law.main_part; weights = grown-sound.weights };

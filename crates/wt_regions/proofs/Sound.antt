@@ -10,25 +10,25 @@ use Rattle.std.proofs.lemmas.List.Elements.{All-tail}
 use Rattle.std.proofs.lemmas.List.Sorted.{IsPermutation-sym, IsPermutation-trans, IsPermutation-middle, IsPermutation-append_left, IsPermutation-append_right, IsPermutation-map, All-permutation}
 use Rattle.std.proofs.lemmas.Map.Keys.{IsDistinct-IsPermutation, IsDistinct-cons, IsDistinct-tail}
 use Rattle.lru.specs.LruCache.{last_entry}
-use Rattle.wt_regions.specs.declared.kinds.Held.{Held}
-use Rattle.wt_regions.specs.declared.kinds.Caps.{Caps}
-use Rattle.wt_regions.specs.declared.kinds.Notice.{Notice}
+use Rattle.wt_regions.specs.declared.held.Held.{Held}
+use Rattle.wt_regions.specs.declared.caps.Caps.{Caps}
+use Rattle.wt_regions.specs.declared.notices.Notice.{Notice}
 use Rattle.wt_regions.proofs.Moves.{IsPermutation-last}
 use Rattle.wt_regions.proofs.Apart.{no_last}
 use Rattle.wt_regions.proofs.Loop.{one_less, out_one}
-use Rattle.wt_regions.specs.declared.kinds.Cause.TheVariants.{Size}
-use Rattle.wt_regions.specs.Lists.{Entry, Lists, all_entries, front, lists_of, weight_of}
+use Rattle.wt_regions.specs.declared.notices.Cause.TheVariants.{Size}
+use Rattle.wt_regions.specs.Lists.{Entry, Lists, all_entries, all_but_last, lists_of, weight_of}
 use Rattle.wt_regions.specs.Settle.{holds_other, last_told, trimmed_once, trimmed_within}
 use Rattle.wt_regions.specs.Lawful.{IsFit, IsLawful}
 use Rattle.wt_regions.specs.Moves.{IsPlaced}
 
 module _ {K V : Type 0} (eq : K → K → Bool) (laws : IsEquivalence eq) (weigh : V → ℕ) where
-  pub keys-front : (x : Entry K V) (es fs : List (Entry K V)) → IsPermutation es (x ∷ fs) → IsDistinct eq (keys_of es) → IsDistinct eq (keys_of fs)
-  keys-front x es fs h d = IsDistinct-tail eq x.0 (keys_of fs)
+  pub keys-all_but_last : (x : Entry K V) (es fs : List (Entry K V)) → IsPermutation es (x ∷ fs) → IsDistinct eq (keys_of es) → IsDistinct eq (keys_of fs)
+  keys-all_but_last x es fs h d = IsDistinct-tail eq x.0 (keys_of fs)
       (IsDistinct-IsPermutation eq laws.symm (keys_of es) (keys_of ((x ∷ fs))) (IsPermutation-map (λ (e : Entry K V). e.0) es (x ∷ fs) (h)) d)
 
-  pub weights-front : (x : Entry K V) (es fs : List (Entry K V)) → IsPermutation es (x ∷ fs) → All (λ (e : Entry K V). e.1.weight ≡ weigh e.1.value) es → All (λ (e : Entry K V). e.1.weight ≡ weigh e.1.value) fs
-  weights-front x es fs h d = All-tail (λ (e : Entry K V). e.1.weight ≡ weigh e.1.value) x fs (All-permutation (λ (e : Entry K V). e.1.weight ≡ weigh e.1.value) es (x ∷ fs) (h) d)
+  pub weights-all_but_last : (x : Entry K V) (es fs : List (Entry K V)) → IsPermutation es (x ∷ fs) → All (λ (e : Entry K V). e.1.weight ≡ weigh e.1.value) es → All (λ (e : Entry K V). e.1.weight ≡ weigh e.1.value) fs
+  weights-all_but_last x es fs h d = All-tail (λ (e : Entry K V). e.1.weight ≡ weigh e.1.value) x fs (All-permutation (λ (e : Entry K V). e.1.weight ≡ weigh e.1.value) es (x ∷ fs) (h) d)
 
   pub keys_none : (k : K) (es : List (Entry K V)) → lookup (eq k) es ≡ None → AllByRecursion (λ y. eq k y ≡ false) (keys_of es)
   keys_none k [] h = tt
@@ -46,15 +46,15 @@ module _ {K V : Type 0} (eq : K → K → Bool) (laws : IsEquivalence eq) (weigh
       ((IsPermutation-sym _ _ (IsPermutation-middle ps (k, h) ws)))) whole
 
   -- one entry less, in one of the three lists
-  front_at : (f : Entry K V → Bool) (es : List (Entry K V)) (o : Option (Entry K V)) → last_entry es ≡ o → list_any f es ≡ true → (l : Entry K V) × IsPermutation es (l ∷ front es)
-  front_at f es None h any = let e = no_last es h in let n = rw e at any in cc
-  front_at f es (Some l) h any = (l, IsPermutation-last es l h)
+  all_but_last_at : (f : Entry K V → Bool) (es : List (Entry K V)) (o : Option (Entry K V)) → last_entry es ≡ o → list_any f es ≡ true → (l : Entry K V) × IsPermutation es (l ∷ all_but_last es)
+  all_but_last_at f es None h any = let e = no_last es h in let n = rw e at any in cc
+  all_but_last_at f es (Some l) h any = (l, IsPermutation-last es l h)
 
-  pub front-of : (f : Entry K V → Bool) (es : List (Entry K V)) → list_any f es ≡ true → (l : Entry K V) × IsPermutation es (l ∷ front es)
-  front-of f es any = front_at f es (last_entry es) refl any
+  pub all_but_last-of : (f : Entry K V → Bool) (es : List (Entry K V)) → list_any f es ≡ true → (l : Entry K V) × IsPermutation es (l ∷ all_but_last es)
+  all_but_last-of f es any = all_but_last_at f es (last_entry es) refl any
 
-  pub loses-window : (l : Entry K V) (ws rest : List (Entry K V)) → IsPermutation ws (l ∷ front ws) → IsPermutation (ws ++ rest) (l ∷ (front ws ++ rest))
-  loses-window l ws rest h = IsPermutation-append_left rest ws (l ∷ front ws) h
+  pub loses-window : (l : Entry K V) (ws rest : List (Entry K V)) → IsPermutation ws (l ∷ all_but_last ws) → IsPermutation (ws ++ rest) (l ∷ (all_but_last ws ++ rest))
+  loses-window l ws rest h = IsPermutation-append_left rest ws (l ∷ all_but_last ws) h
 
   pub loses-below : (l : Entry K V) (ws xs ys : List (Entry K V)) → IsPermutation xs (l ∷ ys) → IsPermutation (ws ++ xs) (l ∷ (ws ++ ys))
   loses-below l ws xs ys h = IsPermutation-trans (ws ++ xs) (ws ++ (l ∷ ys)) (l ∷ (ws ++ ys)) (IsPermutation-append_right ws xs (l ∷ ys) h) (IsPermutation-middle ws l ys)
@@ -63,30 +63,30 @@ module _ {K V : Type 0} (eq : K → K → Bool) (laws : IsEquivalence eq) (weigh
       → length s.window ≤ length r.window → length s.probation ≤ length r.probation → length s.protected ≤ length r.protected → IsPlaced eq weigh r → IsPlaced eq weigh s
   loses r s l same h w p q law = record {
     fit = rw same law.fit;
-    distinct = keys-front l (all_entries r) (all_entries s) h law.distinct;
+    distinct = keys-all_but_last l (all_entries r) (all_entries s) h law.distinct;
     window = rw same (omega (arith, law.window));
     protected = rw same (omega (arith, law.protected));
     main_part = rw same (omega (arith, law.main_part));
-    weights = weights-front l (all_entries r) (all_entries s) h law.weights;
+    weights = weights-all_but_last l (all_entries r) (all_entries s) h law.weights;
   }
 
   module _ (k : K) where
     one_placed_at : (c : Caps) (ws ps qs : List (Entry K V)) (a b d : Bool) → holds_other eq k ps ≡ a → holds_other eq k qs ≡ b → holds_other eq k ws ≡ d
         → (one : Lists K V × List (Notice K V))
-        → cond a (Some (lists_of c ws (front ps) qs, last_told Size ps)) (cond b (Some (lists_of c ws ps (front qs), last_told Size qs)) (cond d (Some (lists_of c (front ws) ps qs, last_told Size ws)) None)) ≡ Some one
+        → cond a (Some (lists_of c ws (all_but_last ps) qs, last_told Size ps)) (cond b (Some (lists_of c ws ps (all_but_last qs), last_told Size qs)) (cond d (Some (lists_of c (all_but_last ws) ps qs, last_told Size ws)) None)) ≡ Some one
         → IsPlaced eq weigh (lists_of c ws ps qs) → IsPlaced eq weigh one.0
     one_placed_at c ws ps qs true b d ha hb hd one h law =
-        let is : (lists_of c ws (front ps) qs, last_told Size ps) ≡ one = cc in let l = front-of (λ e. not (eq k e.0)) ps ha in let n = out_one (λ e. not (eq k e.0)) ps ha in
+        let is : (lists_of c ws (all_but_last ps) qs, last_told Size ps) ≡ one = cc in let l = all_but_last-of (λ e. not (eq k e.0)) ps ha in let n = out_one (λ e. not (eq k e.0)) ps ha in
         subst (λ (p : Lists K V × List (Notice K V)). IsPlaced eq weigh p.0) is
-        (loses (lists_of c ws ps qs) (lists_of c ws (front ps) qs) l.0 refl (loses-below l.0 ws (ps ++ qs) (front ps ++ qs) (loses-window l.0 ps qs l.1)) (omega arith) (omega (arith, n.1)) (omega arith) law)
+        (loses (lists_of c ws ps qs) (lists_of c ws (all_but_last ps) qs) l.0 refl (loses-below l.0 ws (ps ++ qs) (all_but_last ps ++ qs) (loses-window l.0 ps qs l.1)) (omega arith) (omega (arith, n.1)) (omega arith) law)
     one_placed_at c ws ps qs false true d ha hb hd one h law =
-        let is : (lists_of c ws ps (front qs), last_told Size qs) ≡ one = cc in let l = front-of (λ e. not (eq k e.0)) qs hb in let n = out_one (λ e. not (eq k e.0)) qs hb in
+        let is : (lists_of c ws ps (all_but_last qs), last_told Size qs) ≡ one = cc in let l = all_but_last-of (λ e. not (eq k e.0)) qs hb in let n = out_one (λ e. not (eq k e.0)) qs hb in
         subst (λ (p : Lists K V × List (Notice K V)). IsPlaced eq weigh p.0) is
-        (loses (lists_of c ws ps qs) (lists_of c ws ps (front qs)) l.0 refl (loses-below l.0 ws (ps ++ qs) (ps ++ front qs) (loses-below l.0 ps qs (front qs) l.1)) (omega arith) (omega arith) (omega (arith, n.1)) law)
+        (loses (lists_of c ws ps qs) (lists_of c ws ps (all_but_last qs)) l.0 refl (loses-below l.0 ws (ps ++ qs) (ps ++ all_but_last qs) (loses-below l.0 ps qs (all_but_last qs) l.1)) (omega arith) (omega arith) (omega (arith, n.1)) law)
     one_placed_at c ws ps qs false false true ha hb hd one h law =
-        let is : (lists_of c (front ws) ps qs, last_told Size ws) ≡ one = cc in let l = front-of (λ e. not (eq k e.0)) ws hd in let n = out_one (λ e. not (eq k e.0)) ws hd in
+        let is : (lists_of c (all_but_last ws) ps qs, last_told Size ws) ≡ one = cc in let l = all_but_last-of (λ e. not (eq k e.0)) ws hd in let n = out_one (λ e. not (eq k e.0)) ws hd in
         subst (λ (p : Lists K V × List (Notice K V)). IsPlaced eq weigh p.0) is
-        (loses (lists_of c ws ps qs) (lists_of c (front ws) ps qs) l.0 refl (loses-window l.0 ws (ps ++ qs) l.1) (omega (arith, n.1)) (omega arith) (omega arith) law)
+        (loses (lists_of c ws ps qs) (lists_of c (all_but_last ws) ps qs) l.0 refl (loses-window l.0 ws (ps ++ qs) l.1) (omega (arith, n.1)) (omega arith) (omega arith) law)
     one_placed_at c ws ps qs false false false ha hb hd one h law = cc
 
     pub one_placed : (r : Lists K V) (one : Lists K V × List (Notice K V)) → trimmed_once eq k r ≡ Some one → IsPlaced eq weigh r → IsPlaced eq weigh one.0

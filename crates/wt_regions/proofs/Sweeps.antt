@@ -10,14 +10,14 @@ use Rattle.std.proofs.lemmas.Map.Keys.{IsDistinct-IsPermutation}
 use Rattle.std.proofs.Math.Seq.{take-append_seam}
 use Rattle.lru.proofs.Pairs.{slice_get-cut}
 use Rattle.lru.specs.LruCache.{LruCache, lru_cache, last_entry, promoted}
-use Rattle.wt_regions.specs.declared.kinds.Caps.{Caps}
-use Rattle.wt_regions.specs.declared.kinds.Cause.TheVariants.{Expired, Explicit}
+use Rattle.wt_regions.specs.declared.caps.Caps.{Caps}
+use Rattle.wt_regions.specs.declared.notices.Cause.TheVariants.{Expired, Explicit}
 use Rattle.wt_regions.proofs.Moves.{IsPermutation-last}
 use Rattle.wt_regions.proofs.Apart.{last_apart, no_last}
-use Rattle.wt_regions.proofs.Sound.{keys-front}
+use Rattle.wt_regions.proofs.Sound.{keys-all_but_last}
 use Rattle.wt_regions.proofs.Weights.{weights-moves, weights-cons}
 use Rattle.wt_regions.proofs.Loop.{appended-twice}
-use Rattle.wt_regions.specs.Lists.{Entry, front, is_expired, notice, weights}
+use Rattle.wt_regions.specs.Lists.{Entry, all_but_last, is_expired, notice, weights}
 use Rattle.wt_regions.specs.Steps.{expired_of, live_of, told_back}
 use Rattle.wt_regions.specs.Notices.{NoticeList, appended}
 
@@ -30,8 +30,8 @@ step_at (suc n) (x ∷ xs) h = let s = step_at n xs (omega (arith, h)) in (s.0, 
 pub last_snoc : {K V : Type 0} (ys : List (K × V)) (x : K × V) → last_entry (ys ++ x ∷ []) ≡ Some x
 last_snoc ys x = let n : length (ys ++ x ∷ []) - 1 ≡ length ys = omega (arith, length-append ys (x ∷ [])) in rw n (slice_get-cut ys x [])
 
-pub front_snoc : {X : Type 0} (ys : List X) (x : X) → take (length (ys ++ x ∷ []) - 1) (ys ++ x ∷ []) ≡ ys
-front_snoc ys x = let n : length (ys ++ x ∷ []) - 1 ≡ length ys = omega (arith, length-append ys (x ∷ [])) in rw n (take-append_seam ys (x ∷ []))
+pub all_but_last_snoc : {X : Type 0} (ys : List X) (x : X) → take (length (ys ++ x ∷ []) - 1) (ys ++ x ∷ []) ≡ ys
+all_but_last_snoc ys x = let n : length (ys ++ x ∷ []) - 1 ≡ length ys = omega (arith, length-append ys (x ∷ [])) in rw n (take-append_seam ys (x ∷ []))
 
 module _ {K X : Type 0} (test : K → Bool) where
   entry_snoc : (ys : List (K × X)) (x : K × X) → lookup test ys ≡ None → test x.0 ≡ true → lookup_entry test (ys ++ x ∷ []) ≡ Some x
@@ -55,9 +55,9 @@ module _ {K V : Type 0} (eq : K → K → Bool) (laws : IsEquivalence eq) where
       let n : lookup (eq x.0) ys ≡ None = last_apart eq laws ys (x ∷ []) x d refl in
       rw (entry_snoc (eq x.0) ys x n (laws.refl x.0), remove_snoc (eq x.0) ys x n (laws.refl x.0))
 
-  distinct_front : (ys : List (Entry K V)) (x : Entry K V) → IsDistinct eq (keys_of (ys ++ x ∷ [])) → IsDistinct eq (keys_of ys)
-  distinct_front ys x d =
-      keys-front eq laws (λ _. 0) x (ys ++ x ∷ []) ys (IsPermutation-to_front ys x) d
+  distinct_all_but_last : (ys : List (Entry K V)) (x : Entry K V) → IsDistinct eq (keys_of (ys ++ x ∷ [])) → IsDistinct eq (keys_of ys)
+  distinct_all_but_last ys x d =
+      keys-all_but_last eq laws (λ _. 0) x (ys ++ x ∷ []) ys (IsPermutation-to_front ys x) d
 
   distinct_turned : (ys : List (Entry K V)) (x : Entry K V) → IsDistinct eq (keys_of (ys ++ x ∷ [])) → IsDistinct eq (keys_of (x ∷ ys))
   distinct_turned ys x d = IsDistinct-IsPermutation eq laws.symm (keys_of (ys ++ x ∷ [])) (keys_of (x ∷ ys)) (IsPermutation-map (λ (e : Entry K V). e.0) (ys ++ x ∷ []) (x ∷ ys) (IsPermutation-to_front ys x)) d
@@ -99,17 +99,17 @@ module _ {K V : Type 0} (eq : K → K → Bool) (laws : IsEquivalence eq) where
 
     -- it is expired and leaves
     pub cleaning-out : (left : ℕ) (es : List (Entry K V)) (t : NoticeList K V) (w : ℕ) (l : Entry K V) (t' : NoticeList K V) → IsCleaning now c es0 t0 w0 (suc left) es t w → last_entry es ≡ Some l → is_expired c now l.1 ≡ true
-        → t' ≡ appended (notice Expired l ∷ []) t → IsCleaning now c es0 t0 w0 left (front es) t' (w - l.1.weight) × (l.1.weight ≤ w) × (0 < t.room)
+        → t' ≡ appended (notice Expired l ∷ []) t → IsCleaning now c es0 t0 w0 left (all_but_last es) t' (w - l.1.weight) × (l.1.weight ≤ w) × (0 < t.room)
     cleaning-out left es t w l t' cl last old it =
         let s = turned left es t w l cl last in
-        let f : front es ≡ s.ys = ap front s.snoc ∙ front_snoc s.ys l in
-        let m = weights-moves es (l ∷ front es) (IsPermutation-last es l last) in
-        let p = weights-cons l (front es) in
+        let f : all_but_last es ≡ s.ys = ap all_but_last s.snoc ∙ all_but_last_snoc s.ys l in
+        let m = weights-moves es (l ∷ all_but_last es) (IsPermutation-last es l last) in
+        let p = weights-cons l (all_but_last es) in
         let d : IsDistinct eq (keys_of (s.ys ++ l ∷ [])) = subst (λ (zs : List (Entry K V)). IsDistinct eq (keys_of zs)) s.snoc cl.distinct in (
           record {
             entries = rw (f, s.dropped, old) s.is;
             told = rw (it, cl.told, s.dropped, old) (sym (appended-twice (expired_of now c (drop (suc left) es0)) (notice Expired l ∷ []) t0));
-            distinct = rw f (distinct_front s.ys l d);
+            distinct = rw f (distinct_all_but_last s.ys l d);
             within = omega (arith, cl.within);
             room = rw it (omega (arith, cl.room));
             weight = omega (arith, cl.weight, cl.low, m, p);
@@ -143,7 +143,7 @@ module _ {K V : Type 0} (eq : K → K → Bool) (laws : IsEquivalence eq) where
     one_less n h = omega (arith, h)
 
     pub out : (n : ℕ) (es : List (Entry K V)) (t : NoticeList K V) (w : ℕ) (l : Entry K V) (t' : NoticeList K V) → 0 < n → IsCleaning now c es0 t0 w0 n es t w → last_entry es ≡ Some l → is_expired c now l.1 ≡ true
-        → t' ≡ appended (notice Expired l ∷ []) t → IsCleaning now c es0 t0 w0 (n - 1) (front es) t' (w - l.1.weight) × (l.1.weight ≤ w) × (0 < t.room)
+        → t' ≡ appended (notice Expired l ∷ []) t → IsCleaning now c es0 t0 w0 (n - 1) (all_but_last es) t' (w - l.1.weight) × (l.1.weight ≤ w) × (0 < t.room)
     out n es t w l t' h cl last old it = cleaning-out (n - 1) es t w l t' (subst (λ m. IsCleaning now c es0 t0 w0 m es t w) (one_less n h) cl) last old it
 
     pub stays : (n : ℕ) (es : List (Entry K V)) (t : NoticeList K V) (w : ℕ) (l : Entry K V) (es' : List (Entry K V)) → 0 < n → IsCleaning now c es0 t0 w0 n es t w → last_entry es ≡ Some l → is_expired c now l.1 ≡ false
@@ -163,14 +163,14 @@ module _ {K V : Type 0} (now : ℕ) (c : Caps) (es0 : List (Entry K V)) (t0 : No
   all_dropped [] = refl
   all_dropped (x ∷ xs) = all_dropped xs
 
-  clearing-out : (n : ℕ) (es : List (Entry K V)) (t : NoticeList K V) (l : Entry K V) (t' : NoticeList K V) → IsClearing (suc n) es t → last_entry es ≡ Some l → t' ≡ appended (notice (cond (is_expired c now l.1) Expired Explicit) l ∷ []) t → IsClearing n (front es) t'
+  clearing-out : (n : ℕ) (es : List (Entry K V)) (t : NoticeList K V) (l : Entry K V) (t' : NoticeList K V) → IsClearing (suc n) es t → last_entry es ≡ Some l → t' ≡ appended (notice (cond (is_expired c now l.1) Expired Explicit) l ∷ []) t → IsClearing n (all_but_last es) t'
   clearing-out n es t l t' cl last it =
       let s = step_at n es0 (omega (arith, cl.within)) in
       let whole : es ≡ take n es0 ++ s.0 ∷ [] = cl.entries ∙ s.2 in
       let x : Some s.0 ≡ Some l = sym (last_snoc (take n es0) s.0) ∙ sym (ap last_entry whole) ∙ last in
       let same : s.0 ≡ l = cc in
       let dropped : drop n es0 ≡ l ∷ drop (suc n) es0 = subst (λ (y : Entry K V). drop n es0 ≡ y ∷ drop (suc n) es0) same s.1 in
-      let f : front es ≡ take n es0 = ap front whole ∙ front_snoc (take n es0) s.0 in
+      let f : all_but_last es ≡ take n es0 = ap all_but_last whole ∙ all_but_last_snoc (take n es0) s.0 in
       let k = length-take (length es - 1) es in
       record {
         is = omega (arith, k, cl.is);
@@ -181,13 +181,13 @@ module _ {K V : Type 0} (now : ℕ) (c : Caps) (es0 : List (Entry K V)) (t0 : No
       }
 
   pub clearing-turn : (es : List (Entry K V)) (t : NoticeList K V) (l : Entry K V) (t' : NoticeList K V) → IsClearing (length es) es t → last_entry es ≡ Some l → t' ≡ appended (notice (cond (is_expired c now l.1) Expired Explicit) l ∷ []) t
-      → IsClearing (length (front es)) (front es) t' × (length (front es) < length es)
+      → IsClearing (length (all_but_last es)) (all_but_last es) t' × (length (all_but_last es) < length es)
   clearing-turn [] t l t' cl last it = cc
   clearing-turn (e ∷ es) t l t' cl last it =
       let k = length-take (length (e ∷ es) - 1) (e ∷ es) in
-      let n : length (front (e ∷ es)) ≡ length es = omega (arith, k) in
+      let n : length (all_but_last (e ∷ es)) ≡ length es = omega (arith, k) in
       let r = clearing-out (length es) (e ∷ es) t l t' cl last it in
-      (subst (λ m. IsClearing m (front (e ∷ es)) t') (sym n) r, omega (arith, n))
+      (subst (λ m. IsClearing m (all_but_last (e ∷ es)) t') (sym n) r, omega (arith, n))
 
   pub clearing-end : (es : List (Entry K V)) (t : NoticeList K V) → IsClearing (length es) es t → last_entry es ≡ None → (es ≡ []) × (t ≡ appended (told_back now c es0) t0)
   clearing-end es t cl last = let e = no_last es last in

@@ -6,8 +6,8 @@ use Rattle.std.specs.Prelude.{nat_lt}
 use Rattle.std.specs.Cmp.{IsEquivalence}
 use Rattle.std.proofs.lemmas.List.{length-take}
 use Rattle.lru.specs.LruCache.{LruCache, last_entry, put_entries}
-use Rattle.wt_regions.specs.declared.kinds.Held.{Held}
-use Rattle.wt_regions.specs.declared.kinds.Caps.{Caps}
+use Rattle.wt_regions.specs.declared.held.Held.{Held}
+use Rattle.wt_regions.specs.declared.caps.Caps.{Caps}
 use Rattle.wt_regions.proofs.Moves.{bare, Moves, bring-moves, moves-left, moves-right, promote-brings, moves-length, lawful-moves, lookup_none-entry, lookup_entry-none, moves-refl, promoted_so}
 use Rattle.wt_regions.proofs.Apart.{room_for, no_last_none}
 use Rattle.wt_regions.specs.Lists.{Entry, Lists, lists_of, main_cap, protected_cap, weight_of}

@@ -9,11 +9,11 @@ use Rattle.std.proofs.lemmas.List.Sorted.{sum_by-IsPermutation}
 use Rattle.std.specs.Cmp.{IsEquivalence}
 use Rattle.std.proofs.lemmas.List.Sums.{sum_by-append, sum_by-cons}
 use Rattle.lru.specs.LruCache.{last_entry}
-use Rattle.wt_regions.specs.declared.kinds.Held.{Held}
-use Rattle.wt_regions.specs.declared.kinds.Caps.{Caps}
+use Rattle.wt_regions.specs.declared.held.Held.{Held}
+use Rattle.wt_regions.specs.declared.caps.Caps.{Caps}
 use Rattle.wt_regions.proofs.Moves.{split_of_last}
 use Rattle.wt_regions.proofs.Apart.{below, no_last}
-use Rattle.wt_regions.specs.Lists.{Entry, Lists, front, lists_of, weight_of, weights}
+use Rattle.wt_regions.specs.Lists.{Entry, Lists, all_but_last, lists_of, weight_of, weights}
 
 module _ {K V : Type 0} where
   pub weights-append : (xs ys : List (Entry K V)) → weights (xs ++ ys) ≡ weights xs + weights ys
@@ -22,28 +22,28 @@ module _ {K V : Type 0} where
   weights-one : (l : Entry K V) → weights (l ∷ []) ≡ l.1.weight
   weights-one l = omega arith
 
-  weights-last_at : (es : List (Entry K V)) (o : Option (Entry K V)) → last_entry es ≡ o → weights (front es) + option_map_or (λ (e : Entry K V). e.1.weight) o 0 ≡ weights es
+  weights-last_at : (es : List (Entry K V)) (o : Option (Entry K V)) → last_entry es ≡ o → weights (all_but_last es) + option_map_or (λ (e : Entry K V). e.1.weight) o 0 ≡ weights es
   weights-last_at es None h = let e = no_last es h in rw e (omega arith)
   weights-last_at es (Some l) h =
-      let a = weights-append (front es) (l ∷ []) in
+      let a = weights-append (all_but_last es) (l ∷ []) in
       let b = weights-one l in
-      let s : weights es ≡ weights (front es ++ l ∷ []) = ap weights (split_of_last es l h) in
+      let s : weights es ≡ weights (all_but_last es ++ l ∷ []) = ap weights (split_of_last es l h) in
       omega (arith, a, b, s)
 
-  pub weights-last : (es : List (Entry K V)) → weights (front es) + option_map_or (λ (e : Entry K V). e.1.weight) (last_entry es) 0 ≡ weights es
+  pub weights-last : (es : List (Entry K V)) → weights (all_but_last es) + option_map_or (λ (e : Entry K V). e.1.weight) (last_entry es) 0 ≡ weights es
   weights-last es = weights-last_at es (last_entry es) refl
 
   pub weight-split : (c : Caps) (ws ps qs : List (Entry K V)) → weight_of (lists_of c ws ps qs) ≡ weights ws + (weights ps + weights qs)
   weight-split c ws ps qs = let a = weights-append ws (ps ++ qs) in let b = weights-append ps qs in a ∙ ap (λ n. weights ws + n) b
 
-  pub weight-window : (c : Caps) (ws ps qs : List (Entry K V)) → weight_of (lists_of c (front ws) ps qs) + option_map_or (λ (e : Entry K V). e.1.weight) (last_entry ws) 0 ≡ weight_of (lists_of c ws ps qs)
-  weight-window c ws ps qs = omega (arith, weight-split c ws ps qs, weight-split c (front ws) ps qs, weights-last ws)
+  pub weight-window : (c : Caps) (ws ps qs : List (Entry K V)) → weight_of (lists_of c (all_but_last ws) ps qs) + option_map_or (λ (e : Entry K V). e.1.weight) (last_entry ws) 0 ≡ weight_of (lists_of c ws ps qs)
+  weight-window c ws ps qs = omega (arith, weight-split c ws ps qs, weight-split c (all_but_last ws) ps qs, weights-last ws)
 
-  pub weight-probation : (c : Caps) (ws ps qs : List (Entry K V)) → weight_of (lists_of c ws (front ps) qs) + option_map_or (λ (e : Entry K V). e.1.weight) (last_entry ps) 0 ≡ weight_of (lists_of c ws ps qs)
-  weight-probation c ws ps qs = omega (arith, weight-split c ws ps qs, weight-split c ws (front ps) qs, weights-last ps)
+  pub weight-probation : (c : Caps) (ws ps qs : List (Entry K V)) → weight_of (lists_of c ws (all_but_last ps) qs) + option_map_or (λ (e : Entry K V). e.1.weight) (last_entry ps) 0 ≡ weight_of (lists_of c ws ps qs)
+  weight-probation c ws ps qs = omega (arith, weight-split c ws ps qs, weight-split c ws (all_but_last ps) qs, weights-last ps)
 
-  pub weight-protected : (c : Caps) (ws ps qs : List (Entry K V)) → weight_of (lists_of c ws ps (front qs)) + option_map_or (λ (e : Entry K V). e.1.weight) (last_entry qs) 0 ≡ weight_of (lists_of c ws ps qs)
-  weight-protected c ws ps qs = omega (arith, weight-split c ws ps qs, weight-split c ws ps (front qs), weights-last qs)
+  pub weight-protected : (c : Caps) (ws ps qs : List (Entry K V)) → weight_of (lists_of c ws ps (all_but_last qs)) + option_map_or (λ (e : Entry K V). e.1.weight) (last_entry qs) 0 ≡ weight_of (lists_of c ws ps qs)
+  weight-protected c ws ps qs = omega (arith, weight-split c ws ps qs, weight-split c ws ps (all_but_last qs), weights-last qs)
 
 shift : (n : ℕ) → nat_lt 1 (suc n) ≡ nat_lt 0 n
 shift zero = refl
@@ -81,15 +81,15 @@ module _ {K V : Type 0} where
   pub weights-cons : (x : Entry K V) (xs : List (Entry K V)) → weights (x ∷ xs) ≡ x.1.weight + weights xs
   weights-cons x xs = sum_by-cons (λ (e : Entry K V). e.1.weight) x xs
 
-  weights-last-is : (es : List (Entry K V)) (l : Entry K V) → last_entry es ≡ Some l → weights (front es) + l.1.weight ≡ weights es
+  weights-last-is : (es : List (Entry K V)) (l : Entry K V) → last_entry es ≡ Some l → weights (all_but_last es) + l.1.weight ≡ weights es
   weights-last-is es l h = rw h at (weights-last es)
 
-  pub weight-enters : (k : Caps) (c : Entry K V) (ws ps qs : List (Entry K V)) → last_entry ws ≡ Some c → weight_of (lists_of k (front ws) (c ∷ ps) qs) + 0 ≡ weight_of (lists_of k ws ps qs)
-  weight-enters k c ws ps qs h = omega (arith, weight-split k ws ps qs, weight-split k (front ws) (c ∷ ps) qs, weights-cons c ps, weights-last-is ws c h)
+  pub weight-enters : (k : Caps) (c : Entry K V) (ws ps qs : List (Entry K V)) → last_entry ws ≡ Some c → weight_of (lists_of k (all_but_last ws) (c ∷ ps) qs) + 0 ≡ weight_of (lists_of k ws ps qs)
+  weight-enters k c ws ps qs h = omega (arith, weight-split k ws ps qs, weight-split k (all_but_last ws) (c ∷ ps) qs, weights-cons c ps, weights-last-is ws c h)
 
   pub weight-ousts : (k : Caps) (c : Entry K V) (ws ps qs : List (Entry K V)) → last_entry ws ≡ Some c
-      → weight_of (lists_of k (front ws) (front (c ∷ ps)) qs) + option_map_or (λ (e : Entry K V). e.1.weight) (last_entry (c ∷ ps)) 0 ≡ weight_of (lists_of k ws ps qs)
-  weight-ousts k c ws ps qs h = omega (arith, weight-split k ws ps qs, weight-split k (front ws) (front (c ∷ ps)) qs, weights-cons c ps, weights-last-is ws c h, weights-last (c ∷ ps))
+      → weight_of (lists_of k (all_but_last ws) (all_but_last (c ∷ ps)) qs) + option_map_or (λ (e : Entry K V). e.1.weight) (last_entry (c ∷ ps)) 0 ≡ weight_of (lists_of k ws ps qs)
+  weight-ousts k c ws ps qs h = omega (arith, weight-split k ws ps qs, weight-split k (all_but_last ws) (all_but_last (c ∷ ps)) qs, weights-cons c ps, weights-last-is ws c h, weights-last (c ∷ ps))
 
   pub weights-moves : (xs ys : List (Entry K V)) → IsPermutation xs ys → weights ys ≡ weights xs
   weights-moves xs ys h = sum_by-IsPermutation (λ (e : Entry K V). e.1.weight) xs ys (h)

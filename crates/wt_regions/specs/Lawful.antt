@@ -7,7 +7,7 @@ use Rattle.wt_keys.specs.declared.fault.Fault.{Fault}
 use Rattle.wt_keys.specs.declared.fault.Fault.TheVariants.{NoMemory, TooHeavy}
 use Rattle.wt_keys.specs.declared.fault.Field.{Field}
 use Rattle.wt_keys.specs.declared.fault.Field.TheVariants.{Entries, Window, Bound, AfterWrite, AfterAccess, Refresh}
-use Rattle.wt_regions.specs.declared.kinds.Caps.{Caps}
+use Rattle.wt_regions.specs.declared.caps.Caps.{Caps}
 use Rattle.wt_regions.specs.Lists.{Entry, Lists, all_entries, weight_of, main_cap, protected_cap}
 
 -- limits within their ranges

@@ -2,15 +2,15 @@
 use Rattle.std.specs.Prelude.{ℕ, ◌-◌, ◌*◌, ◌/◌, nat_le, Bool, true, false, not, ◌&&◌, ◌||◌, if◌then◌else◌, List, [], ◌++◌, length, take, Option, sum_by}
 use Rattle.std.specs.Option.{option_map_or}
 use Rattle.std.specs.Map.{lookup, remove_entry}
-use Rattle.wt_regions.specs.declared.kinds.Caps.{Caps}
-use Rattle.wt_regions.specs.declared.kinds.Cause.{Cause}
-use Rattle.wt_regions.specs.declared.kinds.Cause.TheVariants.{Explicit, Replaced, Expired, Size}
-use Rattle.wt_regions.specs.declared.kinds.Found.{Found}
-use Rattle.wt_regions.specs.declared.kinds.Found.TheVariants.{Hit, Absent, Stale}
-use Rattle.wt_regions.specs.declared.kinds.Held.{Held}
-use Rattle.wt_regions.specs.declared.kinds.Notice.{Notice}
-use Rattle.wt_regions.specs.declared.kinds.Region.{Region}
-use Rattle.wt_regions.specs.declared.kinds.Region.TheVariants.{Window, Probation, Protected}
+use Rattle.wt_regions.specs.declared.caps.Caps.{Caps}
+use Rattle.wt_regions.specs.declared.notices.Cause.{Cause}
+use Rattle.wt_regions.specs.declared.notices.Cause.TheVariants.{Explicit, Replaced, Expired, Size}
+use Rattle.wt_regions.specs.declared.touch.Found.{Found}
+use Rattle.wt_regions.specs.declared.touch.Found.TheVariants as found
+use Rattle.wt_regions.specs.declared.held.Held.{Held}
+use Rattle.wt_regions.specs.declared.notices.Notice.{Notice}
+use Rattle.wt_regions.specs.declared.caches.Region.{Region}
+use Rattle.wt_regions.specs.declared.caches.Region.TheVariants.{Window, Probation, Protected}
 
 -- an entry is a key with what is held for it
 abbrev pub Entry : Type 0 → Type 0 → Type 0
@@ -41,9 +41,9 @@ gone_by duration since now = option_map_or (λ d. nat_le d (now - since)) durati
 
 -- whether a look-up found a value
 abbrev pub is_hit : {V : Type 0} → Found V → Bool
-is_hit (Hit v) = true
-is_hit Absent = false
-is_hit Stale = false
+is_hit (found.Hit v) = true
+is_hit found.Absent = false
+is_hit found.Expired = false
 
 -- whether a cause counts as an eviction
 abbrev pub is_eviction : Cause → Bool
@@ -97,8 +97,8 @@ module _ {K V : Type 0} where
   region_of Protected r = r.protected
 
   -- all but the last
-  abbrev pub front : List (Entry K V) → List (Entry K V)
-  front es = take (length es - 1) es
+  abbrev pub all_but_last : List (Entry K V) → List (Entry K V)
+  all_but_last es = take (length es - 1) es
 
   -- what is told of an entry that leaves
   abbrev pub notice : Cause → Entry K V → Notice K V
@@ -110,12 +110,12 @@ module _ {K V : Type 0} where
     held_for k r = lookup (eq k) (all_entries r)
 
     -- the regions without the entry of a key
-    abbrev pub cut : K → Lists K V → Lists K V
-    cut k r = record r { window = remove_entry (eq k) r.window; probation = remove_entry (eq k) r.probation; protected = remove_entry (eq k) r.protected }
+    abbrev pub without : K → Lists K V → Lists K V
+    without k r = record r { window = remove_entry (eq k) r.window; probation = remove_entry (eq k) r.probation; protected = remove_entry (eq k) r.protected }
 
     -- what a look-up finds
     abbrev pub found_at : K → ℕ → Lists K V → Found V
-    found_at k now r = option_map_or (λ h. if is_expired r.caps now h then Stale else Hit h.value) (held_for k r) Absent
+    found_at k now r = option_map_or (λ h. if is_expired r.caps now h then found.Expired else found.Hit h.value) (held_for k r) found.Absent
 
     -- whether an unexpired entry of the key is there
     abbrev pub has_at : K → ℕ → Lists K V → Bool

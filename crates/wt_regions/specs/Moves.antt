@@ -5,10 +5,10 @@ use Rattle.std.specs.Option.{option_map_or}
 use Rattle.std.specs.Map.{keys_of, lookup, lookup_entry, remove_entry}
 use Rattle.lru.specs.LruCache.{LruCache}
 use Rattle.wt_sketch.specs.Sketch.{Counters, estimate_of}
-use Rattle.wt_regions.specs.declared.kinds.Caps.{Caps}
-use Rattle.wt_regions.specs.declared.kinds.Held.{Held}
+use Rattle.wt_regions.specs.declared.caps.Caps.{Caps}
+use Rattle.wt_regions.specs.declared.held.Held.{Held}
 use Rattle.wt_regions.specs.declared.touch.Seen.{Seen}
-use Rattle.wt_regions.specs.declared.touch.Seen.TheVariants.{InWindow, InProbation, InProtected, Nowhere, Stale}
+use Rattle.wt_regions.specs.declared.touch.Seen.TheVariants.{InWindow, InProbation, InProtected, Nowhere, Expired}
 use Rattle.wt_regions.specs.Lists.{Entry, Lists, Told, lists_of, all_entries, weight_of, main_cap, protected_cap, is_expired, used}
 use Rattle.wt_regions.specs.Notices.{NoticeList, appended}
 use Rattle.wt_regions.specs.Lawful.{IsFit}
@@ -39,9 +39,9 @@ module _ {K V : Type 0} where
     -- where a look-up finds an entry, with what its use needs
     abbrev pub seen_at : ℕ → Lists K V → Seen V
     seen_at now r =
-        option_map_or (λ h. if is_expired r.caps now h then Stale else InWindow h.value) (lookup (eq k) r.window)
-        (option_map_or (λ h. if is_expired r.caps now h then Stale else InProbation h.value (used now h)) (lookup (eq k) r.probation)
-        (option_map_or (λ h. if is_expired r.caps now h then Stale else InProtected h.value) (lookup (eq k) r.protected)
+        option_map_or (λ h. if is_expired r.caps now h then Expired else InWindow h.value) (lookup (eq k) r.window)
+        (option_map_or (λ h. if is_expired r.caps now h then Expired else InProbation h.value (used now h)) (lookup (eq k) r.probation)
+        (option_map_or (λ h. if is_expired r.caps now h then Expired else InProtected h.value) (lookup (eq k) r.protected)
         Nowhere))
 
     -- how many entries have another key than k

@@ -1,6 +1,6 @@
 -- The notices of what left, in a list with room for more.
 use Rattle.std.specs.Prelude.{ℕ, ◌+◌, ◌-◌, List, [], ◌++◌, length}
-use Rattle.wt_regions.specs.declared.kinds.Notice.{Notice}
+use Rattle.wt_regions.specs.declared.notices.Notice.{Notice}
 
 -- what is seen of it: the notices, and for how many more there is room
 pub record NoticeList (K V : Type 0) : Type 0 where

@@ -3,13 +3,13 @@ use Rattle.std.specs.Prelude.{ℕ, zero, suc, ◌+◌, nat_lt, nat_le, nat_eq, B
 use Rattle.std.specs.List.{list_any}
 use Rattle.std.specs.Option.{option_map_or}
 use Rattle.lru.specs.LruCache.{last_entry}
-use Rattle.wt_regions.specs.declared.kinds.Caps.{Caps}
-use Rattle.wt_regions.specs.declared.kinds.Cause.{Cause}
-use Rattle.wt_regions.specs.declared.kinds.Cause.TheVariants.{Expired, Size}
-use Rattle.wt_regions.specs.declared.kinds.Fate.{Fate}
-use Rattle.wt_regions.specs.declared.kinds.Fate.TheVariants.{Leaves, Enters, Ousts}
-use Rattle.wt_regions.specs.declared.kinds.Notice.{Notice}
-use Rattle.wt_regions.specs.Lists.{Entry, Lists, Told, all_entries, weight_of, front, notice, is_expired, main_cap}
+use Rattle.wt_regions.specs.declared.caps.Caps.{Caps}
+use Rattle.wt_regions.specs.declared.notices.Cause.{Cause}
+use Rattle.wt_regions.specs.declared.notices.Cause.TheVariants.{Expired, Size}
+use Rattle.wt_regions.specs.declared.settle.Fate.{Fate}
+use Rattle.wt_regions.specs.declared.settle.Fate.TheVariants.{Leaves, Enters, Ousts}
+use Rattle.wt_regions.specs.declared.notices.Notice.{Notice}
+use Rattle.wt_regions.specs.Lists.{Entry, Lists, Told, all_entries, weight_of, all_but_last, notice, is_expired, main_cap}
 
 module _ {K V : Type 0} where
   -- the notice of the last entry, if there is one
@@ -20,7 +20,7 @@ module _ {K V : Type 0} where
   abbrev pub by_fate : Entry K V → Lists K V → Fate → Told K V
   by_fate c r (Leaves cause) = (r, notice cause c ∷ [])
   by_fate c r Enters = (record r { probation = c ∷ r.probation }, [])
-  by_fate c r (Ousts cause) = (record r { probation = c ∷ front r.probation }, last_told cause r.probation)
+  by_fate c r (Ousts cause) = (record r { probation = c ∷ all_but_last r.probation }, last_told cause r.probation)
 
   module _ (estimate : K → ℕ) (now : ℕ) where
     -- the fate of a candidate that meets the victim v: a tie refuses it
@@ -40,7 +40,7 @@ module _ {K V : Type 0} where
 
     -- window is past its cap: its last entry is the candidate
     abbrev pub overflowed : Lists K V → Told K V
-    overflowed r = option_map_or (λ c. by_fate c (record r { window = front r.window }) (fate r.caps c r.probation r.protected)) (last_entry r.window) (r, [])
+    overflowed r = option_map_or (λ c. by_fate c (record r { window = all_but_last r.window }) (fate r.caps c r.probation r.protected)) (last_entry r.window) (r, [])
 
     -- a new entry goes to the front of window
     abbrev pub settled : Entry K V → Lists K V → Told K V
@@ -56,9 +56,9 @@ module _ {K V : Type 0} where
     -- the last of the first region that holds another entry leaves
     abbrev pub trimmed_once : Lists K V → Option (Told K V)
     trimmed_once r =
-        if holds_other r.probation then Some (record r { probation = front r.probation }, last_told Size r.probation) else
-        if holds_other r.protected then Some (record r { protected = front r.protected }, last_told Size r.protected) else
-        if holds_other r.window then Some (record r { window = front r.window }, last_told Size r.window) else
+        if holds_other r.probation then Some (record r { probation = all_but_last r.probation }, last_told Size r.probation) else
+        if holds_other r.protected then Some (record r { protected = all_but_last r.protected }, last_told Size r.protected) else
+        if holds_other r.window then Some (record r { window = all_but_last r.window }, last_told Size r.window) else
         None
 
     -- while the weights sum above the bound, at most n times

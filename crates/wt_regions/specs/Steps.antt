@@ -1,10 +1,10 @@
 -- What a step does to the regions.
 use Rattle.std.specs.Prelude.{ℕ, Bool, if◌then◌else◌, List, [], ◌∷◌, ◌++◌}
 use Rattle.std.specs.Option.{option_map_or}
-use Rattle.wt_regions.specs.declared.kinds.Caps.{Caps}
-use Rattle.wt_regions.specs.declared.kinds.Cause.TheVariants.{Explicit, Replaced, Expired}
-use Rattle.wt_regions.specs.declared.kinds.Notice.{Notice}
-use Rattle.wt_regions.specs.Lists.{Entry, Lists, Told, no_entries, notice, held, is_expired, held_for, cut}
+use Rattle.wt_regions.specs.declared.caps.Caps.{Caps}
+use Rattle.wt_regions.specs.declared.notices.Cause.TheVariants.{Explicit, Replaced, Expired}
+use Rattle.wt_regions.specs.declared.notices.Notice.{Notice}
+use Rattle.wt_regions.specs.Lists.{Entry, Lists, Told, no_entries, notice, held, is_expired, held_for, without}
 use Rattle.wt_regions.specs.Touch.{touched}
 use Rattle.wt_regions.specs.Settle.{settled, trimmed}
 
@@ -15,8 +15,8 @@ module _ {K V : Type 0} where
 
   module _ (eq : K → K → Bool) where
     -- the entry of the key leaves if it is expired
-    abbrev pub without_stale : K → ℕ → Lists K V → Told K V
-    without_stale k now r = option_map_or (λ h. if is_expired r.caps now h then (cut eq k r, notice Expired (k, h) ∷ []) else (r, [])) (held_for eq k r) (r, [])
+    abbrev pub without_expired : K → ℕ → Lists K V → Told K V
+    without_expired k now r = option_map_or (λ h. if is_expired r.caps now h then (without eq k r, notice Expired (k, h) ∷ []) else (r, [])) (held_for eq k r) (r, [])
 
     -- what is told where the entry of the key leaves: Expired if it is expired, else Explicit
     abbrev pub removal : K → ℕ → Lists K V → List (Notice K V)
@@ -24,7 +24,7 @@ module _ {K V : Type 0} where
 
     -- the entry of the key leaves
     abbrev pub removed : K → ℕ → Lists K V → Told K V
-    removed k now r = (cut eq k r, removal k now r)
+    removed k now r = (without eq k r, removal k now r)
 
   module _ (eq : K → K → Bool) (estimate : K → ℕ) (now : ℕ) where
     -- the entry settles where no other of its key is there; it takes the place of one that isn't expired, and an expired one leaves first
@@ -32,7 +32,7 @@ module _ {K V : Type 0} where
     placed e r =
         option_map_or (λ h.
         if is_expired r.caps now h
-        then (let new : Told K V = settled estimate now e (cut eq e.0 r) in (new.0, notice Expired (e.0, h) ∷ [] ++ new.1))
+        then (let new : Told K V = settled estimate now e (without eq e.0 r) in (new.0, notice Expired (e.0, h) ∷ [] ++ new.1))
         else (touched eq e.0 (λ _. e.1) r, notice Replaced (e.0, h) ∷ []))
         (held_for eq e.0 r) (settled estimate now e r)
 

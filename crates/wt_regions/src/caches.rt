@@ -4,12 +4,25 @@ ghost use Rattle.std.specs.Map.{keys_of};
 ghost use Rattle.wt_regions.specs.Lawful.{IsFit};
 ghost use Rattle.wt_regions.specs.Lists.{all_entries, held_for, no_entries, region_of};
 
-use crate::cache::{empty_cache, keys_in};
-use crate::kinds::{Caps, Held, Region};
+use crate::caps::Caps;
+use crate::held::Held;
+use crate::lru_cache::{empty_cache, keys_in};
 use lru::LruCache;
 use std::alloc::Global;
 use std::marker::Model;
 use wt_keys::{CacheKey, NoMemory};
+
+/// One of the three regions.
+#[derive(Clone, Copy, Debug, PartialEq, Eq)]
+pub enum Region {
+    /// Where a new entry comes to, under LRU and without admission.
+    Window,
+    /// The first segment of main: entries not used since they came, and those that protected gave
+    /// back.
+    Probation,
+    /// The second segment of main: entries that were used there.
+    Protected,
+}
 
 // Three regions, each an `LruCache` with the most recent entry first. Contracts see three lists and
 // the limits.

@@ -1,11 +1,29 @@
 // The limits of the regions: what they allow, and what is expired by them.
 ghost use Rattle.std.specs.Prelude.{◌≡◌, ◌&&◌, not, if◌then◌else◌};
-ghost use Rattle.wt_regions.specs.declared.kinds.Cause.TheVariants.{Expired};
+ghost use Rattle.wt_regions.specs.declared.notices.Cause.TheVariants.{Expired};
 ghost use Rattle.wt_regions.specs.Lists.{gone_by, is_expired, is_due, main_cap, protected_cap};
 ghost use Rattle.wt_regions.specs.Lawful.{IsFit, caps_fault};
 
-use crate::kinds::{Caps, Cause, Held};
+use crate::held::Held;
+use crate::notices::Cause;
 use wt_keys::Field;
+
+/// The limits of the three regions. Durations are in milliseconds; `None` for none.
+#[derive(Clone, Copy, Debug, PartialEq, Eq)]
+pub struct Caps {
+    /// How many entries all regions may hold: 1 to 65,536.
+    pub entries: u32,
+    /// How many of them window may hold: 1 to `entries`.
+    pub window: u32,
+    /// How much all entries may weigh together: 1 to 2^48.
+    pub bound: u64,
+    /// An entry expires so long after it was written.
+    pub after_write: Option<u64>,
+    /// An entry expires so long after it was used.
+    pub after_access: Option<u64>,
+    /// An entry is due for a further load so long after it was written.
+    pub refresh: Option<u64>,
+}
 
 // Ours: more would make one shard's tables large, and shards are to be many.
 const MOST_ENTRIES: u32 = 65_536;
@@ -14,7 +32,8 @@ const MOST_ENTRIES: u32 = 65_536;
 const MOST_BOUND: u64 = 0x1_0000_0000_0000;
 
 impl Caps {
-    /// The first field that is out of its range, in the order of the fields; `None` where each is within.
+    /// The first field that is out of its range, in the order of the fields; `None` where each is
+    /// within.
     ///
     /// Takes no memory. O(1).
     pub fn fault(&self) -> Option<Field>
@@ -67,7 +86,8 @@ impl Caps {
 
     // Whether an unexpired entry is old enough to be loaded again.
     pub(crate) fn is_due<V>(&self, now: u64, held: &Held<V>) -> bool
-        ensures { result ≡ (not (is_expired self.now now held.now) && is_due self.now now held.now) }
+        ensures { result
+            ≡ (not (is_expired self.now now held.now) && is_due self.now now held.now) }
     {
         !self.is_expired(now, held) && gone_by(self.refresh, held.written, now)
     }

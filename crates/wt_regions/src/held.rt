@@ -1,9 +1,24 @@
-// Shares of what a region holds: a move puts a share in the new place before the old one goes.
+// What a region holds, and shares of it: a move puts a share in the new place before the old one
+// goes.
 ghost use Rattle.std.specs.Prelude.{◌≡◌, IfOk};
 ghost use Rattle.wt_regions.specs.Lists.{used};
 
-use crate::kinds::Held;
 use wt_keys::{NoMemory, Share};
+
+/// What a region holds beside a key. Contracts see it; callers get its value alone.
+#[derive(Drop)]
+pub struct Held<V> {
+    /// The value.
+    pub value: V,
+    /// What the value weighs, as it said when it was stored.
+    pub weight: u32,
+    /// The number of the step that stored it.
+    pub stamp: u64,
+    /// The moment of that step, in milliseconds.
+    pub written: u64,
+    /// The moment of its latest use, in milliseconds; a store counts as a use.
+    pub accessed: u64,
+}
 
 impl<V: Share> Held<V> {
     // A share of it.

@@ -2,11 +2,10 @@
 //! and weight.
 #![tactic(auto)]
 
-mod cache;
 mod caches;
 mod caps;
 mod held;
-mod kinds;
+mod lru_cache;
 mod notices;
 mod place;
 mod regions;
@@ -16,7 +15,11 @@ mod touch;
 mod trim;
 mod weighs;
 
-pub use kinds::{Caps, Cause, Fate, Found, Held, Notice, Region};
-pub use notices::Notices;
+pub use caches::Region;
+pub use caps::Caps;
+pub use held::Held;
+pub use notices::{Cause, Notice, Notices};
 pub use regions::Regions;
+pub use settle::Fate;
+pub use touch::Found;
 pub use weighs::Weighs;

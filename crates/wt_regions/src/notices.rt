@@ -1,14 +1,47 @@
-// The list of notices, whose room is made before the steps that tell.
+// Why an entry left, and the list of notices, whose room is made before the steps that tell.
 ghost use Rattle.std.specs.Prelude.{◌≡◌, ◌<◌, ◌+◌, ◌∷◌, [], IfOk, IsSome, length, nat_le};
 ghost use Rattle.std.specs.Option.{option_map_or};
-ghost use Rattle.wt_regions.specs.Lists.{notice};
+ghost use Rattle.wt_regions.specs.Lists.{is_eviction, notice};
 ghost use Rattle.wt_regions.specs.Moves.{heft};
 ghost use Rattle.wt_regions.specs.Notices.{appended, emptied, no_notices};
 
-use crate::kinds::{Cause, Held, Notice};
+use crate::held::Held;
 use std::alloc::Global;
 use std::marker::Model;
 use wt_keys::{CacheKey, NoMemory};
+
+/// Why an entry left.
+#[derive(Clone, Copy, Debug, PartialEq, Eq)]
+pub enum Cause {
+    /// The caller removed it.
+    Explicit,
+    /// Another value was stored under its key.
+    Replaced,
+    /// It was too long since it was written or used.
+    Expired,
+    /// There was no room, or too much weight, for it.
+    Size,
+}
+
+impl Cause {
+    /// Returns whether the cache let the entry go by its own rules: as `Expired` or as `Size`.
+    pub fn was_evicted(self) -> bool
+        ensures { result ≡ is_eviction self }
+    {
+        matches!(self, Cause::Expired | Cause::Size)
+    }
+}
+
+/// An entry that left.
+#[derive(Drop)]
+pub struct Notice<K, V> {
+    /// Its key.
+    pub key: K,
+    /// Its value, which is the caller's now.
+    pub value: V,
+    /// Why it left.
+    pub cause: Cause,
+}
 
 /// The notices of what left, in the order of leaving, with room for more that is made beforehand.
 ///
@@ -83,7 +116,8 @@ pub(crate) fn tell_left<K: CacheKey, V: Drop>(
 ) -> u64
     requires { 0 < notices.old.room }
     ensures weight { result ≡ option_map_or (λ e. e.1.weight) left 0 }
-    ensures notices { notices.new ≡ appended (option_map_or (λ e. notice cause e ∷ []) left []) notices.old }
+    ensures notices { notices.new
+        ≡ appended (option_map_or (λ e. notice cause e ∷ []) left []) notices.old }
 {
     match left {
         Some((key, held)) => {
@@ -108,18 +142,11 @@ pub(crate) fn tell_held<K: CacheKey, V: Drop>(
 ) -> u64
     requires { IsSome held → 0 < notices.old.room }
     ensures weight { result ≡ heft held }
-    ensures notices { notices.new ≡ appended (option_map_or (λ h. notice cause (key, h) ∷ []) held []) notices.old }
+    ensures notices { notices.new
+        ≡ appended (option_map_or (λ h. notice cause (key, h) ∷ []) held []) notices.old }
 {
     match held {
-        Some(held) => {
-            let weight = held.weight as u64;
-            notices.tell(Notice {
-                key,
-                value: held.value,
-                cause,
-            });
-            weight
-        }
+        Some(held) => tell_left(notices, Some((key, held)), cause),
         None => 0,
     }
 }

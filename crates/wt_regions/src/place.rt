@@ -12,17 +12,17 @@ ghost use Rattle.std.specs.Prelude.{◌≡◌, ◌+◌, ◌≤◌, ◌∷◌, �
 ghost use Rattle.std.specs.Map.{lookup, remove_entry};
 ghost use Rattle.std.specs.Option.{option_map_or};
 ghost use Rattle.lru.specs.LruCache.{last_entry};
-ghost use Rattle.wt_regions.specs.declared.kinds.Cause.TheVariants.{Expired};
-ghost use Rattle.wt_regions.specs.Lists.{cut, front, is_expired, lists_of, main_cap, notice, weight_of};
+ghost use Rattle.wt_regions.specs.declared.notices.Cause.TheVariants.{Expired};
+ghost use Rattle.wt_regions.specs.Lists.{without, all_but_last, is_expired, lists_of, main_cap, notice, weight_of};
 ghost use Rattle.wt_regions.specs.Moves.{IsPlaced, estimates};
 ghost use Rattle.wt_regions.specs.Notices.{appended};
 ghost use Rattle.wt_regions.specs.Settle.{settled};
 ghost use Rattle.wt_regions.specs.Steps.{placed};
 
-use crate::cache::{push_new, replace_in};
 use crate::caches::Caches;
-use crate::kinds::{Cause, Held};
-use crate::notices::{Notices, tell_held, tell_left};
+use crate::held::Held;
+use crate::lru_cache::{push_new, replace_in};
+use crate::notices::{Cause, Notices, tell_held, tell_left};
 use crate::weighs::Weighs;
 use wt_keys::{CacheKey, NoMemory, Share};
 use wt_sketch::Sketch;
@@ -51,7 +51,8 @@ impl<K: CacheKey, V: Share + Weighs> Caches<K, V> {
         ensures left { IfOk result (λ left. left ≡ option_map_or
             (λ e. if is_expired self.old.caps now e.1 then Some e else None)
             (last_entry self.old.window) None) }
-        ensures state { OnOk result (self.new ≡ lists_of self.old.caps (front self.old.window)
+        ensures state { OnOk result (self.new
+            ≡ lists_of self.old.caps (all_but_last self.old.window)
             (option_map_or
             (λ e. if is_expired self.old.caps now e.1 then self.old.probation
             else e ∷ self.old.probation)
@@ -86,11 +87,11 @@ impl<K: CacheKey, V: Share + Weighs> Caches<K, V> {
         requires there { IsSome (lookup (K.eq key) (self.old.probation ++ self.old.protected)) }
         requires room { self.old.caps.entries ≤ notices.old.room }
         ensures state { OnOk result (self.new
-            ≡ (settled (λ k. 0) held.written (key, held) (cut K.eq key self.old)).0) }
+            ≡ (settled (λ k. 0) held.written (key, held) (without K.eq key self.old)).0) }
         ensures notices { OnOk result (notices.new ≡ appended
             (option_map_or (λ h. notice Expired (key, h) ∷ [])
             (lookup (K.eq key) (self.old.probation ++ self.old.protected)) []
-            ++ (settled (λ k. 0) held.written (key, held) (cut K.eq key self.old)).1)
+            ++ (settled (λ k. 0) held.written (key, held) (without K.eq key self.old)).1)
             notices.old) }
         ensures weight { IfOk result (λ gone.
             weight_of self.new + gone ≡ weight_of self.old + held.weight) }

@@ -12,8 +12,10 @@ ghost use Rattle.wt_regions.specs.Touch.{looked_at};
 mod reads;
 
 use crate::caches::Caches;
-use crate::kinds::{Caps, Cause, Found, Held, Notice};
-use crate::notices::Notices;
+use crate::caps::Caps;
+use crate::held::Held;
+use crate::notices::{Cause, Notice, Notices};
+use crate::touch::Found;
 use crate::weighs::Weighs;
 use std::alloc::Global;
 use std::marker::Model;
@@ -70,10 +72,10 @@ impl<K: CacheKey, V: Share + Weighs> Regions<K, V> {
     /// Looks the key up at the moment `now`. A hit is used: it goes to the front of its region, or
     /// from probation to protected.
     ///
-    /// An expired entry is `Stale` and stays where it is. `now` is in milliseconds. Only a hit
-    /// takes memory: a share for the caller, and from probation one or two more with a place for
-    /// each. Expected O(1) for keys that nobody picks (see `Seeded`): the key is looked up in each
-    /// region at most twice. The rule of the move is segmented LRU's.
+    /// An expired entry is answered as `Expired` and stays where it is. `now` is in milliseconds.
+    /// Only a hit takes memory: a share for the caller, and from probation one or two more with a
+    /// place for each. Expected O(1) for keys that nobody picks (see `Seeded`): the key is looked up
+    /// in each region at most twice. The rule of the move is segmented LRU's.
     pub fn get(&mut self, key: K, now: u64) -> Result<Found<V>, NoMemory>
         ensures found { IfOk result (λ found. found ≡ found_at K.eq key now self.old) }
         ensures state { OnOk result (self.new ≡ looked_at K.eq key now self.old) }

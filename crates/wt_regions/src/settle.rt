@@ -5,8 +5,8 @@
 //           finds no main ────────────────────────────► leaves
 //           finds room in main ───────────────────────► probation's front
 //           meets the victim, probation's last, which
-//             is expired, or was counted less often ──► leaves, and the candidate takes probation's front
-//             was counted as often, or more often ────► stays, and the candidate leaves
+//             is expired, or was counted less often ──► leaves; the candidate: probation's front
+//             was counted as often, or more often ────► stays; the candidate leaves
 //
 // A read-only function decides first, and a mover goes by what it answers.
 ghost use Rattle.std.specs.Prelude.{◌≡◌, ◌+◌, ◌<◌, ◌≤◌, ◌++◌, length, None, IfOk, OnOk, OnErr};
@@ -18,13 +18,24 @@ ghost use Rattle.wt_regions.specs.Moves.{IsPlaced, estimates};
 ghost use Rattle.wt_regions.specs.Notices.{appended};
 ghost use Rattle.wt_regions.specs.Settle.{fate, overflowed, settled};
 
-use crate::cache::push_new;
 use crate::caches::Caches;
-use crate::kinds::{Cause, Fate, Held};
-use crate::notices::{Notices, tell_left};
+use crate::held::Held;
+use crate::lru_cache::push_new;
+use crate::notices::{Cause, Notices, tell_left};
 use crate::weighs::Weighs;
 use wt_keys::{CacheKey, NoMemory, Share, places};
 use wt_sketch::Sketch;
+
+/// What becomes of the candidate, the entry that window gives up.
+#[derive(Clone, Copy, Debug, PartialEq, Eq)]
+pub enum Fate {
+    /// It leaves.
+    Leaves(Cause),
+    /// It enters probation, where there is room.
+    Enters,
+    /// It enters probation, and the victim, probation's last, leaves.
+    Ousts(Cause),
+}
 
 // How often the key was counted, by the sketch.
 fn estimate_for<K: CacheKey>(sketch: &Sketch, key: &K) -> u8

@@ -1,14 +1,15 @@
 // Entries that leave without a new one: one key's, the expired ones, all. None of it takes memory.
 ghost use Rattle.std.specs.Prelude.{◌≡◌, ◌+◌, ◌≤◌, [], length};
 ghost use Rattle.lru.specs.LruCache.{lru_cache};
-ghost use Rattle.wt_regions.specs.Lists.{cut, held_for, weight_of, weights};
+ghost use Rattle.wt_regions.specs.Lists.{without, held_for, weight_of, weights};
 ghost use Rattle.wt_regions.specs.Moves.{IsPlaced};
 ghost use Rattle.wt_regions.specs.Notices.{appended};
 ghost use Rattle.wt_regions.specs.Steps.{cleaned, cleared, expired_of, live_of, told_back};
 
 use crate::caches::Caches;
-use crate::kinds::{Caps, Cause, Held};
-use crate::notices::{Notices, tell_left};
+use crate::caps::Caps;
+use crate::held::Held;
+use crate::notices::{Cause, Notices, tell_left};
 use crate::weighs::Weighs;
 use lru::LruCache;
 use wt_keys::{CacheKey, Share};
@@ -26,7 +27,8 @@ fn clean_in<K: CacheKey, V: Drop>(
     requires room { length cache.old.entries ≤ notices.old.room }
     requires weight { weights cache.old.entries ≤ weight }
     ensures state { cache.new ≡ lru_cache (live_of now caps.now cache.old.entries) cache.old.cap }
-    ensures notices { notices.new ≡ appended (expired_of now caps.now cache.old.entries) notices.old }
+    ensures notices { notices.new
+        ≡ appended (expired_of now caps.now cache.old.entries) notices.old }
     ensures weight { result + weights cache.old.entries ≡ weight + weights cache.new.entries }
     ensures lighter { result ≤ weight }
 {
@@ -56,7 +58,8 @@ fn clear_in<K: CacheKey, V: Drop>(
 )
     requires room { length cache.old.entries ≤ notices.old.room }
     ensures state { cache.new ≡ lru_cache [] cache.old.cap }
-    ensures notices { notices.new ≡ appended (told_back now caps.now cache.old.entries) notices.old }
+    ensures notices { notices.new
+        ≡ appended (told_back now caps.now cache.old.entries) notices.old }
 {
     while let Some((_, held)) = cache.peek_lru() {
         let cause = caps.cause_of(now, held, Cause::Explicit);
@@ -68,7 +71,7 @@ impl<K: CacheKey, V: Share + Weighs> Caches<K, V> {
     // Takes what is held for the key out of its region.
     pub(crate) fn take_out(&mut self, key: K) -> Option<Held<V>>
         ensures held { result ≡ held_for K.eq key self.old }
-        ensures state { self.new ≡ cut K.eq key self.old }
+        ensures state { self.new ≡ without K.eq key self.old }
     {
         let first = self.window.pop(&key);
         let second = self.take_below(key);

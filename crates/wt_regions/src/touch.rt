@@ -11,11 +11,22 @@ ghost use Rattle.wt_regions.specs.Lists.{found_at, has_at};
 ghost use Rattle.wt_regions.specs.Moves.{IsPlaced, seen_at};
 ghost use Rattle.wt_regions.specs.Touch.{looked_at, touched};
 
-use crate::cache::{freshen, push_new, replace_in};
 use crate::caches::Caches;
-use crate::kinds::{Found, Held};
+use crate::held::Held;
+use crate::lru_cache::{freshen, push_new, replace_in};
 use crate::weighs::Weighs;
 use wt_keys::{CacheKey, NoMemory, Share};
+
+/// What a look-up finds.
+#[derive(Drop)]
+pub enum Found<V> {
+    /// An unexpired entry, with a share of its value.
+    Hit(V),
+    /// No entry.
+    Absent,
+    /// An expired entry, which is left where it is.
+    Expired,
+}
 
 // Where a look finds the key's entry: a share of its value and, in probation, what protected is to
 // hold.
@@ -25,7 +36,7 @@ pub(crate) enum Seen<V> {
     InProbation(V, Held<V>),
     InProtected(V),
     Nowhere,
-    Stale,
+    Expired,
 }
 
 impl<K: CacheKey, V: Share + Weighs> Caches<K, V> {
@@ -36,20 +47,20 @@ impl<K: CacheKey, V: Share + Weighs> Caches<K, V> {
     {
         if let Some(held) = self.window.peek(&key) {
             if self.caps.is_expired(now, held) {
-                return Ok(Seen::Stale);
+                return Ok(Seen::Expired);
             }
             return Ok(Seen::InWindow(held.value.share()?));
         }
         if let Some(held) = self.probation.peek(&key) {
             if self.caps.is_expired(now, held) {
-                return Ok(Seen::Stale);
+                return Ok(Seen::Expired);
             }
             let value = held.value.share()?;
             return Ok(Seen::InProbation(value, held.share_used(now)?));
         }
         if let Some(held) = self.protected.peek(&key) {
             if self.caps.is_expired(now, held) {
-                return Ok(Seen::Stale);
+                return Ok(Seen::Expired);
             }
             return Ok(Seen::InProtected(held.value.share()?));
         }
@@ -78,15 +89,15 @@ impl<K: CacheKey, V: Share + Weighs> Caches<K, V> {
                 Ok(Found::Hit(value))
             }
             Seen::Nowhere => Ok(Found::Absent),
-            Seen::Stale => Ok(Found::Stale),
+            Seen::Expired => Ok(Found::Expired),
         }
     }
 
     // Brings the key's entry from probation to protected's front, with other contents, and answers
     // the old ones. Where protected is then past its cap, its last goes back to probation's front.
     //
-    // The pushes come first, each in the spare place of its cache; a push that was made is undone by
-    // a pop.
+    // The pushes come first, each in the spare place of its cache; a push that was made is undone
+    // by a pop.
     pub(crate) fn promote(&mut self, key: K, moved: Held<V>) -> Result<Option<Held<V>>, NoMemory>
         requires placed { IsPlaced K.eq V.weight self.old }
         requires elsewhere { lookup (K.eq key) self.old.window ≡ None }

@@ -3,15 +3,15 @@
 ghost use Rattle.std.specs.Prelude.{◌≡◌, ◌<◌, ◌≤◌};
 ghost use Rattle.std.specs.Option.{option_map_or};
 ghost use Rattle.lru.specs.LruCache.{lru_cache, last_entry};
-ghost use Rattle.wt_regions.specs.declared.kinds.Cause.TheVariants.{Size};
-ghost use Rattle.wt_regions.specs.Lists.{all_entries, front, weight_of};
+ghost use Rattle.wt_regions.specs.declared.notices.Cause.TheVariants.{Size};
+ghost use Rattle.wt_regions.specs.Lists.{all_entries, all_but_last, weight_of};
 ghost use Rattle.wt_regions.specs.Moves.{IsFirst, IsStep, others};
 ghost use Rattle.wt_regions.specs.Notices.{appended};
 ghost use Rattle.wt_regions.specs.Settle.{holds_other, last_told, trimmed, trimmed_once};
 
 use crate::caches::Caches;
-use crate::kinds::{Cause, Held};
-use crate::notices::{Notices, tell_left};
+use crate::held::Held;
+use crate::notices::{Cause, Notices, tell_left};
 use lru::LruCache;
 use wt_keys::CacheKey;
 
@@ -29,7 +29,7 @@ fn take_last<K: CacheKey, V: Drop>(
     notices: &mut Notices<K, V>,
 ) -> u64
     requires { 0 < notices.old.room }
-    ensures state { cache.new ≡ lru_cache (front cache.old.entries) cache.old.cap }
+    ensures state { cache.new ≡ lru_cache (all_but_last cache.old.entries) cache.old.cap }
     ensures weight { result ≡ option_map_or (λ e. e.1.weight) (last_entry cache.old.entries) 0 }
     ensures notices { notices.new ≡ appended (last_told Size cache.old.entries) notices.old }
 {
@@ -56,8 +56,8 @@ impl<K: CacheKey, V: Drop> Caches<K, V> {
         None
     }
 
-    // Entries leave while the weight is above the bound. The key was just stored. Answers the weight
-    // left.
+    // Entries leave while the weight is above the bound. The key was just stored. Answers the
+    // weight left.
     pub(crate) fn trim(&mut self, key: K, weight: u64, notices: &mut Notices<K, V>) -> u64
         requires weight { weight ≡ weight_of self.old }
         requires first { IsFirst K.eq key self.old }

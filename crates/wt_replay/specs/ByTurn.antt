@@ -3,11 +3,11 @@ use Rattle.std.specs.Prelude.{◌≡◌, ℕ, ◌+◌, ◌*◌, ◌≤◌, Bool,
 use Rattle.std.specs.Option.{option_map, option_or}
 use Rattle.std.specs.Io.KnownBytes.{Keeps, Appends}
 use Rattle.wt_core.specs.Lawful.{AreSmall}
-use Rattle.wt_core.specs.declared.kinds.Stats.{Stats}
+use Rattle.wt_core.specs.declared.stats.Stats.{Stats}
 use Rattle.wt_shards.specs.Totals.{Settled}
 use Rattle.wt_shards.specs.declared.total.Total.{Total}
 use Rattle.wt_trace.specs.Keys.{numbers, names}
-use Rattle.wt_trace.specs.Replayed.{Gave, AppendsFront}
+use Rattle.wt_trace.specs.Replayed.{Gave, AppendsPrefix}
 use Rattle.wt_trace.specs.Report.{summary_of}
 use Rattle.wt_trace.specs.Stops.{AreAsked}
 use Rattle.wt_trace.specs.Trace.{Trace, Verdict, lines_of, is_header, trace_from}
@@ -62,7 +62,7 @@ AreLooked s = s.hits + s.misses ≡ s.lookups
 -- By the outcome: what became of the reader (r, s: before, after) and of the writer (w, x).
 abbrev pub Turned : Option (List ℕ) → Option (List ℕ) → Option (List ℕ) → Option (List ℕ) → Result (Unit {0}) ReplayFault → Type 0
 Turned r s w x (Ok _) = (bytes : List ℕ) × Gave r s bytes × (turn_fault bytes ≡ None) × ((sums : Stats) × AreLooked sums × Appends w x (summary_of sums))
-Turned r s w x (Err WriteFault) = (bytes : List ℕ) × Gave r s bytes × (turn_fault bytes ≡ None) × ((sums : Stats) × AreLooked sums × AppendsFront w x (summary_of sums))
+Turned r s w x (Err WriteFault) = (bytes : List ℕ) × Gave r s bytes × (turn_fault bytes ≡ None) × ((sums : Stats) × AreLooked sums × AppendsPrefix w x (summary_of sums))
 Turned r s w x (Err (BadLine n)) = (bytes : List ℕ) × Gave r s bytes × (turn_fault bytes ≡ Some (BadLine n)) × Keeps w x
 Turned r s w x (Err (LineTooLong n)) = (bytes : List ℕ) × Gave r s bytes × (turn_fault bytes ≡ Some (LineTooLong n)) × Keeps w x
 Turned r s w x (Err TooManyLines) = (bytes : List ℕ) × Gave r s bytes × (turn_fault bytes ≡ Some TooManyLines) × Keeps w x

@@ -2,7 +2,7 @@
 //
 //     line n ──► thread (n - 1) modulo the threads ──► the cache, by a pass of the thread's own
 //                                                        │ loads, where there are workers
-//                                                        └──► a line of 64 ──► workers, each with a pass
+//     workers, each with a pass ◄── a line of 64 loads ◄─┘
 //
 // When all threads have ended the line is closed, the workers end, and all passes are settled.
 ghost use Rattle.std.specs.Prelude.{◌≡◌, ◌+◌, ◌≤◌, length, IfOk, IfErr, OnOk, IfSome, None, true};

@@ -27,9 +27,9 @@ use wt_trace::{
 /// written); `ReadFault`, exactly where the reader failed, and no memory; the fault of the first
 /// faulty line, where a line of letter S or E is a bad one; `GateShut` of a line before which the
 /// gate was shut; what a line of the cache ends by; `WriteFault`, exactly where the writer failed
-/// or took nothing (a front of the summary was written). After any other fault nothing was written.
-/// In which order the lines of two threads are done isn't promised, and so isn't which of them hit;
-/// nor is it that the call returns.
+/// or took nothing (a prefix of the summary was written). After any other fault nothing was
+/// written. In which order the lines of two threads are done isn't promised, and so isn't which of
+/// them hit; nor is it that the call returns.
 pub fn replay_by_turn<H: Threads + Wait + Sync, R: Read, W: Write, G: Gate>(
     rt: &H,
     alloc: Global,

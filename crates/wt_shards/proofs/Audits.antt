@@ -3,10 +3,10 @@ use Rattle.std.proofs.Common.{◌≡◌, ℕ, ◌+◌, ◌-◌, ◌<◌, ◌≤�
 use Rattle.std.proofs.lemmas.List.{length-map, take-append-drop, length-take-le, length-drop}
 use Rattle.circular_buffer.specs.Buffer.{keep_last}
 use Rattle.wt_flights.specs.Outcomes.{Leading}
-use Rattle.wt_core.specs.declared.kinds.Call.{Call}
-use Rattle.wt_core.specs.declared.kinds.Call.TheVariants.{Look, Seek, Land, Put, DropKey, Clear, Forget, Clean}
-use Rattle.wt_core.specs.declared.kinds.Land.TheVariants as land
-use Rattle.wt_core.specs.declared.kinds.Config.{Config}
+use Rattle.wt_core.specs.declared.calls.Call.{Call}
+use Rattle.wt_core.specs.declared.calls.Call.TheVariants.{Look, Seek, Land, Put, DropKey, Clear, Forget, Clean}
+use Rattle.wt_core.specs.declared.calls.Land.TheVariants as land
+use Rattle.wt_core.specs.declared.config.Config.{Config}
 use Rattle.wt_core.specs.State.{State, Made, opening}
 use Rattle.wt_core.specs.Step.{refusal_of, step}
 use Rattle.wt_core.specs.Run.{run, taken}
@@ -20,11 +20,11 @@ use Rattle.wt_shards.specs.Asked.{AnswersAsked, IsAsked, ReplyAnswers}
 use Rattle.std.specs.List.{All}
 use Rattle.std.specs.Option.{option_map_or}
 use Rattle.wt_regions.specs.Lists.{all_entries}
-use Rattle.wt_regions.specs.declared.kinds.Found.{Found}
-use Rattle.wt_regions.specs.declared.kinds.Found.TheVariants as found
+use Rattle.wt_regions.specs.declared.touch.Found.{Found}
+use Rattle.wt_regions.specs.declared.touch.Found.TheVariants as found
 use Rattle.wt_flights.specs.declared.row.Row.{Row}
 use Rattle.wt_flights.specs.Rows.{current_of}
-use Rattle.wt_core.specs.declared.kinds.Reply.TheVariants.{Hit, HitLead, Join, Lead}
+use Rattle.wt_core.specs.declared.calls.Reply.TheVariants.{Hit, HitLead, Join, Lead}
 use Rattle.wt_core.specs.State.{found as found_in, stepped}
 use Rattle.wt_core.specs.Seek.{met, refreshes}
 use Rattle.wt_core.specs.Step.{looked, sought}
@@ -177,7 +177,7 @@ module _ {K V : Type 0} (eq : K → K → Bool) (same : (a b : K) → eq a b ≡
       at_found : (f : Found V) → found_in eq k (stepped now s) ≡ f → ReplyAnswers answers k (looked eq k f (stepped now s)).reply
       at_found (found.Hit v) is = found-has (λ k v. IsTrue (answers v k)) eq same k (stepped now s).latest s.regions v is all
       at_found found.Absent is = tt
-      at_found found.Stale is = tt
+      at_found found.Expired is = tt
 
   reply-seek : (s : State K V) (k : K) (now : ℕ) → All (Has (λ k v. IsTrue (answers v k))) (all_entries s.regions) → ReplyAnswers answers k (step eq word weight s (Seek k now)).reply
   reply-seek s k now all = at_found (found_in eq k (stepped now s)) refl
@@ -192,7 +192,7 @@ module _ {K V : Type 0} (eq : K → K → Bool) (same : (a b : K) → eq a b ≡
         | false ↦ found-has (λ k v. IsTrue (answers v k)) eq same k (stepped now s).latest s.regions v is all
       ]
       at_found found.Absent is = at_current (current_of eq k s.flights)
-      at_found found.Stale is = at_current (current_of eq k s.flights)
+      at_found found.Expired is = at_current (current_of eq k s.flights)
 
   -- what a step answers may stand for its key
   pub reply-answers : (s : State K V) (c : Call K V) → All (Has (λ k v. IsTrue (answers v k))) (all_entries s.regions) → AnswersAsked answers c (step eq word weight s c).reply

@@ -6,21 +6,21 @@ use Rattle.std.specs.Option.{option_map_or}
 use Rattle.std.proofs.lemmas.Bool.{eqb-true}
 use Rattle.std.proofs.lemmas.List.{map-append, length-map}
 use Rattle.std.proofs.lemmas.List.Elements.{All-head, All-tail, All-append, All-cons, All-nil, All-filter}
-use Rattle.wt_regions.specs.declared.kinds.Found.{Found}
-use Rattle.wt_regions.specs.declared.kinds.Found.TheVariants as found
+use Rattle.wt_regions.specs.declared.touch.Found.{Found}
+use Rattle.wt_regions.specs.declared.touch.Found.TheVariants as found
 use Rattle.wt_flights.specs.declared.row.Row.{Row}
 use Rattle.wt_flights.specs.Outcomes.{Leading}
 use Rattle.wt_flights.specs.Rows.{Flights, begun, current_of, forgotten, forgotten_all, is_current, joined, landed, not_current, one_more, row_of}
-use Rattle.wt_core.specs.declared.kinds.Call.{Call}
-use Rattle.wt_core.specs.declared.kinds.Call.TheVariants.{Look, Seek, Land, Put, DropKey, Clear, Forget, Clean}
-use Rattle.wt_core.specs.declared.kinds.Land.{Land as Landing}
-use Rattle.wt_core.specs.declared.kinds.Land.TheVariants as land
+use Rattle.wt_core.specs.declared.calls.Call.{Call}
+use Rattle.wt_core.specs.declared.calls.Call.TheVariants.{Look, Seek, Land, Put, DropKey, Clear, Forget, Clean}
+use Rattle.wt_core.specs.declared.calls.Land.{Land as Landing}
+use Rattle.wt_core.specs.declared.calls.Land.TheVariants as land
 use Rattle.wt_core.specs.Landings.{IsEmpty, IsLanding, IsEmptyLanding, TakesNone, is_stored}
 use Rattle.wt_core.specs.Step.{refusal_of, spent, step}
-use Rattle.wt_core.specs.declared.kinds.Foreseen.{Foreseen}
-use Rattle.wt_core.specs.declared.kinds.Foreseen.TheVariants as foreseen
-use Rattle.wt_core.specs.declared.kinds.Reply.{Reply}
-use Rattle.wt_core.specs.declared.kinds.Reply.TheVariants.{Hit, HitLead, Join, Lead}
+use Rattle.wt_core.specs.declared.calls.Foreseen.{Foreseen}
+use Rattle.wt_core.specs.declared.calls.Foreseen.TheVariants as foreseen
+use Rattle.wt_core.specs.declared.calls.Reply.{Reply}
+use Rattle.wt_core.specs.declared.calls.Reply.TheVariants.{Hit, HitLead, Join, Lead}
 use Rattle.wt_core.specs.State.{State, found as found_in, stepped}
 use Rattle.wt_core.specs.Seek.{foreseen_at, foreseen_of, met, seek_reply, refreshes}
 use Rattle.wt_shards.specs.Audited.{load_at, load_of, still_open}
@@ -91,7 +91,7 @@ module _ {K : Type 0} where
         | false ↦ refl
       ]
       met-length found.Absent = current-length (current_of eq k s.flights)
-      met-length found.Stale = current-length (current_of eq k s.flights)
+      met-length found.Expired = current-length (current_of eq k s.flights)
 
   -- ---- a landing
   module _ (eq : K → K → Bool) (k : K) (id : ℕ) where

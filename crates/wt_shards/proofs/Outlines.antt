@@ -3,25 +3,25 @@ use Rattle.std.proofs.Common.{◌≡◌, ℕ, ◌+◌, Bool, List, [], map, Opti
 use Rattle.std.specs.Prelude.{if◌then◌else◌, is_some, is_none, not, ◌&&◌}
 use Rattle.std.specs.Option.{option_map_or, option_or}
 use Rattle.std.proofs.lemmas.List.Folds.{fold-map}
-use Rattle.wt_regions.specs.declared.kinds.Found.{Found}
-use Rattle.wt_regions.specs.declared.kinds.Found.TheVariants as found
-use Rattle.wt_regions.specs.declared.kinds.Notice.{Notice}
+use Rattle.wt_regions.specs.declared.touch.Found.{Found}
+use Rattle.wt_regions.specs.declared.touch.Found.TheVariants as found
+use Rattle.wt_regions.specs.declared.notices.Notice.{Notice}
 use Rattle.wt_regions.specs.Lists.{Told, used}
 use Rattle.wt_regions.specs.Touch.{touched}
 use Rattle.wt_regions.specs.Steps.{removed, cleaned, cleared}
 use Rattle.wt_shards.specs.Outline.{found_by, notice_by, lists_by, told_by}
-use Rattle.wt_shards.proofs.Values.{cond-ap, touched-by, found_at-by, has_at-by, due_at-by, without_stale-by, removed-by, stored-by, cleaned-by, cleared-by}
+use Rattle.wt_shards.proofs.Values.{cond-ap, touched-by, found_at-by, has_at-by, due_at-by, without_expired-by, removed-by, stored-by, cleaned-by, cleared-by}
 use Rattle.wt_flights.specs.declared.row.Row.{Row}
 use Rattle.wt_flights.specs.Rows.{landed, joined, current_of, row_of, is_full}
-use Rattle.wt_core.specs.declared.kinds.Call.{Call}
-use Rattle.wt_core.specs.declared.kinds.Call.TheVariants.{Look, Seek, Land, Put, DropKey, Clear, Forget, Clean}
-use Rattle.wt_core.specs.declared.kinds.Land.{Land as Landing}
-use Rattle.wt_core.specs.declared.kinds.Land.TheVariants as land
-use Rattle.wt_core.specs.declared.kinds.Reply.{Reply}
-use Rattle.wt_core.specs.declared.kinds.Reply.TheVariants.{Hit, Absent, HitLead, Join, Lead, Kept, Loose, Failed, Gone, Stored, Dropped, Cleared, Forgot, Cleaned}
+use Rattle.wt_core.specs.declared.calls.Call.{Call}
+use Rattle.wt_core.specs.declared.calls.Call.TheVariants.{Look, Seek, Land, Put, DropKey, Clear, Forget, Clean}
+use Rattle.wt_core.specs.declared.calls.Land.{Land as Landing}
+use Rattle.wt_core.specs.declared.calls.Land.TheVariants as land
+use Rattle.wt_core.specs.declared.calls.Reply.{Reply}
+use Rattle.wt_core.specs.declared.calls.Reply.TheVariants.{Hit, Absent, HitLead, Join, Lead, Kept, Loose, Failed, Gone, Stored, Dropped, Cleared, Forgot, Cleaned}
 use Rattle.wt_core.specs.State.{State, made, evictions, found as found_in, has, stepped, estimate_in, new_entry, with_count, with_hit, with_miss, with_load, with_failure, with_flights}
 use Rattle.wt_core.specs.Seek.{refreshes, met, seek_reply}
-use Rattle.wt_core.specs.Step.{aired, hit, missed, opened, forgot, looked, look_step, sought, seek_step, drop_step, forget_step, clear_step, clean_step, storing, is_kept, landing, land_step, step, spent, full_for, refusal_of}
+use Rattle.wt_core.specs.Step.{own_expired, hit, missed, opened, forgot, looked, look_step, sought, seek_step, drop_step, forget_step, clear_step, clean_step, storing, is_kept, landing, land_step, step, spent, full_for, refusal_of}
 use Rattle.wt_shards.specs.Outline.{shade_weight, outline_value, outline_landing, outline_reply, outline_call, outline, outline_made, OutlinesStep}
 
 abbrev told : {K V : Type 0} → Rattle.wt_regions.specs.Lists.Lists K V → List (Notice K V) → Told K V
@@ -45,18 +45,18 @@ module _ {K V : Type 0} (weight : V → ℕ) where
 
     missed-by : (r : Reply V) (s : State K V) → missed eq k (outline_reply weight r) (outline weight s) ≡ outline_made weight (missed eq k r s)
     missed-by r s =
-        (λ i. made (with_miss (outline weight s)) (without_stale-by (outline_value weight) eq k s.latest s.regions i) (outline_reply weight r))
-        ∙ made-by (with_miss s) (aired eq k s) r
+        (λ i. made (with_miss (outline weight s)) (without_expired-by (outline_value weight) eq k s.latest s.regions i) (outline_reply weight r))
+        ∙ made-by (with_miss s) (own_expired eq k s) r
 
-    aired-by : (s t : State K V) (r : Reply V) → made (outline weight t) (aired eq k (outline weight s)) (outline_reply weight r) ≡ outline_made weight (made t (aired eq k s) r)
-    aired-by s t r =
-        (λ i. made (outline weight t) (without_stale-by (outline_value weight) eq k s.latest s.regions i) (outline_reply weight r))
-        ∙ made-by t (aired eq k s) r
+    own_expired-by : (s t : State K V) (r : Reply V) → made (outline weight t) (own_expired eq k (outline weight s)) (outline_reply weight r) ≡ outline_made weight (made t (own_expired eq k s) r)
+    own_expired-by s t r =
+        (λ i. made (outline weight t) (without_expired-by (outline_value weight) eq k s.latest s.regions i) (outline_reply weight r))
+        ∙ made-by t (own_expired eq k s) r
 
     looked-by : (x : Found V) (s : State K V) → looked eq k (found_by (outline_value weight) x) (outline weight s) ≡ outline_made weight (looked eq k x s)
     looked-by (found.Hit v) s = hit-by (Hit v) s
     looked-by found.Absent s = missed-by Absent s
-    looked-by found.Stale s = missed-by Absent s
+    looked-by found.Expired s = missed-by Absent s
 
     look-by : (s : State K V) → look_step eq k (outline weight s) ≡ outline_made weight (look_step eq k s)
     look-by s = (λ i. looked eq k (found-by s i) (outline weight s)) ∙ looked-by (found_in eq k s) s
@@ -70,7 +70,7 @@ module _ {K V : Type 0} (weight : V → ℕ) where
         (λ i. if due_at-by (outline_value weight) eq k s.latest s.regions i && (is_none (current_of eq k s.flights) && not (is_full s.flights)) then HitLead (outline_value weight v) s.flights.next else Hit (outline_value weight v))
         ∙ cond-ap (outline_reply weight) (refreshes eq k s) (HitLead v s.flights.next) (Hit v)
     met-by found.Absent s = elsewhere (current_of eq k s.flights) s.flights.next
-    met-by found.Stale s = elsewhere (current_of eq k s.flights) s.flights.next
+    met-by found.Expired s = elsewhere (current_of eq k s.flights) s.flights.next
 
     seek_reply-by : (s : State K V) → seek_reply eq k (outline weight s) ≡ outline_reply weight (seek_reply eq k s)
     seek_reply-by s = (λ i. met eq k (found-by s i) (outline weight s)) ∙ met-by (found_in eq k s) s
@@ -90,7 +90,7 @@ module _ {K V : Type 0} (weight : V → ℕ) where
         ∙ made-by (forgot eq k s) (removed eq k s.latest s.regions) (Dropped (has eq k s))
 
     forget-by : (s : State K V) → forget_step eq k (outline weight s) ≡ outline_made weight (forget_step eq k s)
-    forget-by s = aired-by s (forgot eq k s) (Forgot (is_some (current_of eq k s.flights)))
+    forget-by s = own_expired-by s (forgot eq k s) (Forgot (is_some (current_of eq k s.flights)))
 
   clear-by : (s : State K V) → clear_step (outline weight s) ≡ outline_made weight (clear_step s)
   clear-by s =
@@ -110,17 +110,17 @@ module _ {K V : Type 0} (weight : V → ℕ) where
 
     landing-by : (k : K) (row : Row K) (what : Landing V) (s : State K V) → landing eq word shade_weight k row (outline_landing weight what) (outline weight s) ≡ outline_made weight (landing eq word weight k row what s)
     landing-by k row (land.Keep v) s =
-        (λ i. if is_kept weight row v s then stores-by k v s (with_load s) (Kept row.sharers) i else aired-by eq k s (with_load s) (Loose row.sharers) i)
-        ∙ cond-ap (outline_made weight) (is_kept weight row v s) (made (with_load s) (storing eq word weight k v s) (Kept row.sharers)) (made (with_load s) (aired eq k s) (Loose row.sharers))
-    landing-by k row land.Loose s = aired-by eq k s (with_load s) (Loose row.sharers)
-    landing-by k row land.Failed s = aired-by eq k s (with_failure s) (Failed row.sharers)
+        (λ i. if is_kept weight row v s then stores-by k v s (with_load s) (Kept row.sharers) i else own_expired-by eq k s (with_load s) (Loose row.sharers) i)
+        ∙ cond-ap (outline_made weight) (is_kept weight row v s) (made (with_load s) (storing eq word weight k v s) (Kept row.sharers)) (made (with_load s) (own_expired eq k s) (Loose row.sharers))
+    landing-by k row land.Loose s = own_expired-by eq k s (with_load s) (Loose row.sharers)
+    landing-by k row land.Failed s = own_expired-by eq k s (with_failure s) (Failed row.sharers)
 
     land-by : (id : ℕ) (k : K) (what : Landing V) (s : State K V) → land_step eq word shade_weight id k (outline_landing weight what) (outline weight s) ≡ outline_made weight (land_step eq word weight id k what s)
     land-by id k what s = at_row (row_of eq k id s.flights)
       where
-        at_row : (o : Option (Row K)) → option_map_or (λ row. landing eq word shade_weight k row (outline_landing weight what) (with_flights (landed id s.flights) (outline weight s))) o (made (outline weight s) (aired eq k (outline weight s)) Gone)
-            ≡ outline_made weight (option_map_or (λ row. landing eq word weight k row what (with_flights (landed id s.flights) s)) o (made s (aired eq k s) Gone))
-        at_row None = aired-by eq k s s Gone
+        at_row : (o : Option (Row K)) → option_map_or (λ row. landing eq word shade_weight k row (outline_landing weight what) (with_flights (landed id s.flights) (outline weight s))) o (made (outline weight s) (own_expired eq k (outline weight s)) Gone)
+            ≡ outline_made weight (option_map_or (λ row. landing eq word weight k row what (with_flights (landed id s.flights) s)) o (made s (own_expired eq k s) Gone))
+        at_row None = own_expired-by eq k s s Gone
         at_row (Some row) = landing-by k row what (with_flights (landed id s.flights) s)
 
     steps-by : (s : State K V) (c : Call K V) → step eq word shade_weight (outline weight s) (outline_call weight c) ≡ outline_made weight (step eq word weight s c)

@@ -5,16 +5,16 @@ use Rattle.std.specs.List.{find, All, AllPairs}
 use Rattle.std.specs.Option.{option_map, option_map_or}
 use Rattle.std.proofs.lemmas.Bool.{eqb-true}
 use Rattle.std.proofs.lemmas.Bool.Decides.{nat_tests}
-use Rattle.wt_regions.specs.declared.kinds.Found.{Found}
-use Rattle.wt_regions.specs.declared.kinds.Found.TheVariants as found
+use Rattle.wt_regions.specs.declared.touch.Found.{Found}
+use Rattle.wt_regions.specs.declared.touch.Found.TheVariants as found
 use Rattle.wt_flights.specs.declared.row.Row.{Row}
 use Rattle.wt_flights.specs.Outcomes.{Leading}
 use Rattle.wt_flights.specs.Rows.{Flights, begun, current_of, current_row, is_current, joined}
-use Rattle.wt_core.specs.declared.kinds.Call.TheVariants.{Seek}
-use Rattle.wt_core.specs.declared.kinds.Foreseen.{Foreseen}
-use Rattle.wt_core.specs.declared.kinds.Foreseen.TheVariants as foreseen
-use Rattle.wt_core.specs.declared.kinds.Reply.{Reply}
-use Rattle.wt_core.specs.declared.kinds.Reply.TheVariants.{Hit, HitLead, Join, Lead}
+use Rattle.wt_core.specs.declared.calls.Call.TheVariants.{Seek}
+use Rattle.wt_core.specs.declared.calls.Foreseen.{Foreseen}
+use Rattle.wt_core.specs.declared.calls.Foreseen.TheVariants as foreseen
+use Rattle.wt_core.specs.declared.calls.Reply.{Reply}
+use Rattle.wt_core.specs.declared.calls.Reply.TheVariants.{Hit, HitLead, Join, Lead}
 use Rattle.wt_core.specs.State.{State, found as found_in, stepped}
 use Rattle.wt_core.specs.Seek.{foreseen_at, foreseen_of, met, refreshes, seek_reply}
 use Rattle.wt_core.specs.Step.{sought, step}
@@ -44,7 +44,7 @@ module _ {K V : Type 0} (eq : K → K → Bool) (k : K) where
       | false ↦ ((v, refl), refl)
     ]
     met-foreseen found.Absent = elsewhere-foreseen (current_of eq k s.flights) refl
-    met-foreseen found.Stale = elsewhere-foreseen (current_of eq k s.flights) refl
+    met-foreseen found.Expired = elsewhere-foreseen (current_of eq k s.flights) refl
 
   sought-reply : (r : Reply V) (s : State K V) → (sought eq k r s).reply ≡ r
   sought-reply (Hit v) s = refl

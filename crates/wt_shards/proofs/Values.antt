@@ -7,19 +7,19 @@ use Rattle.std.specs.Map.{lookup, lookup_entry, remove_entry}
 use Rattle.std.proofs.lemmas.Option.{slice_get-map}
 use Rattle.std.proofs.lemmas.List.{map-append, length-map}
 use Rattle.std.proofs.lemmas.List.Folds.{fold-map}
-use Rattle.wt_regions.specs.declared.kinds.Caps.{Caps}
-use Rattle.wt_regions.specs.declared.kinds.Cause.{Cause}
-use Rattle.wt_regions.specs.declared.kinds.Cause.TheVariants.{Explicit, Replaced, Expired, Size}
-use Rattle.wt_regions.specs.declared.kinds.Fate.{Fate}
-use Rattle.wt_regions.specs.declared.kinds.Fate.TheVariants.{Leaves, Enters, Ousts}
-use Rattle.wt_regions.specs.declared.kinds.Held.{Held}
-use Rattle.wt_regions.specs.declared.kinds.Notice.{Notice}
-use Rattle.wt_regions.specs.Lists.{Entry, Lists, Told, all_entries, weight_of, front, notice, is_expired, main_cap, protected_cap, held_for, cut, found_at, is_hit, has_at, due_at, is_due}
+use Rattle.wt_regions.specs.declared.caps.Caps.{Caps}
+use Rattle.wt_regions.specs.declared.notices.Cause.{Cause}
+use Rattle.wt_regions.specs.declared.notices.Cause.TheVariants.{Explicit, Replaced, Expired, Size}
+use Rattle.wt_regions.specs.declared.settle.Fate.{Fate}
+use Rattle.wt_regions.specs.declared.settle.Fate.TheVariants.{Leaves, Enters, Ousts}
+use Rattle.wt_regions.specs.declared.held.Held.{Held}
+use Rattle.wt_regions.specs.declared.notices.Notice.{Notice}
+use Rattle.wt_regions.specs.Lists.{Entry, Lists, Told, all_entries, weight_of, all_but_last, notice, is_expired, main_cap, protected_cap, held_for, without, found_at, is_hit, has_at, due_at, is_due}
 use Rattle.wt_regions.specs.Touch.{promoted, touched}
 use Rattle.wt_regions.specs.Settle.{last_told, by_fate, duel, fate, overflowed, settled, holds_other, trimmed_once, trimmed_within, trimmed}
-use Rattle.wt_regions.specs.Steps.{without_stale, removed, placed, stored, told_back, expired_of, live_of, cleaned, cleared}
-use Rattle.wt_regions.specs.declared.kinds.Found.{Found}
-use Rattle.wt_regions.specs.declared.kinds.Found.TheVariants.{Hit, Absent, Stale}
+use Rattle.wt_regions.specs.Steps.{without_expired, removed, placed, stored, told_back, expired_of, live_of, cleaned, cleared}
+use Rattle.wt_regions.specs.declared.touch.Found.{Found}
+use Rattle.wt_regions.specs.declared.touch.Found.TheVariants.{Hit, Absent, Expired as FoundExpired}
 use Rattle.wt_shards.specs.Outline.{found_by, held_by, entry_by, notice_by, lists_by, told_by}
 
 -- the last entry
@@ -51,8 +51,8 @@ module _ {K V W : Type 0} (f : V → W) where
   pub last_entry-by : (es : List (Entry K V)) → last_entry (map (entry_by f) es) ≡ option_map (entry_by f) (last_entry es)
   last_entry-by es = rw (length-map es (entry_by f)) (slice_get-map (entry_by f) es (length es - 1))
 
-  pub front-by : (es : List (Entry K V)) → front (map (entry_by f) es) ≡ map (entry_by f) (front es)
-  front-by es = rw (length-map es (entry_by f)) (take-map (entry_by f) (length es - 1) es)
+  pub all_but_last-by : (es : List (Entry K V)) → all_but_last (map (entry_by f) es) ≡ map (entry_by f) (all_but_last es)
+  all_but_last-by es = rw (length-map es (entry_by f)) (take-map (entry_by f) (length es - 1) es)
 
   pub all_entries-by : (r : Lists K V) → all_entries (lists_by f r) ≡ map (entry_by f) (all_entries r)
   all_entries-by r = rw (map-append (entry_by f) r.window (r.probation ++ r.protected), map-append (entry_by f) r.probation r.protected) refl
@@ -91,8 +91,8 @@ module _ {K V W : Type 0} (f : V → W) where
 
   promoted-by : (c : Caps) (e : Entry K V) (ps qs : List (Entry K V)) → promoted c (entry_by f e) (map (entry_by f) ps) (map (entry_by f) qs) ≡ both_by (promoted c e ps qs)
   promoted-by c e ps qs =
-      (λ i. promoted_case (nat_lt (length-map qs (entry_by f) i) (protected_cap c)) (last_entry-by f (e ∷ qs) i) (map (entry_by f) ps) (map (entry_by f) qs) (front-by f (e ∷ qs) i) (entry_by f e))
-      ∙ promoted_case-by (nat_lt (length qs) (protected_cap c)) (last_entry (e ∷ qs)) ps qs (front (e ∷ qs)) e
+      (λ i. promoted_case (nat_lt (length-map qs (entry_by f) i) (protected_cap c)) (last_entry-by f (e ∷ qs) i) (map (entry_by f) ps) (map (entry_by f) qs) (all_but_last-by f (e ∷ qs) i) (entry_by f e))
+      ∙ promoted_case-by (nat_lt (length qs) (protected_cap c)) (last_entry (e ∷ qs)) ps qs (all_but_last (e ∷ qs)) e
 
   module _ (eq : K → K → Bool) (k : K) where
     module _ (h : Held V → Held V) (g : Held W → Held W) (same : (x : Held V) → g (held_by f x) ≡ held_by f (h x)) where
@@ -112,15 +112,15 @@ module _ {K V W : Type 0} (f : V → W) where
     pub held_for-by : (r : Lists K V) → held_for eq k (lists_by f r) ≡ option_map (held_by f) (held_for eq k r)
     held_for-by r = (λ i. lookup (eq k) (all_entries-by f r i)) ∙ lookup-by f (eq k) (all_entries r)
 
-    pub cut-by : (r : Lists K V) → cut eq k (lists_by f r) ≡ lists_by f (cut eq k r)
-    cut-by r = λ i. record (lists_by f r) { window = remove_entry-by f (eq k) r.window i; probation = remove_entry-by f (eq k) r.probation i; protected = remove_entry-by f (eq k) r.protected i }
+    pub without-by : (r : Lists K V) → without eq k (lists_by f r) ≡ lists_by f (without eq k r)
+    without-by r = λ i. record (lists_by f r) { window = remove_entry-by f (eq k) r.window i; probation = remove_entry-by f (eq k) r.probation i; protected = remove_entry-by f (eq k) r.protected i }
 
     pub found_at-by : (now : ℕ) (r : Lists K V) → found_at eq k now (lists_by f r) ≡ found_by f (found_at eq k now r)
-    found_at-by now r = (λ i. option_map_or (λ (h : Held W). if is_expired r.caps now h then Stale else Hit h.value) (held_for-by r i) Absent) ∙ at_held (held_for eq k r)
+    found_at-by now r = (λ i. option_map_or (λ (h : Held W). if is_expired r.caps now h then FoundExpired else Hit h.value) (held_for-by r i) Absent) ∙ at_held (held_for eq k r)
       where
-        at_held : (o : Option (Held V)) → option_map_or (λ (h : Held W). if is_expired r.caps now h then Stale else Hit h.value) (option_map (held_by f) o) Absent ≡ found_by f (option_map_or (λ (h : Held V). if is_expired r.caps now h then Stale else Hit h.value) o Absent)
+        at_held : (o : Option (Held V)) → option_map_or (λ (h : Held W). if is_expired r.caps now h then FoundExpired else Hit h.value) (option_map (held_by f) o) Absent ≡ found_by f (option_map_or (λ (h : Held V). if is_expired r.caps now h then FoundExpired else Hit h.value) o Absent)
         at_held None = refl
-        at_held (Some h) = cond-ap (found_by f) (is_expired r.caps now h) Stale (Hit h.value)
+        at_held (Some h) = cond-ap (found_by f) (is_expired r.caps now h) FoundExpired (Hit h.value)
 
     pub has_at-by : (now : ℕ) (r : Lists K V) → has_at eq k now (lists_by f r) ≡ has_at eq k now r
     has_at-by now r = ap is_hit (found_at-by now r) ∙ still (found_at eq k now r)
@@ -128,7 +128,7 @@ module _ {K V W : Type 0} (f : V → W) where
         still : (x : Found V) → is_hit (found_by f x) ≡ is_hit x
         still (Hit v) = refl
         still Absent = refl
-        still Stale = refl
+        still FoundExpired = refl
 
     pub due_at-by : (now : ℕ) (r : Lists K V) → due_at eq k now (lists_by f r) ≡ due_at eq k now r
     due_at-by now r = (λ i. option_map_or (λ (h : Held W). not (is_expired r.caps now h) && is_due r.caps now h) (held_for-by r i) false) ∙ option_map_or-map (held_by f) (λ (h : Held W). not (is_expired r.caps now h) && is_due r.caps now h) (held_for eq k r) false
@@ -142,7 +142,7 @@ module _ {K V W : Type 0} (f : V → W) where
   by_fate-by : (c : Entry K V) (r : Lists K V) (x : Fate) → by_fate (entry_by f c) (lists_by f r) x ≡ told_by f (by_fate c r x)
   by_fate-by c r (Leaves cause) = refl
   by_fate-by c r Enters = refl
-  by_fate-by c r (Ousts cause) = λ i. told (record (lists_by f r) { probation = entry_by f c ∷ front-by f r.probation i }) (last_told-by f cause r.probation i)
+  by_fate-by c r (Ousts cause) = λ i. told (record (lists_by f r) { probation = entry_by f c ∷ all_but_last-by f r.probation i }) (last_told-by f cause r.probation i)
 
   module _ (estimate : K → ℕ) (now : ℕ) where
     abbrev fate_case : Caps → Entry K W → ℕ → ℕ → Option (Entry K W) → Fate
@@ -161,18 +161,18 @@ module _ {K V W : Type 0} (f : V → W) where
 
     overflowed-by : (r : Lists K V) → overflowed estimate now (lists_by f r) ≡ told_by f (overflowed estimate now r)
     overflowed-by r =
-        (λ i. option_map_or (λ (c : Entry K W). by_fate c (record (lists_by f r) { window = front-by f r.window i }) (fate estimate now r.caps c (map (entry_by f) r.probation) (map (entry_by f) r.protected))) (last_entry-by f r.window i) (told (lists_by f r) []))
+        (λ i. option_map_or (λ (c : Entry K W). by_fate c (record (lists_by f r) { window = all_but_last-by f r.window i }) (fate estimate now r.caps c (map (entry_by f) r.probation) (map (entry_by f) r.protected))) (last_entry-by f r.window i) (told (lists_by f r) []))
         ∙ at_last (last_entry r.window)
       where
         less : Lists K V
-        less = record r { window = front r.window }
+        less = record r { window = all_but_last r.window }
 
-        at_last : (o : Option (Entry K V)) → option_map_or (λ (c : Entry K W). by_fate c (lists_by f (record r { window = front r.window })) (fate estimate now r.caps c (map (entry_by f) r.probation) (map (entry_by f) r.protected))) (option_map (entry_by f) o) (told (lists_by f r) [])
-            ≡ told_by f (option_map_or (λ (c : Entry K V). by_fate c (record r { window = front r.window }) (fate estimate now r.caps c r.probation r.protected)) o (told r []))
+        at_last : (o : Option (Entry K V)) → option_map_or (λ (c : Entry K W). by_fate c (lists_by f (record r { window = all_but_last r.window })) (fate estimate now r.caps c (map (entry_by f) r.probation) (map (entry_by f) r.protected))) (option_map (entry_by f) o) (told (lists_by f r) [])
+            ≡ told_by f (option_map_or (λ (c : Entry K V). by_fate c (record r { window = all_but_last r.window }) (fate estimate now r.caps c r.probation r.protected)) o (told r []))
         at_last None = refl
         at_last (Some c) =
-            (λ i. by_fate (entry_by f c) (lists_by f (record r { window = front r.window })) (fate-by r.caps c r.probation r.protected i))
-            ∙ by_fate-by c (record r { window = front r.window }) (fate estimate now r.caps c r.probation r.protected)
+            (λ i. by_fate (entry_by f c) (lists_by f (record r { window = all_but_last r.window })) (fate-by r.caps c r.probation r.protected i))
+            ∙ by_fate-by c (record r { window = all_but_last r.window }) (fate estimate now r.caps c r.probation r.protected)
 
     pub settled-by : (e : Entry K V) (r : Lists K V) → settled estimate now (entry_by f e) (lists_by f r) ≡ told_by f (settled estimate now e r)
     settled-by e r =
@@ -194,11 +194,11 @@ module _ {K V W : Type 0} (f : V → W) (eq : K → K → Bool) (k : K) where
 
   trimmed_once-by : (r : Lists K V) → trimmed_once eq k (lists_by f r) ≡ option_map (told_by f) (trimmed_once eq k r)
   trimmed_once-by r =
-      (λ i. if holds_other-by r.probation i then Some (told (record (lists_by f r) { probation = front-by f r.probation i }) (last_told-by f Size r.probation i)) else
-      if holds_other-by r.protected i then Some (told (record (lists_by f r) { protected = front-by f r.protected i }) (last_told-by f Size r.protected i)) else
-      if holds_other-by r.window i then Some (told (record (lists_by f r) { window = front-by f r.window i }) (last_told-by f Size r.window i)) else None)
+      (λ i. if holds_other-by r.probation i then Some (told (record (lists_by f r) { probation = all_but_last-by f r.probation i }) (last_told-by f Size r.probation i)) else
+      if holds_other-by r.protected i then Some (told (record (lists_by f r) { protected = all_but_last-by f r.protected i }) (last_told-by f Size r.protected i)) else
+      if holds_other-by r.window i then Some (told (record (lists_by f r) { window = all_but_last-by f r.window i }) (last_told-by f Size r.window i)) else None)
       ∙ once_case (holds_other eq k r.probation) (holds_other eq k r.protected) (holds_other eq k r.window)
-      (told (record r { probation = front r.probation }) (last_told Size r.probation)) (told (record r { protected = front r.protected }) (last_told Size r.protected)) (told (record r { window = front r.window }) (last_told Size r.window))
+      (told (record r { probation = all_but_last r.probation }) (last_told Size r.probation)) (told (record r { protected = all_but_last r.protected }) (last_told Size r.protected)) (told (record r { window = all_but_last r.window }) (last_told Size r.window))
 
   then_within-by : (n : ℕ) → ((s : Lists K V) → trimmed_within eq k n (lists_by f s) ≡ told_by f (trimmed_within eq k n s)) → (b : Bool) (o : Option (Told K V)) (r : Lists K V) → (if b then told (lists_by f r) [] else option_map_or (λ (one : Told K W). let rest : Told K W = trimmed_within eq k n one.0 in (rest.0, one.1 ++ rest.1)) (option_map (told_by f) o) (told (lists_by f r) [])) ≡ told_by f (if b then told r [] else option_map_or (λ (one : Told K V). let rest : Told K V = trimmed_within eq k n one.0 in (rest.0, one.1 ++ rest.1)) o (told r []))
   then_within-by n less true o r = refl
@@ -226,20 +226,20 @@ after n t = (t.0, n ∷ [] ++ t.1)
 
 module _ {K V W : Type 0} (f : V → W) where
   module _ (eq : K → K → Bool) (k : K) (now : ℕ) where
-    pub without_stale-by : (r : Lists K V) → without_stale eq k now (lists_by f r) ≡ told_by f (without_stale eq k now r)
-    without_stale-by r =
-        (λ i. option_map_or (λ (h : Held W). if is_expired r.caps now h then told (cut-by f eq k r i) (notice Expired (k, h) ∷ []) else told (lists_by f r) []) (held_for-by f eq k r i) (told (lists_by f r) []))
+    pub without_expired-by : (r : Lists K V) → without_expired eq k now (lists_by f r) ≡ told_by f (without_expired eq k now r)
+    without_expired-by r =
+        (λ i. option_map_or (λ (h : Held W). if is_expired r.caps now h then told (without-by f eq k r i) (notice Expired (k, h) ∷ []) else told (lists_by f r) []) (held_for-by f eq k r i) (told (lists_by f r) []))
         ∙ at_held (held_for eq k r)
       where
-        at_held : (o : Option (Held V)) → option_map_or (λ (h : Held W). if is_expired r.caps now h then told (lists_by f (cut eq k r)) (notice Expired (k, h) ∷ []) else told (lists_by f r) []) (option_map (held_by f) o) (told (lists_by f r) [])
-            ≡ told_by f (option_map_or (λ (h : Held V). if is_expired r.caps now h then told (cut eq k r) (notice Expired (k, h) ∷ []) else told r []) o (told r []))
+        at_held : (o : Option (Held V)) → option_map_or (λ (h : Held W). if is_expired r.caps now h then told (lists_by f (without eq k r)) (notice Expired (k, h) ∷ []) else told (lists_by f r) []) (option_map (held_by f) o) (told (lists_by f r) [])
+            ≡ told_by f (option_map_or (λ (h : Held V). if is_expired r.caps now h then told (without eq k r) (notice Expired (k, h) ∷ []) else told r []) o (told r []))
         at_held None = refl
-        at_held (Some h) = cond-ap (told_by f) (is_expired r.caps now h) (told (cut eq k r) (notice Expired (k, h) ∷ [])) (told r [])
+        at_held (Some h) = cond-ap (told_by f) (is_expired r.caps now h) (told (without eq k r) (notice Expired (k, h) ∷ [])) (told r [])
 
     pub removed-by : (r : Lists K V) → removed eq k now (lists_by f r) ≡ told_by f (removed eq k now r)
     removed-by r =
-        (λ i. told (cut-by f eq k r i) (option_map_or (λ (h : Held W). notice (if is_expired r.caps now h then Expired else Explicit) (k, h) ∷ []) (held_for-by f eq k r i) []))
-        ∙ (λ i. told (lists_by f (cut eq k r)) (at_held (held_for eq k r) i))
+        (λ i. told (without-by f eq k r i) (option_map_or (λ (h : Held W). notice (if is_expired r.caps now h then Expired else Explicit) (k, h) ∷ []) (held_for-by f eq k r i) []))
+        ∙ (λ i. told (lists_by f (without eq k r)) (at_held (held_for eq k r) i))
       where
         at_held : (o : Option (Held V)) → option_map_or (λ (h : Held W). notice (if is_expired r.caps now h then Expired else Explicit) (k, h) ∷ []) (option_map (held_by f) o) []
             ≡ map (notice_by f) (option_map_or (λ (h : Held V). notice (if is_expired r.caps now h then Expired else Explicit) (k, h) ∷ []) o [])
@@ -252,13 +252,13 @@ module _ {K V W : Type 0} (f : V → W) where
         (λ i. option_map_or (λ (h : Held W). if is_expired r.caps now h then after (notice Expired (e.0, h)) (again i) else told (touched-by f eq e.0 (λ h. e.1) (λ h. held_by f e.1) (λ x. refl) r i) (notice Replaced (e.0, h) ∷ [])) (held_for-by f eq e.0 r i) (settled-by f estimate now e r i))
         ∙ at_held (held_for eq e.0 r)
       where
-        again : settled estimate now (entry_by f e) (cut eq e.0 (lists_by f r)) ≡ told_by f (settled estimate now e (cut eq e.0 r))
-        again = (λ i. settled estimate now (entry_by f e) (cut-by f eq e.0 r i)) ∙ settled-by f estimate now e (cut eq e.0 r)
+        again : settled estimate now (entry_by f e) (without eq e.0 (lists_by f r)) ≡ told_by f (settled estimate now e (without eq e.0 r))
+        again = (λ i. settled estimate now (entry_by f e) (without-by f eq e.0 r i)) ∙ settled-by f estimate now e (without eq e.0 r)
 
-        at_held : (o : Option (Held V)) → option_map_or (λ (h : Held W). if is_expired r.caps now h then after (notice Expired (e.0, h)) (told_by f (settled estimate now e (cut eq e.0 r))) else told (lists_by f (touched eq e.0 (λ h. e.1) r)) (notice Replaced (e.0, h) ∷ [])) (option_map (held_by f) o) (told_by f (settled estimate now e r))
-            ≡ told_by f (option_map_or (λ (h : Held V). if is_expired r.caps now h then after (notice Expired (e.0, h)) (settled estimate now e (cut eq e.0 r)) else told (touched eq e.0 (λ h. e.1) r) (notice Replaced (e.0, h) ∷ [])) o (settled estimate now e r))
+        at_held : (o : Option (Held V)) → option_map_or (λ (h : Held W). if is_expired r.caps now h then after (notice Expired (e.0, h)) (told_by f (settled estimate now e (without eq e.0 r))) else told (lists_by f (touched eq e.0 (λ h. e.1) r)) (notice Replaced (e.0, h) ∷ [])) (option_map (held_by f) o) (told_by f (settled estimate now e r))
+            ≡ told_by f (option_map_or (λ (h : Held V). if is_expired r.caps now h then after (notice Expired (e.0, h)) (settled estimate now e (without eq e.0 r)) else told (touched eq e.0 (λ h. e.1) r) (notice Replaced (e.0, h) ∷ [])) o (settled estimate now e r))
         at_held None = refl
-        at_held (Some h) = cond-ap (told_by f) (is_expired r.caps now h) (after (notice Expired (e.0, h)) (settled estimate now e (cut eq e.0 r))) (told (touched eq e.0 (λ h. e.1) r) (notice Replaced (e.0, h) ∷ []))
+        at_held (Some h) = cond-ap (told_by f) (is_expired r.caps now h) (after (notice Expired (e.0, h)) (settled estimate now e (without eq e.0 r))) (told (touched eq e.0 (λ h. e.1) r) (notice Replaced (e.0, h) ∷ []))
 
     pub stored-by : (r : Lists K V) → stored eq estimate now (entry_by f e) (lists_by f r) ≡ told_by f (stored eq estimate now e r)
     stored-by r =

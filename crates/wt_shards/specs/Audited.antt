@@ -5,9 +5,9 @@ use Rattle.wt_keys.specs.Hash.{shard_of}
 use Rattle.wt_regions.specs.Lists.{Entry, all_entries}
 use Rattle.wt_flights.specs.declared.row.Row.{Row}
 use Rattle.wt_flights.specs.Outcomes.{Leading}
-use Rattle.wt_core.specs.declared.kinds.Call.{Call}
-use Rattle.wt_core.specs.declared.kinds.Call.TheVariants.{Land}
-use Rattle.wt_core.specs.declared.kinds.Config.{Config}
+use Rattle.wt_core.specs.declared.calls.Call.{Call}
+use Rattle.wt_core.specs.declared.calls.Call.TheVariants.{Land}
+use Rattle.wt_core.specs.declared.config.Config.{Config}
 use Rattle.wt_core.specs.State.{State, opening, caps_of}
 use Rattle.wt_core.specs.Lawful.{IsLawful}
 use Rattle.wt_core.specs.Step.{step}

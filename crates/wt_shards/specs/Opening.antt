@@ -3,7 +3,7 @@ use Rattle.std.specs.Prelude.{ℕ, ◌==◌, ◌||◌, if◌then◌else◌, Opti
 use Rattle.std.specs.declared.sync.ledger.Blank.{Blank}
 use Rattle.wt_keys.specs.declared.fault.Field.{Field}
 use Rattle.wt_keys.specs.declared.fault.Field.TheVariants.{Shards}
-use Rattle.wt_core.specs.declared.kinds.Config.{Config}
+use Rattle.wt_core.specs.declared.config.Config.{Config}
 use Rattle.wt_core.specs.State.{config_fault}
 use Rattle.wt_shards.specs.Counts.{IsBlankOf}
 use Rattle.wt_shards.specs.declared.books.Blanks.{Blanks}

@@ -1,8 +1,8 @@
 -- What a step of the shards shows.
 use Rattle.std.specs.Prelude.{◌≡◌, ℕ, ◌+◌, Bool, None}
 use Rattle.wt_regions.specs.Notices.{NoticeList, appended}
-use Rattle.wt_core.specs.declared.kinds.Call.{Call}
-use Rattle.wt_core.specs.declared.kinds.Reply.{Reply}
+use Rattle.wt_core.specs.declared.calls.Call.{Call}
+use Rattle.wt_core.specs.declared.calls.Reply.{Reply}
 use Rattle.wt_core.specs.State.{State}
 use Rattle.wt_core.specs.Step.{step, refusal_of}
 use Rattle.wt_shards.specs.declared.sought.Sought.{Sought}

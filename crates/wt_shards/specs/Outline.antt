@@ -1,16 +1,16 @@
 -- The outline of a cache: each value replaced by its shade, which is its weight.
 use Rattle.std.specs.Prelude.{◌≡◌, ℕ, Bool, map}
-use Rattle.wt_regions.specs.declared.kinds.Found.{Found}
-use Rattle.wt_regions.specs.declared.kinds.Found.TheVariants as found
-use Rattle.wt_regions.specs.declared.kinds.Held.{Held}
-use Rattle.wt_regions.specs.declared.kinds.Notice.{Notice}
+use Rattle.wt_regions.specs.declared.touch.Found.{Found}
+use Rattle.wt_regions.specs.declared.touch.Found.TheVariants as found
+use Rattle.wt_regions.specs.declared.held.Held.{Held}
+use Rattle.wt_regions.specs.declared.notices.Notice.{Notice}
 use Rattle.wt_regions.specs.Lists.{Entry, Lists, Told}
-use Rattle.wt_core.specs.declared.kinds.Call.{Call}
-use Rattle.wt_core.specs.declared.kinds.Call.TheVariants.{Look, Seek, Land, Put, DropKey, Clear, Forget, Clean}
-use Rattle.wt_core.specs.declared.kinds.Land.{Land as Landing}
-use Rattle.wt_core.specs.declared.kinds.Land.TheVariants as land
-use Rattle.wt_core.specs.declared.kinds.Reply.{Reply}
-use Rattle.wt_core.specs.declared.kinds.Reply.TheVariants as reply
+use Rattle.wt_core.specs.declared.calls.Call.{Call}
+use Rattle.wt_core.specs.declared.calls.Call.TheVariants.{Look, Seek, Land, Put, DropKey, Clear, Forget, Clean}
+use Rattle.wt_core.specs.declared.calls.Land.{Land as Landing}
+use Rattle.wt_core.specs.declared.calls.Land.TheVariants as land
+use Rattle.wt_core.specs.declared.calls.Reply.{Reply}
+use Rattle.wt_core.specs.declared.calls.Reply.TheVariants as reply
 use Rattle.wt_core.specs.State.{State, Made}
 use Rattle.wt_core.specs.Step.{step, refusal_of}
 use Rattle.wt_shards.specs.declared.shade.Shade.{Shade}
@@ -21,7 +21,7 @@ module _ {V W : Type 0} (f : V → W) where
   abbrev pub found_by : Found V → Found W
   found_by (found.Hit v) = found.Hit (f v)
   found_by found.Absent = found.Absent
-  found_by found.Stale = found.Stale
+  found_by found.Expired = found.Expired
 
   -- what is held
   abbrev pub held_by : Held V → Held W

@@ -1,7 +1,7 @@
 -- Where a shard stands.
 use Rattle.std.specs.Prelude.{ℕ, None}
 use Rattle.wt_keys.specs.Hash.{shard_of}
-use Rattle.wt_core.specs.declared.kinds.Config.{Config}
+use Rattle.wt_core.specs.declared.config.Config.{Config}
 
 -- which shard, of how many, and what each is made for
 pub record Place : Type 0 where

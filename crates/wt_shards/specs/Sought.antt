@@ -2,8 +2,8 @@
 use Rattle.std.specs.Prelude.{◌≡◌, ℕ, ◌==◌, List, [], ◌∷◌, None, IsSomeAnd}
 use Rattle.std.specs.List.{find}
 use Rattle.wt_flights.specs.Outcomes.{Leading, Known, ticket_of}
-use Rattle.wt_core.specs.declared.kinds.Reply.{Reply}
-use Rattle.wt_core.specs.declared.kinds.Reply.TheVariants as reply
+use Rattle.wt_core.specs.declared.calls.Reply.{Reply}
+use Rattle.wt_core.specs.declared.calls.Reply.TheVariants as reply
 use Rattle.wt_shards.specs.declared.sought.Sought.{Sought}
 use Rattle.wt_shards.specs.declared.sought.Sought.TheVariants.{Hit, HitLead, Join, Lead}
 

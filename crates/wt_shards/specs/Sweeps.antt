@@ -1,8 +1,8 @@
 -- Steps at every shard, one after the other.
 use Rattle.std.specs.Prelude.{◌≡◌, ℕ, zero, suc, Bool, None}
 use Rattle.wt_regions.specs.Notices.{NoticeList, appended}
-use Rattle.wt_core.specs.declared.kinds.Call.{Call}
-use Rattle.wt_core.specs.declared.kinds.Call.TheVariants.{Clear as ClearCall, Clean as CleanCall}
+use Rattle.wt_core.specs.declared.calls.Call.{Call}
+use Rattle.wt_core.specs.declared.calls.Call.TheVariants.{Clear as ClearCall, Clean as CleanCall}
 use Rattle.wt_core.specs.State.{State}
 use Rattle.wt_core.specs.Step.{step, refusal_of}
 use Rattle.wt_shards.specs.declared.sweep.Sweep.{Sweep}

@@ -1,7 +1,7 @@
 // How many loads are open after a call, or why the state refuses it.
 ghost use Rattle.std.specs.Prelude.{◌≡◌, Some, None, IfOk, IfErr, true, length};
 ghost use Rattle.wt_keys.specs.declared.fault.Fault.TheVariants as fault;
-ghost use Rattle.wt_core.specs.declared.kinds.Call.TheVariants as call;
+ghost use Rattle.wt_core.specs.declared.calls.Call.TheVariants as call;
 ghost use Rattle.wt_core.specs.Seek.{foreseen_at};
 ghost use Rattle.wt_core.specs.Step.{refusal_of, spent, step};
 ghost use Rattle.wt_shards.specs.Faults.{is_fault_of, is_seek_fault};
@@ -38,7 +38,8 @@ pub(crate) fn open_met<K: CacheKey, V: Share + Weighs>(
     requires { (limit ≡ core.now.flights.limit) × (met.now ≡ foreseen_at K.eq key now core.now) }
     ensures allowed { IfOk result (λ rows.
         (refusal_of K.eq K.word V.weight core.now (call.Seek key now) ≡ None)
-        × (rows ≡ length (step K.eq K.word V.weight core.now (call.Seek key now)).state.flights.rows)) }
+        × (rows ≡ length
+        (step K.eq K.word V.weight core.now (call.Seek key now)).state.flights.rows)) }
     ensures refusal { IfErr result (λ f.
         refusal_of K.eq K.word V.weight core.now (call.Seek key now) ≡ Some f) }
     ensures faults { IfErr result (λ f. is_seek_fault f ≡ true) }

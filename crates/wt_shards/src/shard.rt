@@ -13,7 +13,7 @@ ghost use Rattle.std.specs.Prelude.{◌≡◌, ℕ, ◌+◌, ◌-◌, ◌<◌, �
 ghost use Rattle.wt_keys.specs.declared.fault.Fault.TheVariants as fault;
 ghost use Rattle.wt_flights.specs.Rows.{row_of};
 ghost use Rattle.wt_regions.specs.Notices.{appended};
-ghost use Rattle.wt_core.specs.declared.kinds.Call.TheVariants as call;
+ghost use Rattle.wt_core.specs.declared.calls.Call.TheVariants as call;
 ghost use Rattle.wt_core.specs.State.{config_fault, stats_of};
 ghost use Rattle.wt_core.specs.Lawful.{AreSmall};
 ghost use Rattle.wt_shards.specs.StateAt.{IsStateAt};

@@ -1,3 +1,3 @@
 pub mod Over
 pub mod Packed
-pub mod Rows
+pub mod Examples

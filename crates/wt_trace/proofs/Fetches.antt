@@ -6,24 +6,24 @@ use Rattle.std.proofs.lemmas.List.Elements.{All-head, All-tail}
 use Rattle.std.proofs.lemmas.Bool.Decides.{nat_tests}
 use Rattle.std.specs.Option.{option_map_or}
 use Rattle.wt_keys.specs.declared.fault.Fault.{Fault}
-use Rattle.wt_regions.specs.declared.kinds.Found.{Found}
-use Rattle.wt_regions.specs.declared.kinds.Found.TheVariants as found
+use Rattle.wt_regions.specs.declared.touch.Found.{Found}
+use Rattle.wt_regions.specs.declared.touch.Found.TheVariants as found
 use Rattle.wt_regions.specs.Lists.{Told}
 use Rattle.wt_flights.specs.declared.row.Row.{Row}
 use Rattle.wt_flights.specs.Rows.{Flights, begun, landed, row_of, current_of, is_current, one_more}
 use Rattle.wt_flights.proofs.Newest.{IsFresh, landed-begun, row_of-begun}
-use Rattle.wt_core.specs.declared.kinds.Call.TheVariants as call
-use Rattle.wt_core.specs.declared.kinds.Land.{Land}
-use Rattle.wt_core.specs.declared.kinds.Land.TheVariants as land
-use Rattle.wt_core.specs.declared.kinds.Reply.{Reply}
-use Rattle.wt_core.specs.declared.kinds.Reply.TheVariants as reply
+use Rattle.wt_core.specs.declared.calls.Call.TheVariants as call
+use Rattle.wt_core.specs.declared.calls.Land.{Land}
+use Rattle.wt_core.specs.declared.calls.Land.TheVariants as land
+use Rattle.wt_core.specs.declared.calls.Reply.{Reply}
+use Rattle.wt_core.specs.declared.calls.Reply.TheVariants as reply
 use Rattle.wt_core.specs.State.{State, Made, made, found as found_in, stepped, with_load, with_flights, with_count}
 use Rattle.wt_core.specs.Seek.{refreshes, met}
-use Rattle.wt_core.specs.Step.{aired, storing, is_kept, landing, sought, spent, refusal_of}
+use Rattle.wt_core.specs.Step.{own_expired, storing, is_kept, landing, sought, spent, refusal_of}
 use Rattle.wt_core.specs.Run.{taken, taken_if}
 use Rattle.wt_trace.specs.declared.line.Act.TheVariants as act
 use Rattle.wt_trace.specs.declared.options.Options.{Options}
-use Rattle.wt_trace.specs.declared.line.Version.{Version}
+use Rattle.wt_trace.specs.declared.version.Version.{Version}
 use Rattle.wt_trace.specs.Keys.{Keys}
 use Rattle.wt_trace.specs.Answers.{load, fetched, take, act_step}
 
@@ -46,7 +46,7 @@ module _ {K : Type 0} (eq : K → K → Bool) (k : K) where
     either false s t u x y = refl
 
     landing_flights : (row : Row K) (what : Land V) (s : State K V) → (landing eq word weight k row what s).state.flights ≡ s.flights
-    landing_flights row (land.Keep v) s = either (is_kept weight row v s) (with_load s) (storing eq word weight k v s) (aired eq k s) (reply.Kept row.sharers) (reply.Loose row.sharers)
+    landing_flights row (land.Keep v) s = either (is_kept weight row v s) (with_load s) (storing eq word weight k v s) (own_expired eq k s) (reply.Kept row.sharers) (reply.Loose row.sharers)
     landing_flights row land.Loose s = refl
     landing_flights row land.Failed s = refl
 
@@ -54,7 +54,7 @@ module _ {K : Type 0} (eq : K → K → Bool) (k : K) where
     landed_at_once : (same : eq k k ≡ true) (t : Flights K) → IsFresh t → (s : State K V) → s.flights ≡ begun k t → (what : Land V) (now : ℕ) → (taken eq word weight s (call.Land t.next k what now)).state.flights.rows ≡ t.rows
     landed_at_once same t fresh s e what now =
         (λ i. (taken_if eq word weight (if is_some (found i) then None else spent s) s (call.Land t.next k what now)).state.flights.rows)
-        ∙ (λ i. (option_map_or (λ row. landing eq word weight k row what (with_flights (landed t.next s.flights) (stepped now s))) (found i) (made (stepped now s) (aired eq k (stepped now s)) reply.Gone)).state.flights.rows)
+        ∙ (λ i. (option_map_or (λ row. landing eq word weight k row what (with_flights (landed t.next s.flights) (stepped now s))) (found i) (made (stepped now s) (own_expired eq k (stepped now s)) reply.Gone)).state.flights.rows)
         ∙ ap (λ (x : Flights K). x.rows) (landing_flights new what (with_flights (landed t.next s.flights) (stepped now s)))
         ∙ (λ i. (landed t.next (e i)).rows)
         ∙ landed-begun k t fresh
@@ -88,7 +88,7 @@ module _ {K : Type 0} (keys : Keys K) (o : Options) (n moment : ℕ) (k : K) (sa
   by_found : (x : Found (Version K)) (s : State K (Version K)) → IsFresh s.flights → after (met keys.eq k x s) s ≡ ids s.flights
   by_found (found.Hit v) s fresh = by_refresh (refreshes keys.eq k s) s fresh v
   by_found found.Absent s fresh = by_current (current_of keys.eq k s.flights) s fresh
-  by_found found.Stale s fresh = by_current (current_of keys.eq k s.flights) s fresh
+  by_found found.Expired s fresh = by_current (current_of keys.eq k s.flights) s fresh
 
   by_refusal : (s : State K (Version K)) → IsFresh s.flights → (fault : Option Fault) →
       let m : Made K (Version K) = taken_if keys.eq keys.word (λ v. v.weight) fault s (call.Seek k moment) in

@@ -1,12 +1,12 @@
 -- A get whose seek opens no flight.
 use Rattle.std.proofs.Common.{◌≡◌, ◌≢◌, ℕ, refl}
-use Rattle.wt_core.specs.declared.kinds.Reply.{Reply}
-use Rattle.wt_core.specs.declared.kinds.Reply.TheVariants as reply
+use Rattle.wt_core.specs.declared.calls.Reply.{Reply}
+use Rattle.wt_core.specs.declared.calls.Reply.TheVariants as reply
 use Rattle.wt_core.specs.State.{Made}
 use Rattle.wt_trace.specs.Answers.{shown, fetched}
 use Rattle.wt_trace.specs.Words.{words_of}
 use Rattle.wt_trace.specs.Keys.{Keys}
-use Rattle.wt_trace.specs.declared.line.Version.{Version}
+use Rattle.wt_trace.specs.declared.version.Version.{Version}
 use Rattle.wt_trace.specs.declared.options.Options.{Options}
 
 module _ {K : Type 0} (keys : Keys K) (o : Options) (n moment : ℕ) (k : K) where

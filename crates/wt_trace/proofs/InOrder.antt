@@ -9,7 +9,7 @@ use Rattle.wt_trace.specs.Answers.{Answers, Shown, line_step, answers_from, answ
 use Rattle.wt_trace.specs.Keys.{Keys}
 use Rattle.wt_trace.specs.Pieces.{pieces, AreEnds, last_end}
 use Rattle.wt_trace.specs.declared.line.Line.{Line}
-use Rattle.wt_trace.specs.declared.line.Version.{Version}
+use Rattle.wt_trace.specs.declared.version.Version.{Version}
 use Rattle.wt_trace.specs.Options.{config_of, option_fault}
 use Rattle.wt_trace.specs.declared.options.Options.{Options}
 use Rattle.wt_trace.proofs.Ranges.{shards_few}

@@ -4,7 +4,7 @@ use Rattle.wt_core.specs.State.{State}
 use Rattle.wt_trace.specs.Answers.{belongs, line_step, line_if}
 use Rattle.wt_trace.specs.Keys.{Keys}
 use Rattle.wt_trace.specs.declared.line.Line.{Line}
-use Rattle.wt_trace.specs.declared.line.Version.{Version}
+use Rattle.wt_trace.specs.declared.version.Version.{Version}
 use Rattle.wt_trace.specs.declared.options.Options.{Options}
 
 -- it leaves the shard, and adds nothing to the text

@@ -6,7 +6,7 @@ use Rattle.std.proofs.lemmas.List.FromFn.{map-range_with_len_more}
 use Rattle.std.specs.List.{flat_map, range_with_len}
 use Rattle.wt_trace.specs.Answers.{Answers}
 use Rattle.wt_trace.specs.Report.{AreTotals, summary, summary_of, count_text}
-use Rattle.wt_core.specs.declared.kinds.Stats.{Stats}
+use Rattle.wt_core.specs.declared.stats.Stats.{Stats}
 
 -- no number is above a bound
 pub record AreBelow (bound : ℕ) (t : Stats) : Type 0 where

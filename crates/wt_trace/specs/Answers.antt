@@ -3,22 +3,22 @@ use Rattle.std.specs.Prelude.{ℕ, ◌+◌, ◌%◌, ◌==◌, Bool, true, false
 use Rattle.std.specs.List.{flat_map}
 use Rattle.std.specs.Option.{option_map_or}
 use Rattle.wt_keys.specs.Hash.{shard_of}
-use Rattle.wt_regions.specs.declared.kinds.Notice.{Notice}
+use Rattle.wt_regions.specs.declared.notices.Notice.{Notice}
 use Rattle.wt_flights.specs.Rows.{first_of}
-use Rattle.wt_core.specs.declared.kinds.Call.{Call}
-use Rattle.wt_core.specs.declared.kinds.Call.TheVariants as call
-use Rattle.wt_core.specs.declared.kinds.Land.{Land}
-use Rattle.wt_core.specs.declared.kinds.Land.TheVariants as land
-use Rattle.wt_core.specs.declared.kinds.Reply.{Reply}
-use Rattle.wt_core.specs.declared.kinds.Reply.TheVariants as reply
-use Rattle.wt_core.specs.declared.kinds.Stats.{Stats}
+use Rattle.wt_core.specs.declared.calls.Call.{Call}
+use Rattle.wt_core.specs.declared.calls.Call.TheVariants as call
+use Rattle.wt_core.specs.declared.calls.Land.{Land}
+use Rattle.wt_core.specs.declared.calls.Land.TheVariants as land
+use Rattle.wt_core.specs.declared.calls.Reply.{Reply}
+use Rattle.wt_core.specs.declared.calls.Reply.TheVariants as reply
+use Rattle.wt_core.specs.declared.stats.Stats.{Stats}
 use Rattle.wt_core.specs.State.{State, Made, opening, stats_of}
 use Rattle.wt_core.specs.Run.{taken}
 use Rattle.wt_trace.specs.declared.line.Act.{Act}
 use Rattle.wt_trace.specs.declared.line.Act.TheVariants as act
 use Rattle.wt_trace.specs.declared.line.Line.{Line}
 use Rattle.wt_trace.specs.declared.options.Options.{Options}
-use Rattle.wt_trace.specs.declared.line.Version.{Version}
+use Rattle.wt_trace.specs.declared.version.Version.{Version}
 use Rattle.wt_trace.specs.Keys.{Keys}
 use Rattle.wt_trace.specs.Line.{key_of}
 use Rattle.wt_trace.specs.Words.{words_of, loaded_words, notice_text}

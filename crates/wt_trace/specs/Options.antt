@@ -2,7 +2,7 @@
 use Rattle.std.specs.Prelude.{ℕ, ◌+◌, ◌/◌, ◌==◌, nat_lt, max, Bool, not, ◌&&◌, ◌||◌, if◌then◌else◌, Option, None, Some, unwrap_or}
 use Rattle.wt_keys.specs.declared.fault.Field.{Field}
 use Rattle.wt_keys.specs.declared.fault.Field.TheVariants.{Shards, Entries, Window, Bound, Modulus, AfterWrite, AfterAccess, Refresh, FailMod, Flights, Ring, Threads, Turn, Workers}
-use Rattle.wt_core.specs.declared.kinds.Config.{Config}
+use Rattle.wt_core.specs.declared.config.Config.{Config}
 use Rattle.wt_regions.specs.Lawful.{is_zero}
 use Rattle.wt_trace.specs.declared.options.Options.{Options}
 

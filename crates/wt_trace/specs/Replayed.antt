@@ -15,9 +15,9 @@ pub record Gave (old new : Option (List ℕ)) (bytes : List ℕ) : Type 0 where
   pub few : length bytes ≤ 65000001
   pub all : (length bytes ≡ 65000001) ⊎ IsAtEnd new
 
--- what was known to be written grew by a front of the bytes
-abbrev pub AppendsFront : Option (List ℕ) → Option (List ℕ) → List ℕ → Type 0
-AppendsFront old new bytes = (front back : List ℕ) × (bytes ≡ front ++ back) × Appends old new front
+-- what was known to be written grew by a prefix of the bytes
+abbrev pub AppendsPrefix : Option (List ℕ) → Option (List ℕ) → List ℕ → Type 0
+AppendsPrefix old new bytes = (front back : List ℕ) × (bytes ≡ front ++ back) × Appends old new front
 
 -- By the outcome: what became of the reader (r, s: before, after) and of the writer (w, x).
 abbrev pub Replayed : Options → Option (List ℕ) → Option (List ℕ) → Option (List ℕ) → Option (List ℕ) → Result (Unit {0}) ReplayFault → Type 0
@@ -25,7 +25,7 @@ Replayed o r s w x (Err (Cache NoMemory)) = Keeps w x
 Replayed o r s w x (Err (Cache (BadConfig field))) = (option_fault o ≡ Some field) × Keeps r s × Keeps w x
 Replayed o r s w x (Err ReadFault) = Keeps w x
 Replayed o r s w x (Err (GateShut n)) = Keeps w x
-Replayed o r s w x (Err WriteFault) = (bytes : List ℕ) × Gave r s bytes × AppendsFront w x (report o bytes).text
+Replayed o r s w x (Err WriteFault) = (bytes : List ℕ) × Gave r s bytes × AppendsPrefix w x (report o bytes).text
 Replayed o r s w x outcome = (bytes : List ℕ) × Gave r s bytes × Appends w x (report o bytes).text × (outcome ≡ (report o bytes).verdict)
 
 -- whether a fault is one of the options

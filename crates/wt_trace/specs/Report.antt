@@ -1,7 +1,7 @@
 -- The report of a trace.
 use Rattle.std.specs.Prelude.{◌≡◌, ℕ, ◌+◌, ◌-◌, ◌*◌, min, Bool, true, false, if◌then◌else◌, List, [], ◌++◌, map, length, get_or, drop, sum_by, is_ok, Ok, Err, codes, decimal}
 use Rattle.std.specs.List.{flat_map, range_with_len}
-use Rattle.wt_core.specs.declared.kinds.Stats.{Stats}
+use Rattle.wt_core.specs.declared.stats.Stats.{Stats}
 use Rattle.wt_trace.specs.declared.fault.ReplayFault.TheVariants.{BadLine, LineTooLong, TooManyLines}
 use Rattle.wt_trace.specs.declared.options.Options.{Options}
 use Rattle.wt_trace.specs.Keys.{Keys, numbers, names}

@@ -1,12 +1,12 @@
 -- The words of a report.
 use Rattle.std.specs.Prelude.{ℕ, ◌==◌, if◌then◌else◌, List, [], ◌++◌, codes, decimal}
 use Rattle.wt_keys.specs.declared.fault.Fault.TheVariants.{TooHeavy, TooManyFlights}
-use Rattle.wt_regions.specs.declared.kinds.Cause.{Cause}
-use Rattle.wt_regions.specs.declared.kinds.Cause.TheVariants.{Explicit, Replaced, Expired, Size}
-use Rattle.wt_regions.specs.declared.kinds.Notice.{Notice}
-use Rattle.wt_core.specs.declared.kinds.Reply.{Reply}
-use Rattle.wt_core.specs.declared.kinds.Reply.TheVariants as reply
-use Rattle.wt_trace.specs.declared.line.Version.{Version}
+use Rattle.wt_regions.specs.declared.notices.Cause.{Cause}
+use Rattle.wt_regions.specs.declared.notices.Cause.TheVariants.{Explicit, Replaced, Expired, Size}
+use Rattle.wt_regions.specs.declared.notices.Notice.{Notice}
+use Rattle.wt_core.specs.declared.calls.Reply.{Reply}
+use Rattle.wt_core.specs.declared.calls.Reply.TheVariants as reply
+use Rattle.wt_trace.specs.declared.version.Version.{Version}
 use Rattle.wt_trace.specs.Keys.{Keys}
 
 -- the name of a cause

@@ -26,7 +26,7 @@ pub enum ReplayFault {
     /// The reader failed. Nothing was written.
     #[error("the trace could not be read")]
     ReadFault,
-    /// The writer failed, or took nothing. A front of the report was written.
+    /// The writer failed, or took nothing. A prefix of the report was written.
     #[error("the report could not be written")]
     WriteFault,
     /// A thread was not let through before line n. Nothing was written.

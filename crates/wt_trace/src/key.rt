@@ -3,7 +3,7 @@ ghost use Rattle.std.specs.Prelude.{◌≡◌, ◌++◌, ℕ, List, Option, OnOk
 ghost use Rattle.std.specs.List.{list_all};
 ghost use Rattle.wt_trace.specs.Keys.{number_of, name_of, is_name_byte};
 
-use crate::line::number_of;
+use crate::bytes::number_of;
 use itoa::Buffer;
 use std::alloc::AllocError;
 use wt_keys::{CacheKey, Name};

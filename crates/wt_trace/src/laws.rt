@@ -7,7 +7,7 @@ ghost use Rattle.wt_trace.specs.Calls.{IsRun};
 ghost use Rattle.wt_trace.specs.Keys.{keys_by};
 ghost use Rattle.wt_trace.specs.declared.line.Act.TheVariants as act;
 ghost use Rattle.wt_trace.specs.declared.line.Line.{Line};
-ghost use Rattle.wt_trace.specs.declared.line.Version.{Version};
+ghost use Rattle.wt_trace.specs.declared.version.Version.{Version};
 ghost use Rattle.wt_trace.specs.declared.options.Options.{Options};
 
 use crate::key::TraceKey;

@@ -4,6 +4,7 @@
 
 mod answers;
 mod by_shard;
+mod bytes;
 mod fault;
 mod gate;
 mod key;
@@ -21,16 +22,18 @@ mod tallied;
 #[cfg(test)]
 mod tests;
 mod trace;
+mod version;
 mod words;
 
 pub use fault::{ReplayFault, status_and_line};
 pub use gate::{Gate, Open};
 pub use key::TraceKey;
 pub use laws::{a_get_leaves_no_load_open, a_shard_is_a_run_of_its_calls};
-pub use line::{Act, Line, Version, reads_every_line};
+pub use line::{Act, Line, reads_every_line};
 pub use options::{MOST_THREADS, MOST_WEIGHT, Options};
 pub use report::{behind_header, summary_text};
 pub use rules::{fails_by, weight_by};
 pub use run::{MOST_BYTES, read_up_to, replay, replay_by_shard, write_out};
 pub use tallied::Tallied;
 pub use trace::{Lines, read_lines};
+pub use version::Version;

@@ -1,13 +1,10 @@
 // A line of a trace, read from its bytes.
-ghost use Rattle.std.specs.Prelude.{◌≡◌, ◌==◌, ◌^◌, ◌<◌, ◌≤◌, ◌↔◌, ℕ, List, Some, position, IfSome, IsNone};
-ghost use Rattle.std.specs.List.{before_first, after_first};
-ghost use Rattle.std.specs.Str.Parse.{AllDigits, digits_value};
-ghost use Rattle.wt_trace.specs.Keys.{IsNumber, IsName, number_of, numbers, names};
+ghost use Rattle.std.specs.Prelude.{◌≡◌};
+ghost use Rattle.wt_trace.specs.Keys.{IsNumber, IsName, numbers, names};
 ghost use Rattle.wt_trace.specs.Line as spec;
 
+use crate::bytes::{cut, number_of};
 use crate::key::TraceKey;
-use wt_core::Weighs;
-use wt_keys::{Answers, CacheKey, NoMemory, Share};
 
 /// What a line asks for.
 #[derive(Clone, Copy, Debug)]
@@ -52,84 +49,6 @@ pub struct Line<K> {
     pub moment: u64,
     /// What is done.
     pub act: Act<K>,
-}
-
-/// A value of a trace.
-#[derive(Clone, Copy, Debug)]
-pub struct Version<K> {
-    /// The key that it was made for.
-    pub key: K,
-    /// The number of the line that made it, which the report prints.
-    pub line: u64,
-    /// Its weight.
-    pub weight: u32,
-}
-
-impl<K: CacheKey> Share for Version<K> {
-    fn share(&self) -> Result<Version<K>, NoMemory> {
-        Ok(*self)
-    }
-}
-
-impl<K> Weighs for Version<K> {
-    ghost weight = { λ v. v.weight };
-
-    fn weight(&self) -> u32 {
-        self.weight
-    }
-}
-
-/// A value answers the key that it was made for, and no other.
-impl<K: CacheKey> Answers<K> for Version<K> {
-    ghost answers = { λ v k. K.eq v.key k };
-
-    fn answers(&self, key: &K) -> bool {
-        self.key == *key
-    }
-}
-
-// The value of digits, unless it is 2^64 or more.
-fn value_of(digits: &[u8]) -> Option<u64>
-    ensures some { IfSome result (λ n. AllDigits 10 digits.now × (n ≡ digits_value 10 digits.now)
-        × (n < 2 ^ 64)) }
-    ensures none { IsNone result → AllDigits 10 digits.now → 2 ^ 64 ≤ digits_value 10 digits.now }
-{
-    let mut n = 0u64;
-    for b in digits {
-        if !b.is_ascii_digit() {
-            return None;
-        }
-        n = n.checked_mul(10)?.checked_add(u64::from(*b - b'0'))?;
-    }
-    Some(n)
-}
-
-/// Returns the number that 1 to 20 digits spell, below 2^64.
-pub fn number_of(digits: &[u8]) -> Option<u64>
-    ensures { result ≡ number_of digits.now }
-{
-    if digits.len() < 1 || 20 < digits.len() {
-        return None;
-    }
-    value_of(digits)
-}
-
-// Where such a byte stands first.
-pub(crate) fn place_of(bytes: &[u8], stop: u8) -> Option<usize>
-    ensures { result ≡ position (λ b. b == stop) bytes.now }
-{
-    bytes.iter().position(|b| *b == stop)
-}
-
-/// Returns the bytes before the first such byte, and those behind it.
-pub fn cut(bytes: &[u8], stop: u8) -> (&[u8], &[u8])
-    ensures front { result.0.now ≡ before_first (λ b. b == stop) bytes.now }
-    ensures back { result.1.now ≡ after_first (λ b. b == stop) bytes.now }
-{
-    match place_of(bytes, stop) {
-        Some(at) => (&bytes[..at], &bytes[at + 1..]),
-        None => (bytes, &[]),
-    }
 }
 
 /// Returns the line that the bytes spell: a moment, one space, a letter, and for most letters one

@@ -4,8 +4,8 @@
 ghost use Rattle.std.specs.Prelude.{◌≡◌, ◌==◌, ◌+◌, ◌<◌, ◌≤◌, ℕ, [], ◌++◌, IfOk, IfSome, None, position, get_or, slice_set, drop, length, vec_len};
 ghost use Rattle.wt_trace.specs.Trace.{IsFaultless, lines_of, lines_of_all, trace_from};
 
+use crate::bytes::place_of;
 use crate::key::TraceKey;
-use crate::line::place_of;
 use crate::pieces::{Piece, Pieces};
 use crate::trace::{Lines, MOST_LINES, read_lines};
 use std::alloc::{AllocError, Global};

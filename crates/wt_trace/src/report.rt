@@ -10,10 +10,11 @@ ghost use Rattle.wt_trace.specs.Trace.{lines_of, is_header, trace_from};
 ghost use Rattle.wt_trace.specs.declared.fault.ReplayFault.{ReplayFault};
 
 use crate::answers::Answers;
+use crate::bytes::cut;
 use crate::fault::ReplayFault;
 use crate::gate::Open;
 use crate::key::{TraceKey, show_number};
-use crate::line::{Line, cut};
+use crate::line::Line;
 use crate::options::Options;
 use crate::pieces::Walk;
 use crate::shard::shard_answers;

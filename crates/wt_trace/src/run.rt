@@ -1,7 +1,7 @@
 // From a reader to a writer.
 ghost use Rattle.std.specs.Prelude.{◌≡◌, ◌+◌, ◌-◌, ◌<◌, ◌≤◌, ◌^◌, ◌⊎◌, ◌↔◌, length, vec_len, MatchResult, MatchOption, IfOk, OnOk, OnErr, IfErr, Ok, Err, true, false};
 ghost use Rattle.std.specs.Io.KnownBytes.{Keeps, Appends, Consumes, IsAtEnd};
-ghost use Rattle.wt_trace.specs.Replayed.{Replayed, AppendsFront, Rises, ShutsOnly, LetThrough, is_config_fault};
+ghost use Rattle.wt_trace.specs.Replayed.{Replayed, AppendsPrefix, Rises, ShutsOnly, LetThrough, is_config_fault};
 ghost use Rattle.wt_trace.specs.Options.{option_fault};
 ghost use Rattle.wt_keys.specs.declared.fault.Fault.TheVariants as cache;
 ghost use Rattle.wt_trace.specs.declared.fault.ReplayFault.TheVariants as fault;
@@ -60,12 +60,12 @@ pub fn read_up_to<R: Read>(
 
 /// Writes all of the bytes. Takes no memory.
 ///
-/// `WriteFault` exactly where the writer failed or took nothing: a front of the bytes was written.
+/// `WriteFault` exactly where the writer failed or took nothing: a prefix of the bytes was written.
 pub fn write_out<W: Write>(writer: &mut Tallied<W>, bytes: &[u8]) -> Result<(), ReplayFault>
     ensures ok { OnOk result (Appends (W.contents writer.old.inner) (W.contents writer.new.inner)
         bytes.now) }
     ensures err { IfErr result (λ e. (e ≡ fault.WriteFault)
-        × AppendsFront (W.contents writer.old.inner) (W.contents writer.new.inner) bytes.now) }
+        × AppendsPrefix (W.contents writer.old.inner) (W.contents writer.new.inner) bytes.now) }
     ensures kind { IfErr result (λ e. is_config_fault e ≡ false) }
     ensures failed { Rises writer.old.failures writer.new.failures result fault.WriteFault }
 {
@@ -84,7 +84,7 @@ pub fn write_out<W: Write>(writer: &mut Tallied<W>, bytes: &[u8]) -> Result<(), 
 /// Reads until the reader's end, its failure or 65,000,001 bytes, and makes the whole report before
 /// it writes. Faults in their order: an option out of its range (nothing was read or written);
 /// `ReadFault`, exactly where the reader failed, and no memory (nothing was written); `WriteFault`,
-/// exactly where the writer failed or took nothing (a front of the report was written); then the
+/// exactly where the writer failed or took nothing (a prefix of the report was written); then the
 /// fault of the first faulty line (the report of the lines before it was written). Takes memory for
 /// the bytes, the lines, what the shards answer and the report.
 pub fn replay<R: Read, W: Write>(

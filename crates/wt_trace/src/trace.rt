@@ -3,9 +3,10 @@ ghost use Rattle.std.specs.Prelude.{◌≡◌, ◌+◌, ◌≤◌, IfOk, length}
 ghost use Rattle.wt_trace.specs.Trace.{lines_of, trace_from};
 ghost use Rattle.wt_trace.specs.Trace as spec;
 
+use crate::bytes::cut;
 use crate::fault::ReplayFault;
 use crate::key::TraceKey;
-use crate::line::{Line, cut, line_of};
+use crate::line::{Line, line_of};
 use std::alloc::Global;
 use wt_keys::NoMemory;
 

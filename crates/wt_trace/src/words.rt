@@ -5,7 +5,7 @@ ghost use Rattle.wt_trace.specs.Keys.{keys_by};
 ghost use Rattle.wt_trace.specs.Words as spec;
 
 use crate::key::{TraceKey, show_number};
-use crate::line::Version;
+use crate::version::Version;
 use std::alloc::AllocError;
 use wt_core::{Cause, Notice, Reply};
 use wt_keys::Fault;

@@ -1,5 +1,5 @@
-// Refused memory: a call that is refused changes nothing and goes well when it is tried again, and a
-// loaded value that can't be stored is answered all the same. At most one allocation is refused.
+// Refused memory: a call that is refused changes nothing and goes well when it is tried again, and
+// a loaded value that can't be stored is answered all the same. At most one allocation is refused.
 ghost use Rattle.std.specs.Prelude.{◌≡◌};
 ghost use Rattle.wt_shards.specs.Opening.{AreBlanksOf};
 

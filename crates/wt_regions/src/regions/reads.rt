@@ -5,7 +5,7 @@ ghost use Rattle.wt_regions.specs.Lawful.{IsLawful};
 ghost use Rattle.wt_regions.specs.Lists.{all_entries, due_at, has_at, region_of, weight_of};
 
 use super::Regions;
-use crate::kinds::Region;
+use crate::caches::Region;
 use crate::weighs::Weighs;
 use std::alloc::Global;
 use wt_keys::{CacheKey, NoMemory, Share};

@@ -154,7 +154,7 @@ fn an_own_expired_entry_leaves_first(rt: HostRuntime) -> Result<(), Fail> {
     run.plain_put(1, 3, 100)?;
     run.expect_told(&rt, &[(1, 2, Cause::Replaced)]);
     assert!(rt; run.regions.has(1, 199) && !run.regions.has(1, 200));
-    assert!(rt; matches!(run.look(1, 200)?, Found::Stale));
+    assert!(rt; matches!(run.look(1, 200)?, Found::Expired));
     assert!(rt; !run.remove(1, 200));
     run.expect_told(&rt, &[(1, 3, Cause::Expired)]);
     assert!(rt; matches!(run.look(1, 200)?, Found::Absent));

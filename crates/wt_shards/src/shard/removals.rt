@@ -2,8 +2,8 @@
 ghost use Rattle.std.specs.Prelude.{◌≡◌, ℕ, ◌+◌, ◌<◌, ◌≤◌, None, Some, [], IfOk, IfErr, false, OnOk, OnErr, IsOk, IsOkUnless, MatchOption, Ok, Err, IsTrue, is_some, length, true, IfSome};
 ghost use Rattle.wt_keys.specs.declared.fault.Fault.TheVariants as fault;
 ghost use Rattle.wt_regions.specs.Notices.{appended};
-ghost use Rattle.wt_core.specs.declared.kinds.Call.TheVariants as call;
-ghost use Rattle.wt_core.specs.declared.kinds.Reply.TheVariants as reply;
+ghost use Rattle.wt_core.specs.declared.calls.Call.TheVariants as call;
+ghost use Rattle.wt_core.specs.declared.calls.Reply.TheVariants as reply;
 ghost use Rattle.wt_shards.specs.Counts.{counted};
 ghost use Rattle.wt_shards.specs.Told.{HasTold};
 ghost use Rattle.wt_shards.specs.Faults.{is_step_fault, is_seek_fault, is_put_fault};

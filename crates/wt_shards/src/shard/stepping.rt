@@ -3,7 +3,7 @@ ghost use Rattle.std.specs.Prelude.{◌≡◌, ℕ, ◌+◌, ◌<◌, ◌≤◌,
 ghost use Rattle.std.specs.Option.{option_to_list};
 ghost use Rattle.wt_keys.specs.declared.fault.Fault.TheVariants as fault;
 ghost use Rattle.wt_regions.specs.Notices.{appended};
-ghost use Rattle.wt_core.specs.declared.kinds.Call.TheVariants as call;
+ghost use Rattle.wt_core.specs.declared.calls.Call.TheVariants as call;
 ghost use Rattle.wt_core.specs.Seek.{foreseen_at};
 ghost use Rattle.wt_shards.specs.Counts.{counted, is_hit};
 ghost use Rattle.wt_shards.specs.Told.{HasTold};
@@ -32,7 +32,8 @@ impl<K: CacheKey, V: Share + Weighs + Answers<K>, S: ShardLedger, H: Ledger> Sha
         requires { met.now ≡ foreseen_at K.eq key now self.now.core }
         ensures allowed { IfOk result (λ rows.
             (refusal_of K.eq K.word V.weight self.now.core (call.Seek key now) ≡ None)
-            × (rows ≡ length (step K.eq K.word V.weight self.now.core (call.Seek key now)).state.flights.rows)) }
+            × (rows ≡ length
+            (step K.eq K.word V.weight self.now.core (call.Seek key now)).state.flights.rows)) }
         ensures refusal { IfErr result (λ f.
             refusal_of K.eq K.word V.weight self.now.core (call.Seek key now) ≡ Some f) }
         ensures faults { IfErr result (λ f. is_seek_fault f ≡ true) }

@@ -1,7 +1,7 @@
 // One step at one shard, under its lock.
 ghost use Rattle.std.specs.Prelude.{◌≡◌, ◌<◌, ◌≤◌, false, true, IsTrue, IfOk, IfErr, OnOk, OnErr};
-ghost use Rattle.wt_core.specs.declared.kinds.Call.TheVariants as call;
-ghost use Rattle.wt_core.specs.declared.kinds.Reply.TheVariants as reply;
+ghost use Rattle.wt_core.specs.declared.calls.Call.TheVariants as call;
+ghost use Rattle.wt_core.specs.declared.calls.Reply.TheVariants as reply;
 ghost use Rattle.wt_shards.specs.Asked.{LandAnswers, ReplyAnswers};
 ghost use Rattle.wt_shards.specs.Audited.{IsHome};
 ghost use Rattle.wt_shards.specs.Counts.{counted, is_hit};

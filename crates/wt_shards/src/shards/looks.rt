@@ -1,6 +1,6 @@
 // Look-ups, each at the shard of its key.
 ghost use Rattle.std.specs.Prelude.{◌≡◌, ◌<◌, ◌≤◌, true, IfOk, IfErr, OnErr};
-ghost use Rattle.wt_core.specs.declared.kinds.Call.TheVariants as call;
+ghost use Rattle.wt_core.specs.declared.calls.Call.TheVariants as call;
 ghost use Rattle.wt_shards.specs.Asked.{ReplyAnswers};
 ghost use Rattle.wt_shards.specs.Counts.{is_hit};
 ghost use Rattle.wt_shards.specs.Faults.{is_step_fault, is_seek_fault};

@@ -1,7 +1,7 @@
 // Removals of entries, and of loads from what further callers join, each at the shard of its key.
 ghost use Rattle.std.specs.Prelude.{◌≡◌, ◌<◌, ◌≤◌, false, true, IfOk, IfErr, OnOk, OnErr};
-ghost use Rattle.wt_core.specs.declared.kinds.Call.TheVariants as call;
-ghost use Rattle.wt_core.specs.declared.kinds.Reply.TheVariants as reply;
+ghost use Rattle.wt_core.specs.declared.calls.Call.TheVariants as call;
+ghost use Rattle.wt_core.specs.declared.calls.Reply.TheVariants as reply;
 ghost use Rattle.wt_shards.specs.Faults.{is_step_fault};
 ghost use Rattle.wt_shards.specs.Outer.{IsSomeStep};
 ghost use Rattle.wt_shards.specs.Passes.{with_step, steps_at};

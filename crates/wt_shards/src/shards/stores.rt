@@ -1,7 +1,7 @@
 // Stores, by a caller and by the landing of a load, each at the shard of its key.
 ghost use Rattle.std.specs.Prelude.{◌≡◌, ◌<◌, ◌≤◌, false, true, IsTrue, IfOk, IfErr, OnOk, OnErr};
-ghost use Rattle.wt_core.specs.declared.kinds.Call.TheVariants as call;
-ghost use Rattle.wt_core.specs.declared.kinds.Reply.TheVariants as reply;
+ghost use Rattle.wt_core.specs.declared.calls.Call.TheVariants as call;
+ghost use Rattle.wt_core.specs.declared.calls.Reply.TheVariants as reply;
 ghost use Rattle.wt_shards.specs.Asked.{LandAnswers};
 ghost use Rattle.wt_shards.specs.Faults.{is_step_fault, is_put_fault};
 ghost use Rattle.wt_shards.specs.Outer.{IsSomeStep};

@@ -1,7 +1,7 @@
 // Steps at every shard, one after the other.
 ghost use Rattle.std.specs.Prelude.{◌≡◌, ◌+◌, ◌*◌, ◌<◌, ◌≤◌, ℕ, false, true, IfErr, OnOk, OnErr};
-ghost use Rattle.wt_core.specs.declared.kinds.Call.TheVariants as call;
-ghost use Rattle.wt_core.specs.declared.kinds.Reply.TheVariants as reply;
+ghost use Rattle.wt_core.specs.declared.calls.Call.TheVariants as call;
+ghost use Rattle.wt_core.specs.declared.calls.Reply.TheVariants as reply;
 ghost use Rattle.wt_shards.specs.Counts.{counted};
 ghost use Rattle.wt_shards.specs.Place.{place_of};
 ghost use Rattle.wt_shards.specs.Passes.{with_step, with_steps};

@@ -87,7 +87,7 @@ fn a_reader_that_fails_leaves_nothing_written(rt: HostRuntime) {
 }
 
 #[test]
-fn a_writer_that_fails_took_a_front_of_the_report(rt: HostRuntime) {
+fn a_writer_that_fails_took_a_prefix_of_the_report(rt: HostRuntime) {
     let rows: [(&[u8], u8, bool, &[u8]); 4] = [
         (FIRST, 3, true, b"1 p"),
         (FIRST, 0, false, b""),

@@ -1,4 +1,4 @@
-use Rattle.wt_core.proofs.Outdated.{stale_is_unstored}
+use Rattle.wt_core.proofs.StaleLoads.{stale_is_unstored}
 use Rattle.wt_core.proofs.laws.stale_results_are_not_stored.Goals as goal
 
 pub returns : goal.returns

@@ -1,5 +1,5 @@
 use Rattle.wt_core.specs.State.{config_fault}
-use Rattle.wt_core.specs.declared.cache.Core.{Core}
+use Rattle.wt_core.specs.declared.sequential.Core.{Core}
 use Rattle.wt_ffi.specs.declared.token.Token.{Token}
 use Rattle.wt_ffi.specs.declared.cached.Cached.{Cached}
 use Rattle.wt_ffi.proofs.Refusals.{passed-on}

@@ -1,10 +1,10 @@
 use Rattle.std.proofs.Common.{◌≡◌, drop, length, Some, slice_get, sym, ap, ◌∙◌, add-one, arith}
 use Rattle.circular_buffer.specs.Buffer.{Buffer, buffer}
 use Rattle.wt_core.specs.Run.{taken}
-use Rattle.wt_core.specs.declared.kinds.Call.{Call}
+use Rattle.wt_core.specs.declared.calls.Call.{Call}
 use Rattle.wt_core.specs.State.{State}
 use Rattle.wt_regions.specs.Notices.{NoticeList}
-use Rattle.wt_regions.specs.declared.kinds.Caps.{Caps}
+use Rattle.wt_regions.specs.declared.caps.Caps.{Caps}
 use Rattle.wt_shards.specs.declared.shade.Shade.{Shade}
 use Rattle.wt_shards.specs.Outline.{shade_weight}
 use Rattle.wt_shards.proofs.Runs.{slice_get-drop, drop-suc, run-take}

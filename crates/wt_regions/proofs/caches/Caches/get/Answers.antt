@@ -65,16 +65,16 @@ returns-in-Nowhere-clause-state g c =
     let look = subst (IsLook g.K.PartialEq.eq (g.met.K.CacheKey g.world.𝓛 g.world.𝓜 g.world.𝓡 ((λ s x. x), (λ x. x), (λ x. x), λ x. x)).same c.args.key c.args.now r.caps r.window r.probation r.protected) is (look-is g.K.PartialEq.eq (g.met.K.CacheKey g.world.𝓛 g.world.𝓜 g.world.𝓡 ((λ s x. x), (λ x. x), (λ x. x), λ x. x)).same c.args.key c.args.now r.caps r.window r.probation r.protected) in
     sym look.1
 
-pub returns-in-Stale-clause-found : goal.returns-in-Stale-clause-found
-returns-in-Stale-clause-found g c =
+pub returns-in-Expired-clause-found : goal.returns-in-Expired-clause-found
+returns-in-Expired-clause-found g c =
     let r = c.args.self.now in
-    let is = sym c.in_ok-value.ensures.found ∙ c.in-Stale.is in
+    let is = sym c.in_ok-value.ensures.found ∙ c.in-Expired.is in
     let look = subst (IsLook g.K.PartialEq.eq (g.met.K.CacheKey g.world.𝓛 g.world.𝓜 g.world.𝓡 ((λ s x. x), (λ x. x), (λ x. x), λ x. x)).same c.args.key c.args.now r.caps r.window r.probation r.protected) is (look-is g.K.PartialEq.eq (g.met.K.CacheKey g.world.𝓛 g.world.𝓜 g.world.𝓡 ((λ s x. x), (λ x. x), (λ x. x), λ x. x)).same c.args.key c.args.now r.caps r.window r.probation r.protected) in
     rw look.0 refl
 
-pub returns-in-Stale-clause-state : goal.returns-in-Stale-clause-state
-returns-in-Stale-clause-state g c =
+pub returns-in-Expired-clause-state : goal.returns-in-Expired-clause-state
+returns-in-Expired-clause-state g c =
     let r = c.args.self.now in
-    let is = sym c.in_ok-value.ensures.found ∙ c.in-Stale.is in
+    let is = sym c.in_ok-value.ensures.found ∙ c.in-Expired.is in
     let look = subst (IsLook g.K.PartialEq.eq (g.met.K.CacheKey g.world.𝓛 g.world.𝓜 g.world.𝓡 ((λ s x. x), (λ x. x), (λ x. x), λ x. x)).same c.args.key c.args.now r.caps r.window r.probation r.protected) is (look-is g.K.PartialEq.eq (g.met.K.CacheKey g.world.𝓛 g.world.𝓜 g.world.𝓡 ((λ s x. x), (λ x. x), (λ x. x), λ x. x)).same c.args.key c.args.now r.caps r.window r.probation r.protected) in
     sym look.1

@@ -1,6 +1,6 @@
 use Rattle.std.proofs.Common.{rules, arith, ◌≡◌, List, Some, ap, sym, ◌∙◌}
 use Rattle.lru.specs.LruCache.{last_entry}
-use Rattle.wt_regions.specs.declared.kinds.Notice.{Notice}
+use Rattle.wt_regions.specs.declared.notices.Notice.{Notice}
 use Rattle.wt_sketch.specs.Sketch.{estimate_of}
 use Rattle.wt_regions.proofs.Apart.{last_apart}
 use Rattle.wt_regions.proofs.Fates.{overflowed-ousts-0, overflowed-ousts-1}

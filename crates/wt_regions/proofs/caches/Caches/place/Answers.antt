@@ -1,7 +1,7 @@
 use Rattle.std.proofs.Common.{rules, ◌≡◌, ◌++◌, None, Some, true, false, refl, sym, ap, ◌∙◌, List}
 use Rattle.std.specs.Map.{lookup}
 use Rattle.wt_sketch.specs.Sketch.{estimate_of}
-use Rattle.wt_regions.specs.declared.kinds.Notice.{Notice}
+use Rattle.wt_regions.specs.declared.notices.Notice.{Notice}
 use Rattle.wt_regions.proofs.Moves.{lookup-append}
 use Rattle.wt_regions.proofs.Placed.{on_ok, window-lists, window-told, window-weight, probation-lists, probation-told, probation-weight, protected-lists, protected-told, protected-weight, past-in-lists, past-in-told, new-lists, new-told}
 use Rattle.wt_regions.specs.Lists.{is_expired}

@@ -1,6 +1,6 @@
 use Rattle.std.proofs.Common.{◌≤◌, refl}
 use Rattle.wt_sketch.specs.Sketch.{estimate_of}
-use Rattle.wt_regions.specs.declared.kinds.Held.{Held}
+use Rattle.wt_regions.specs.declared.held.Held.{Held}
 use Rattle.wt_regions.proofs.Moves.{placed_of}
 use Rattle.wt_regions.proofs.Kept.{kept-first, kept-room, kept-lawful, kept-caps, both-lists, both-told}
 use Rattle.wt_regions.specs.Steps.{new_entry, placed}

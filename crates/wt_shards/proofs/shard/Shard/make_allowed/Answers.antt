@@ -2,7 +2,7 @@ use Rattle.std.proofs.Common.{arith, ◌≡◌, ◌+◌, ◌≤◌, ◌++◌, �
 use Rattle.std.specs.Prelude.{if◌then◌else◌, is_ok}
 use Rattle.std.specs.Option.{option_to_list}
 use Rattle.circular_buffer.specs.Buffer.{Buffer, keep_last}
-use Rattle.wt_core.specs.declared.kinds.Call.{Call}
+use Rattle.wt_core.specs.declared.calls.Call.{Call}
 use Rattle.wt_core.specs.State.{State, Made}
 use Rattle.wt_core.specs.Lawful.{IsLawful}
 use Rattle.wt_core.specs.Step.{refusal_of, step}
@@ -12,8 +12,8 @@ use Rattle.wt_shards.specs.Audited.{Audited, IsAudited, load_at, load_of, moved,
 use Rattle.wt_shards.specs.Counts.{is_hit}
 use Rattle.wt_shards.proofs.Finds.{rising-landings}
 use Rattle.wt_shards.proofs.Loads.{empty-landing, landing-place, limit-step}
-use Rattle.wt_regions.specs.declared.kinds.Caps.{Caps}
-use Rattle.wt_core.specs.declared.kinds.Config.{Config}
+use Rattle.wt_regions.specs.declared.caps.Caps.{Caps}
+use Rattle.wt_core.specs.declared.config.Config.{Config}
 use Rattle.wt_shards.proofs.Told.{told_by}
 use Rattle.wt_shards.proofs.Numbers.{step-to, taken-made}
 use Rattle.wt_shards.proofs.Audits.{audited-recorded, landings-fit, noted, outline-still_open, reply-answers, rows-fit, shard_state-step}

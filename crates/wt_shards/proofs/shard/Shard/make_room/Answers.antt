@@ -1,6 +1,6 @@
 use Rattle.std.proofs.Common.{arith, ◌≤◌, length, refl, ap, ◌∙◌}
 use Rattle.circular_buffer.specs.Buffer.{Buffer}
-use Rattle.wt_core.specs.declared.kinds.Call.{Call}
+use Rattle.wt_core.specs.declared.calls.Call.{Call}
 use Rattle.wt_shards.specs.declared.shade.Shade.{Shade}
 use Rattle.wt_shards.specs.Audited.{Audited}
 use Rattle.wt_shards.proofs.Audits.{few_records, lagged}

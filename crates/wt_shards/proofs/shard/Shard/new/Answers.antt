@@ -1,7 +1,7 @@
 use Rattle.std.proofs.Common.{Err, refl, sym, ap, ◌∙◌, subst, arith}
 use Rattle.circular_buffer.specs.Buffer.{Buffer}
 use Rattle.wt_regions.specs.Notices.{NoticeList}
-use Rattle.wt_core.specs.declared.kinds.Call.{Call}
+use Rattle.wt_core.specs.declared.calls.Call.{Call}
 use Rattle.wt_core.specs.Lawful.{IsLawful}
 use Rattle.wt_core.specs.State.{State, config_fault}
 use Rattle.wt_shards.specs.declared.shade.Shade.{Shade}

@@ -1,13 +1,13 @@
 use Rattle.std.proofs.Common.{◌≡◌, ◌++◌, ◌∙◌, ℕ, List, ap, sym, append_assoc}
 use Rattle.std.specs.List.{flat_map}
 use Rattle.wt_regions.specs.Notices.{NoticeList, appended}
-use Rattle.wt_regions.specs.declared.kinds.Notice.{Notice}
+use Rattle.wt_regions.specs.declared.notices.Notice.{Notice}
 use Rattle.wt_core.specs.State.{Made}
-use Rattle.wt_core.specs.declared.kinds.Call.TheVariants.{Seek}
+use Rattle.wt_core.specs.declared.calls.Call.TheVariants.{Seek}
 use Rattle.wt_trace.specs.Answers.{Shown, take}
 use Rattle.wt_trace.specs.Words.{words_of, notice_text}
 use Rattle.wt_trace.specs.Keys.{keys_by}
-use Rattle.wt_trace.specs.declared.line.Version.{Version}
+use Rattle.wt_trace.specs.declared.version.Version.{Version}
 use Rattle.wt_trace.proofs.Gets.{fetched-otherwise}
 use Rattle.wt_trace.proofs.shard.Shard.fetch.Goals as goal
 

@@ -1,12 +1,12 @@
 use Rattle.std.proofs.Common.{◌≡◌, ◌++◌, ◌∙◌, ℕ, List, ap, append_assoc}
 use Rattle.std.specs.List.{flat_map}
 use Rattle.wt_regions.specs.Notices.{NoticeList, appended}
-use Rattle.wt_regions.specs.declared.kinds.Notice.{Notice}
+use Rattle.wt_regions.specs.declared.notices.Notice.{Notice}
 use Rattle.wt_core.specs.State.{Made}
 use Rattle.wt_trace.specs.Answers.{take}
 use Rattle.wt_trace.specs.Words.{words_of, notice_text}
 use Rattle.wt_trace.specs.Keys.{keys_by}
-use Rattle.wt_trace.specs.declared.line.Version.{Version}
+use Rattle.wt_trace.specs.declared.version.Version.{Version}
 use Rattle.wt_trace.proofs.shard.Shard.one_call.Goals as goal
 
 pub returns-clause-text : goal.returns-clause-text

@@ -1,0 +1,226 @@
+// The cache, and what it shows.
+//
+//     key ──► regions    what is held: window, probation, protected
+//         ──► sketch     how often each key was counted, for the duel
+//         ──► flights    the loads that are open
+//
+// Each of the eight steps is a function of the whole state. What can be refused comes first, and
+// the count of the key last, so that a refused step leaves all as it was.
+ghost use Rattle.std.specs.Prelude.{◌≡◌, ◌≤◌, ◌==◌, IfOk, MatchOption, IsOkUnless, Err, length};
+ghost use Rattle.std.specs.Map.{keys_of};
+ghost use Rattle.std.specs.Option.{option_map};
+ghost use Rattle.wt_keys.specs.declared.fault.Fault.TheVariants as fault;
+ghost use Rattle.wt_regions.specs.Lists.{all_entries, region_of, weight_of};
+ghost use Rattle.wt_flights.specs.Rows.{row, row_of, first_of};
+
+use crate::config::Config;
+use crate::stats::{Counts, Stats};
+use crate::stores::row_of;
+use std::alloc::Global;
+use std::marker::Model;
+use wt_flights::{FlightTable, Row};
+use wt_keys::{CacheKey, Fault, NoMemory, Share};
+use wt_regions::{Region, Regions, Weighs};
+use wt_sketch::Sketch;
+
+// From this number on no step is made, but the landing of an open flight, so that no count can
+// wrap.
+pub(crate) const MOST_STEPS: u64 = 1 << 60;
+
+/// The sequential cache: keys with their values in three regions, and the loads that are open.
+///
+/// Each call that changes it is one step, or is refused and changes nothing, the moment included.
+/// Moments are milliseconds that the caller hands in; one before the latest counts as the latest.
+#[derive(Drop)]
+pub struct Core<K: CacheKey, V: Share + Weighs> {
+    pub(crate) regions: Regions<K, V>,
+    pub(crate) sketch: Sketch,
+    pub(crate) flights: FlightTable<K>,
+    pub(crate) counts: Counts,
+    pub(crate) latest: u64,
+    pub(crate) step: u64,
+    // How much the entries may weigh together, as the regions have it; never changes.
+    pub(crate) bound: u64,
+    // How many loads may be open, as the flights have it; never changes.
+    pub(crate) limit: u32,
+}
+
+impl<K: CacheKey, V: Share + Weighs> Model for Core<K, V> {
+    ghost use Rattle.std.specs.Prelude.{◌≡◌};
+    ghost use Rattle.wt_core.specs.State.{State};
+    ghost use Rattle.wt_core.specs.Lawful.{IsCounted};
+
+    ghost Value = { State K V };
+
+    ghost view = { λ c. record {
+      regions = c.regions;
+      sketch = c.sketch;
+      flights = c.flights;
+      counts = c.counts;
+      latest = c.latest;
+      step = c.step;
+    } };
+
+    ghost invariant = { λ c. IsCounted (record {
+      regions = c.regions;
+      sketch = c.sketch;
+      flights = c.flights;
+      counts = c.counts;
+      latest = c.latest;
+      step = c.step;
+    }) × (c.bound ≡ c.regions.caps.bound) × (c.limit ≡ c.flights.limit) };
+}
+
+impl<K: CacheKey, V: Share + Weighs> Core<K, V> {
+    ghost use Rattle.wt_core.specs.State.{opening, stats_of, config_fault};
+    ghost use Rattle.wt_core.specs.Lawful.{IsLawful, AreSmall};
+
+    /// Makes an empty cache.
+    ///
+    /// `BadConfig` as [`Config::check`] answers it, before memory is asked for. Takes memory for
+    /// the tables of the three regions and the sketch. O(entries).
+    pub fn new(alloc: Global, config: &Config) -> Result<Core<K, V>, Fault>
+        ensures ok { IfOk result (λ core. core ≡ opening config.now) }
+        // What the configuration refuses is refused whatever the memory does.
+        ensures refusal { MatchOption (config_fault config.now)
+            (IsOkUnless result fault.NoMemory) (λ field. result ≡ Err (fault.BadConfig field)) }
+    {
+        if let Some(field) = config.fault() {
+            return Err(Fault::BadConfig { field });
+        }
+        // The fields are within their ranges, so that the parts can refuse for memory alone.
+        let Ok(regions) = Regions::new(alloc, &config.caps()) else {
+            return Err(Fault::NoMemory);
+        };
+        let Ok(sketch) = Sketch::new(alloc, config.entries) else {
+            return Err(Fault::NoMemory);
+        };
+        let Ok(flights) = FlightTable::new(alloc, config.flights) else {
+            return Err(Fault::NoMemory);
+        };
+        Ok(Core {
+            regions,
+            sketch,
+            flights,
+            counts: Counts {
+                lookups: 0,
+                hits: 0,
+                misses: 0,
+                loads: 0,
+                failed: 0,
+                evicted: 0,
+            },
+            latest: 0,
+            step: 0,
+            bound: config.bound,
+            limit: config.flights,
+        })
+    }
+
+    /// Returns the numbers of the cache. Takes no memory. O(1).
+    pub fn stats(&self) -> Stats
+        ensures numbers { result ≡ stats_of self.now }
+        // What holds of the cache at all times.
+        ensures lawful { IsLawful K.eq V.weight self.now }
+        ensures small { AreSmall result }
+    {
+        // For the prover: shows `lawful` of the two parts.
+        let _additions = self.sketch.additions();
+        let _open = self.flights.len();
+        Stats {
+            lookups: self.counts.lookups,
+            hits: self.counts.hits,
+            misses: self.counts.misses,
+            loads: self.counts.loads,
+            failed: self.counts.failed,
+            evicted: self.counts.evicted,
+            entries: self.regions.len() as u64,
+            weight: self.regions.weight(),
+        }
+    }
+
+    /// Returns how many steps were made. Takes no memory. O(1).
+    pub fn step(&self) -> u64
+        ensures { result ≡ self.now.step }
+    {
+        self.step
+    }
+
+    /// Returns the latest moment, in milliseconds; 0 before the first step. Takes no memory. O(1).
+    pub fn latest(&self) -> u64
+        ensures { result ≡ self.now.latest }
+    {
+        self.latest
+    }
+
+    /// Returns how many entries are held, the expired ones among them. Takes no memory. O(1).
+    pub fn len(&self) -> usize
+        ensures { result ≡ length (all_entries self.now.regions) }
+    {
+        self.regions.len()
+    }
+
+    /// Returns how many entries may be held, which is the room for notices that a step asks for.
+    ///
+    /// Takes no memory. O(1).
+    pub fn entries(&self) -> u32
+        ensures { result ≡ self.now.regions.caps.entries }
+    {
+        self.regions.entries()
+    }
+
+    /// Returns whether no entry is held. Takes no memory. O(1).
+    pub fn is_empty(&self) -> bool
+        ensures { result ≡ (length (all_entries self.now.regions) == 0) }
+    {
+        self.len() == 0
+    }
+
+    /// Returns what the entries weigh together: at most the bound. Takes no memory. O(1).
+    pub fn weight(&self) -> u64
+        ensures { result ≡ weight_of self.now.regions }
+    {
+        self.regions.weight()
+    }
+
+    /// Returns how many loads are open. Takes no memory. O(1).
+    pub fn open_flights(&self) -> usize
+        ensures { result ≡ length self.now.flights.rows }
+    {
+        self.flights.len()
+    }
+
+    /// Returns the open load with an id, if there is one. Takes no memory. Expected O(1): the cache
+    /// itself picks the ids.
+    pub fn row(&self, id: u64) -> Option<Row<K>>
+        ensures { result ≡ row id self.now.flights }
+    {
+        self.flights.row(id)
+    }
+
+    /// Returns the open load with an id, if there is one and it is the key's. Takes no memory.
+    /// Expected O(1): the cache itself picks the ids.
+    pub fn row_of(&self, id: u64, key: K) -> Option<Row<K>>
+        ensures { result ≡ row_of K.eq key id self.now.flights }
+    {
+        row_of(&self.flights, id, key)
+    }
+
+    /// Returns the id of the key's oldest open load, current or not, if it has one.
+    ///
+    /// Takes no memory. O(open loads).
+    pub fn first_of(&self, key: K) -> Option<u64>
+        ensures { result ≡ option_map (λ r. r.id) (first_of K.eq key self.now.flights) }
+    {
+        self.flights.first_of(key)
+    }
+
+    /// Returns the keys of a region in a new list, the most recent first.
+    ///
+    /// Takes memory for that list alone. O(entries of the region).
+    pub fn order(&self, alloc: Global, region: Region) -> Result<Vec<K>, NoMemory>
+        ensures { IfOk result (λ keys. keys.items ≡ keys_of (region_of region self.now.regions)) }
+    {
+        self.regions.order(alloc, region)
+    }
+}

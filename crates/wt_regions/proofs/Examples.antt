@@ -1,0 +1,89 @@
+-- Worked examples of the regions, computed by the definitions alone.
+use Rattle.std.proofs.Common.{◌≡◌, ℕ, List, [], ◌∷◌, map, None, Some, refl}
+use Rattle.std.specs.Prelude.{nat_eq, Option, ◌+◌}
+use Rattle.std.specs.List.{count_by}
+use Rattle.std.specs.Map.{keys_of}
+use Rattle.wt_regions.specs.declared.caps.Caps.{Caps}
+use Rattle.wt_regions.specs.declared.notices.Cause.{Cause}
+use Rattle.wt_regions.specs.declared.notices.Cause.TheVariants.{Expired, Size}
+use Rattle.wt_regions.specs.declared.notices.Notice.{Notice}
+use Rattle.wt_regions.specs.Lists.{Lists, Told, no_entries}
+use Rattle.wt_regions.specs.Touch.{looked_at}
+use Rattle.wt_regions.specs.Steps.{stored, cleaned, new_entry}
+
+abbrev caps : ℕ → ℕ → ℕ → Option ℕ → Caps
+caps entries window bound write = record { entries = entries; window = window; bound = bound; after_write = write; after_access = None; refresh = None }
+
+-- a key's own uses stand for the sketch; a value is its version, and weighs 1 + key mod 10 where it is weighed
+abbrev uses : List ℕ → ℕ → ℕ
+uses counted k = count_by (nat_eq k) counted
+
+-- regions, the keys counted so far, and the notices of the latest step as key, version, cause
+pub record Run : Type 0 where
+  pub regions : Lists ℕ ℕ
+  pub counted : List ℕ
+  pub told : List (ℕ × (ℕ × Cause))
+
+abbrev opened : Caps → Run
+opened c = record { regions = no_entries c; counted = []; told = [] }
+
+abbrev seen : List (Notice ℕ ℕ) → List (ℕ × (ℕ × Cause))
+seen ns = map (λ n. (n.key, (n.value, n.cause))) ns
+
+abbrev after : Run → ℕ → Told ℕ ℕ → Run
+after s k t = record { regions = t.0; counted = k ∷ s.counted; told = seen t.1 }
+
+-- a value stored under k at the moment now, by step number version
+abbrev put : (ℕ → ℕ) → ℕ → ℕ → ℕ → Run → Run
+put weight k version now s = after s k (stored nat_eq (uses s.counted) now (new_entry weight k version now version) s.regions)
+
+abbrev look : ℕ → ℕ → Run → Run
+look k now s = after s k (looked_at nat_eq k now s.regions, [])
+
+abbrev one : ℕ → ℕ
+one v = 1
+
+abbrev puts : List ℕ → ℕ → Run → Run
+puts [] n s = s
+puts (k ∷ ks) n s = puts ks (n + 1) (put one k n 0 s)
+
+abbrev looks : List ℕ → Run → Run
+looks [] s = s
+looks (k ∷ ks) s = looks ks (look k 0 s)
+
+abbrev order : Run → List (List ℕ)
+order s = keys_of s.regions.window ∷ keys_of s.regions.probation ∷ keys_of s.regions.protected ∷ []
+
+-- a hit in probation brings the entry to protected, and protected's last goes back to probation's front
+pub a_hit_in_probation_promotes : order (looks (1 ∷ 2 ∷ 3 ∷ []) (puts (1 ∷ 2 ∷ 3 ∷ 4 ∷ []) 1 (opened (caps 4 1 1000 None)))) ≡ (4 ∷ []) ∷ (1 ∷ []) ∷ (3 ∷ 2 ∷ []) ∷ []
+a_hit_in_probation_promotes = refl
+
+-- with no place in protected the entry goes to probation's front
+pub with_no_place_in_protected : order (look 1 0 (puts (1 ∷ 2 ∷ []) 1 (opened (caps 2 1 1000 None)))) ≡ (2 ∷ []) ∷ (1 ∷ []) ∷ [] ∷ []
+with_no_place_in_protected = refl
+
+-- with window alone, the last of window leaves
+pub with_window_alone_the_last_leaves : (puts (1 ∷ 2 ∷ 3 ∷ []) 1 (opened (caps 2 2 1000 None))).told ≡ (1, (1, Size)) ∷ []
+with_window_alone_the_last_leaves = refl
+
+abbrev five : Run
+five = look 1 0 (puts (1 ∷ 2 ∷ 3 ∷ 4 ∷ []) 1 (opened (caps 4 1 1000 None)))
+
+-- ties refuse the candidates 4 and 5; then 4, counted twice, ousts 2
+pub a_tie_refuses_the_candidate : (puts (5 ∷ []) 6 five).told ∷ (puts (5 ∷ 4 ∷ []) 6 five).told ∷ (puts (5 ∷ 4 ∷ 6 ∷ []) 6 five).told ∷ [] ≡ ((4, (4, Size)) ∷ []) ∷ ((5, (6, Size)) ∷ []) ∷ ((2, (2, Size)) ∷ []) ∷ []
+a_tie_refuses_the_candidate = refl
+
+-- weights 4 and 3 are above the bound of 5: the older entry leaves
+pub the_weight_is_trimmed : (put (λ v. 3) 2 3 0 (put (λ v. 4) 3 2 0 (opened (caps 4 1 5 None)))).told ≡ (3, (2, Size)) ∷ []
+the_weight_is_trimmed = refl
+
+-- an expired candidate leaves as such, and a clean goes from the last to the first
+abbrev old : Run
+old = put one 5 5 100 (puts (1 ∷ 2 ∷ 3 ∷ 4 ∷ []) 1 (opened (caps 4 1 1000 (Some 100))))
+
+pub expired_entries_leave : old.told ∷ (put one 6 6 150 old).told ∷ seen (cleaned 150 (put one 6 6 150 old).regions).1 ∷ [] ≡ ((4, (4, Expired)) ∷ []) ∷ ((1, (1, Expired)) ∷ []) ∷ ((2, (2, Expired)) ∷ (3, (3, Expired)) ∷ []) ∷ []
+expired_entries_leave = refl
+
+-- an own expired entry leaves as Expired and not as Replaced
+pub an_own_expired_entry_leaves_as_expired : (put one 1 2 100 (put one 1 1 0 (opened (caps 4 1 1000 (Some 100))))).told ≡ (1, (1, Expired)) ∷ []
+an_own_expired_entry_leaves_as_expired = refl

@@ -1,0 +1,92 @@
+// What the regions do with one `LruCache`. Each has one place more than its region may hold, so
+// that no push drops an entry: where one has to leave, it is taken out by name and told of.
+ghost use Rattle.std.specs.Prelude.{◌≡◌, ◌+◌, ◌<◌, ◌≤◌, ◌∷◌, [], length, None, IfOk, OnOk, OnErr, IsSome, is_some};
+ghost use Rattle.std.specs.Map.{keys_of, lookup};
+ghost use Rattle.lru.specs.LruCache.{lru_cache};
+ghost use Rattle.wt_regions.specs.Lists.{used};
+ghost use Rattle.wt_regions.specs.Moves.{in_front};
+
+use crate::held::Held;
+use lru::LruCache;
+use std::alloc::Global;
+use std::num::NonZeroUsize;
+use wt_keys::{CacheKey, NoMemory};
+
+// An empty cache for a region of so many entries, with one place more.
+pub(crate) fn empty_cache<K: CacheKey, V>(
+    alloc: Global,
+    most: usize,
+) -> Result<LruCache<K, Held<V>>, NoMemory>
+    requires { most ≤ 65536 }
+    ensures { IfOk result (λ cache. cache ≡ lru_cache [] (most + 1)) }
+{
+    match NonZeroUsize::new(most + 1) {
+        Some(cap) => Ok(LruCache::new(alloc, cap)?),
+        None => Err(NoMemory),
+    }
+}
+
+// Puts an entry of a key that isn't there first, in a free place.
+pub(crate) fn push_new<K: CacheKey, V: Drop>(
+    cache: &mut LruCache<K, Held<V>>,
+    key: K,
+    held: Held<V>,
+) -> Result<(), NoMemory>
+    requires fresh { lookup (K.eq key) cache.old.entries ≡ None }
+    requires place { length cache.old.entries < cache.old.cap }
+    ensures state { OnOk result (cache.new
+        ≡ lru_cache ((key, held) ∷ cache.old.entries) cache.old.cap) }
+    ensures err { OnErr result (cache.new ≡ cache.old) }
+{
+    match cache.push(key, held) {
+        Ok(_) => Ok(()),
+        Err(_) => Err(NoMemory),
+    }
+}
+
+// Brings the entry of the key to the front, used now, and answers whether there is one.
+pub(crate) fn freshen<K: CacheKey, V>(cache: &mut LruCache<K, Held<V>>, key: K, now: u64) -> bool
+    ensures answer { result ≡ is_some (lookup (K.eq key) cache.old.entries) }
+    ensures state { cache.new
+        ≡ lru_cache (in_front K.eq key (used now) cache.old.entries) cache.old.cap }
+{
+    match cache.get_mut(&key) {
+        Some(held) => {
+            held.accessed = now;
+            true
+        }
+        None => false,
+    }
+}
+
+// Brings the entry of the key to the front with other contents, and answers the old ones. Takes no
+// memory.
+pub(crate) fn replace_in<K: CacheKey, V: Drop>(
+    cache: &mut LruCache<K, Held<V>>,
+    key: K,
+    held: Held<V>,
+) -> Option<Held<V>>
+    requires { IsSome (lookup (K.eq key) cache.old.entries) }
+    ensures old { result ≡ lookup (K.eq key) cache.old.entries }
+    ensures state { cache.new
+        ≡ lru_cache (in_front K.eq key (λ _. held) cache.old.entries) cache.old.cap }
+{
+    match cache.put(key, held) {
+        Ok(old) => old,
+        Err(_) => unreachable!(),
+    }
+}
+
+// The keys of a region, the most recent first.
+pub(crate) fn keys_in<K: CacheKey, V>(
+    alloc: Global,
+    cache: &LruCache<K, Held<V>>,
+) -> Result<Vec<K>, NoMemory>
+    ensures { IfOk result (λ keys. keys.items ≡ keys_of cache.now.entries) }
+{
+    let mut keys = Vec::with_capacity(alloc, cache.len())?;
+    for (key, _) in cache.iter() {
+        keys.push(*key)?;
+    }
+    Ok(keys)
+}

@@ -1,0 +1,37 @@
+// What a trace stores: the key, and the line that made it.
+use wt_core::Weighs;
+use wt_keys::{Answers, CacheKey, NoMemory, Share};
+
+/// A value of a trace.
+#[derive(Clone, Copy, Debug)]
+pub struct Version<K> {
+    /// The key that it was made for.
+    pub key: K,
+    /// The number of the line that made it, which the report prints.
+    pub line: u64,
+    /// Its weight.
+    pub weight: u32,
+}
+
+impl<K: CacheKey> Share for Version<K> {
+    fn share(&self) -> Result<Version<K>, NoMemory> {
+        Ok(*self)
+    }
+}
+
+impl<K> Weighs for Version<K> {
+    ghost weight = { λ v. v.weight };
+
+    fn weight(&self) -> u32 {
+        self.weight
+    }
+}
+
+/// A value answers the key that it was made for, and no other.
+impl<K: CacheKey> Answers<K> for Version<K> {
+    ghost answers = { λ v k. K.eq v.key k };
+
+    fn answers(&self, key: &K) -> bool {
+        self.key == *key
+    }
+}
