@@ -1,5 +1,5 @@
 #!/usr/bin/env python3
-"""Runs a command of rt and says how far it is: tools/progress.py NAME (--brief | --last FILE) COMMAND..
+"""Says how far a run is. As a program it runs a command of rt: tools/progress.py NAME (--brief | --last FILE) COMMAND..
 
 On a terminal a line moves at the bottom: what is at work, how much is proved, the time so far. In a log there is a line for each
 crate that ends. With --brief all that the command prints is shown only if it fails. With --last it is passed on, but for the
@@ -12,6 +12,8 @@ import threading
 import time
 from pathlib import Path
 
+from words import end
+
 FUNCTION = re.compile(r"^fn (\w+)::.*: proved")
 BEGUN = re.compile(r"^(?:rt: chose --jobs \d+ for|==) (\w+)")
 TOTAL = re.compile(r"^so far: (\d+) of (\d+) functions")
@@ -22,7 +24,29 @@ REFUSED = re.compile(r"^(?:rt: )?must-fail \S+: refused")
 NOISE = re.compile(r"^(?:fn |statements |library |logic |crate |by-macro: |so far: |==)")
 
 
+class Line:
+    """A line at the bottom of a terminal that says how far a run is, once it has lasted two seconds; in a log nothing."""
+
+    def __init__(self, name):
+        self.name, self.start, self.drawn = name, time.monotonic(), 0.0
+        self.moves = sys.stderr.isatty()
+
+    def tell(self, text):
+        now = time.monotonic()
+        if self.moves and now - self.start > 2 and now - self.drawn > 0.1:
+            self.drawn = now
+            sys.stderr.write("\r\x1b[K%s: %s, %.0f s" % (self.name, text, now - self.start))
+            sys.stderr.flush()
+
+    def wipe(self):
+        if self.moves and self.drawn:
+            sys.stderr.write("\r\x1b[K")
+            sys.stderr.flush()
+
+
 class Progress:
+    """How far a command of rt is, read from its lines."""
+
     def __init__(self, name, of_gate):
         self.name, self.of_gate, self.start = name, of_gate, time.monotonic()
         self.crate, self.proved, self.total, self.refused = "", 0, 0, 0
@@ -89,10 +113,25 @@ class Progress:
         print("tools/%s: %s, %s so far" % (self.name, text, self.time_so_far()), file=sys.stderr, flush=True)
 
 
+def read_words(words):
+    """The name, the file for the last line, if there is one, and the command; None if the words aren't these."""
+    if len(words) > 2 and words[1] == "--brief":
+        return words[0], None, words[2:]
+    if len(words) > 3 and words[1] == "--last":
+        return words[0], Path(words[2]), words[3:]
+    return None
+
+
 def main():
-    name, how, words = sys.argv[1], sys.argv[2], sys.argv[3:]
-    brief = how == "--brief"
-    command = words if brief else words[1:]
+    if "--help" in sys.argv[1:2]:
+        print(__doc__.strip())
+        return 0
+    read = read_words(sys.argv[1:])
+    if read is None:
+        print("progress.py: it takes NAME (--brief | --last FILE) COMMAND..; `progress.py --help` tells more", file=sys.stderr)
+        return 2
+    name, last, command = read
+    brief = last is None
     progress, kept, stopped = Progress(name, not brief), [], threading.Event()
     child = subprocess.Popen(command, stdin=subprocess.DEVNULL, stdout=subprocess.PIPE, stderr=subprocess.STDOUT, text=True, errors="replace")
 
@@ -123,9 +162,9 @@ def main():
     if brief and status:
         print("".join(kept), end="", file=sys.stderr)
     if not brief:
-        Path(words[0]).write_text("".join(kept))
+        last.write_text("".join(kept))
     return status
 
 
 if __name__ == "__main__":
-    sys.exit(main())
+    end(main)

@@ -1,17 +1,42 @@
-"""Where keys come from, for tools/trace_convert and tools/hit_curve: one a line, tables, ARC and LIRS traces, web server logs."""
+"""Keys of other data, for tools/trace_convert and tools/hit_curve: one a line, tables, ARC and LIRS traces, web server logs."""
+import argparse
 import csv
 import datetime
 import re
 
 from model.trace import word_of_name
+from words import whole
 
 MOST_LINES = 1_000_000
+BELOW_64 = 2 ** 64 - 1
+# The longest field of a table that is read: an open quote doesn't take the whole file.
+LONGEST_FIELD = 2 ** 24
 UNITS = {"s": 1000.0, "ms": 1.0, "us": 0.001, "ns": 0.000001}
 LOG = re.compile(rb'^\S+ \S+ \S+ \[([^\]]+)\] "(?:[A-Z]+ )?([^" ]*)[^"]*" ')
+NAME = re.compile(rb"[!-9;-~]{1,24}")
+MARK = b"\xef\xbb\xbf"
 
 
 class BadInput(Exception):
     """What is wrong, with the line's number."""
+
+
+def is_number(key):
+    return key.isdigit() and len(key) <= 20 and int(key) <= BELOW_64
+
+
+def is_name(key):
+    return NAME.fullmatch(key) is not None
+
+
+def lines_of(source):
+    """The lines, without a byte order mark before the first."""
+    for number, line in enumerate(source):
+        if number == 0:
+            if line.startswith((b"\xff\xfe", b"\xfe\xff")):
+                raise BadInput("line 1 begins with the mark of UTF-16, and only UTF-8 is read")
+            line = line.removeprefix(MARK)
+        yield line
 
 
 def read_keys(source, given):
@@ -27,33 +52,55 @@ def column_at(name, header, what):
     """The place of a column, from its name or its number, which counts from 1."""
     if header is not None and name in header:
         return header.index(name)
-    if name.isdigit() and int(name) > 0:
+    if re.fullmatch("[1-9][0-9]{0,5}", name):
         return int(name) - 1
-    raise BadInput("there is no %s %s%s" % (what, name, "" if header is None else "; the columns are %s" % ", ".join(header)))
+    raise BadInput("there is no %s %s%s" % (what, name, "" if header is None else "; the columns are %s" % ", ".join(header)[:300]))
+
+
+def rows_of(source, given):
+    """The rows of a table, each with the number of lines before it."""
+    csv.field_size_limit(LONGEST_FIELD)
+    rows = csv.reader((line.decode("utf-8", "surrogateescape") for line in source), delimiter=given.delimiter)
+    while True:
+        try:
+            yield rows.line_num, next(rows)
+        except StopIteration:
+            return
+        except csv.Error as fault:
+            if not given.skip_bad:
+                raise BadInput("line %d is no row of a table: %s" % (rows.line_num, fault))
+
+
+def moment_of(text, unit):
+    """A time in milliseconds; ValueError unless it is a number that a moment can be made of."""
+    moment = float(text) * UNITS[unit]
+    if not abs(moment) <= BELOW_64:
+        raise ValueError
+    return moment
 
 
 def read_csv(source, given):
-    rows = csv.reader((line.decode("utf-8", "surrogateescape") for line in source), delimiter=given.delimiter)
-    header = next(rows, None) if given.header else None
+    rows = rows_of(source, given)
+    _, header = next(rows, (0, None)) if given.header else (0, None)
     at = column_at(given.column, header, "column")
     when = None if given.time_column is None else column_at(given.time_column, header, "time column")
-    for row in rows:
+    for before, row in rows:
         try:
-            moment = 0.0 if when is None else float(row[when]) * UNITS[given.unit]
+            moment = 0.0 if when is None else moment_of(row[when], given.unit)
             yield row[at].encode("utf-8", "surrogateescape"), moment
         except (IndexError, ValueError):
             if not given.skip_bad:
-                raise BadInput("line %d has no such column, or no number as its time: %s" % (rows.line_num, ",".join(row)[:60]))
+                raise BadInput("line %d has no such column, or no number as its time: %s" % (before + 1, ",".join(row)[:60]))
 
 
 def read_arc(source, given):
     for number, line in enumerate(source, 1):
         words = line.split()
-        if len(words) >= 2 and words[0].isdigit() and words[1].isdigit() and int(words[1]) < 2 ** 32:
+        if len(words) >= 2 and is_number(words[0]) and is_number(words[1]) and int(words[1]) <= MOST_LINES:
             for block in range(int(words[0]), int(words[0]) + int(words[1])):
                 yield b"%d" % block, 0.0
         elif not given.skip_bad:
-            raise BadInput("line %d isn't 'first count ..': %r" % (number, line[:60]))
+            raise BadInput("line %d isn't 'first count ..' with a count of at most %d: %r" % (number, MOST_LINES, line[:60]))
 
 
 def read_lirs(source, given):
@@ -71,7 +118,7 @@ def read_log(source, given):
         try:
             date = datetime.datetime.strptime(found.group(1).decode("ascii"), "%d/%b/%Y:%H:%M:%S %z")
             yield found.group(2), date.timestamp() * 1000
-        except (AttributeError, ValueError):
+        except (AttributeError, ValueError, OverflowError):
             if not given.skip_bad:
                 raise BadInput("line %d isn't in the common log format: %r" % (number, line[:60]))
 
@@ -79,23 +126,110 @@ def read_log(source, given):
 FORMS = {"keys": read_keys, "csv": read_csv, "arc": read_arc, "lirs": read_lirs, "log": read_log}
 
 
-def sampled(pairs, most, one_in):
-    """The pairs whose key's hash keeps them, and of how many keys one was kept."""
-    words = {key: word_of_name(key) for key in {key for key, _ in pairs}}
-    one_in = one_in or 1
-    kept = pairs if one_in == 1 else [pair for pair in pairs if words[pair[0]] % one_in == 0]
-    while len(kept) > most:
-        one_in *= 2
-        kept = [pair for pair in kept if words[pair[0]] % one_in == 0]
-    return kept, one_in
+class Sample:
+    """The lines of one key in so many, by hash, so that each kept key has all its lines: of one in twice as many as soon as
+    there are too many."""
+
+    def __init__(self, most, one_in):
+        self.most, self.one_in, self.pairs, self.words = most, one_in, [], {}
+
+    def word(self, key):
+        """The hash that a sample goes by. A number has the same one with zeros before it."""
+        if key not in self.words:
+            if len(self.words) >= MOST_LINES:
+                self.words.clear()
+            self.words[key] = word_of_name(key.lstrip(b"0"))
+        return self.words[key]
+
+    def keeps(self, key):
+        return self.one_in == 1 or self.word(key) % self.one_in == 0
+
+    def add(self, key, moment):
+        if self.keeps(key):
+            self.pairs.append((key, moment))
+            self.fit(self.most)
+
+    def fit(self, most):
+        while len(self.pairs) > most:
+            if self.one_in > BELOW_64:
+                raise BadInput("one key has more than %d lines, and a trace takes no more" % most)
+            self.one_in *= 2
+            self.pairs = [pair for pair in self.pairs if self.keeps(pair[0])]
+
+
+class Kinds:
+    """As what all keys so far can be written, and a key that can't be a number, or a name."""
+
+    def __init__(self):
+        self.odd = {}
+
+    def add(self, key):
+        if "numbers" not in self.odd and not is_number(key):
+            self.odd["numbers"] = key
+        if "names" not in self.odd and not is_name(key):
+            self.odd["names"] = key
+
+    def chosen(self, wanted):
+        """How keys are written: as numbers if all can be, else as names if all can be, else hashed; or as is wanted."""
+        if wanted == "auto":
+            return next(kind for kind in ("numbers", "names", "hashed") if kind not in self.odd)
+        if wanted in self.odd:
+            raise BadInput("not all keys can be %s: %r" % (wanted, self.odd[wanted][:60]))
+        return wanted
+
+
+class Lines:
+    """Keys as a trace writes them, each with its moment; how they are written; and of how many keys one was kept."""
+
+    def __init__(self, kind, sample):
+        self.kind, self.one_in = kind, sample.one_in
+        texts = {key: text_of(key, kind) for key in {key for key, _ in sample.pairs}}
+        self.keys = [texts[key] for key, _ in sample.pairs]
+        self.moments = [moment for _, moment in sample.pairs]
+        self.different = len(set(texts.values()))
+
+
+def text_of(key, kind):
+    if kind == "hashed":
+        return b"%d" % word_of_name(key)
+    return b"%d" % int(key) if kind == "numbers" else key
+
+
+def read(source, given, wanted="auto", progress=None):
+    """The lines of a trace that other data make: of a form, with options, as `add_arguments` has them."""
+    sample, kinds, number = Sample(MOST_LINES, given.sample or 1), Kinds(), 0
+    for number, (key, moment) in enumerate(FORMS[given.form](lines_of(source), given), 1):
+        kinds.add(key)
+        sample.add(key, moment)
+        if progress and number % 1000 == 0:
+            progress.tell("{:,} keys read".format(number))
+    kind = kinds.chosen(wanted)
+    if kind == "names":
+        # The header is a line too.
+        sample.fit(MOST_LINES - 1)
+    if number and not sample.pairs:
+        raise BadInput("no key is left of one in %d" % sample.one_in)
+    return Lines(kind, sample)
+
+
+def delimiter(text):
+    """The type of an option that takes a table's delimiter; a tab may be written as \\t."""
+    text = {"\\t": "\t", "tab": "\t"}.get(text, text)
+    if len(text) != 1 or text in '"\r\n\0' or not text.isprintable() and text != "\t":
+        raise argparse.ArgumentTypeError("%r isn't one character that parts columns, as , or ; or \\t" % text)
+    return text
+
+
+# The options that say how to read.
+READING = ("column", "time_column", "unit", "delimiter", "header", "sample", "skip_bad")
 
 
 def add_arguments(parser):
-    """The options that say how to read."""
+    """Adds the options that say how to read."""
     parser.add_argument("--column", default="1", help="of csv: the column of keys, by number from 1 or by name [default: 1]")
     parser.add_argument("--time-column", help="of csv: the column of times, numbers")
     parser.add_argument("--unit", choices=sorted(UNITS), default="s", help="of csv: what the times count [default: s]")
-    parser.add_argument("--delimiter", default=",", help="of csv [default: a comma]")
+    parser.add_argument("--delimiter", type=delimiter, default=",", help="of csv: one character, \\t for a tab [default: a comma]")
     parser.add_argument("--header", action="store_true", help="of csv: the first line names the columns")
-    parser.add_argument("--sample", type=int, metavar="N", help="keep the keys of one in N, by hash")
+    parser.add_argument("--sample", type=whole(1), metavar="N", help="keep the keys of one in N, by hash")
     parser.add_argument("--skip-bad", action="store_true", help="pass over lines that can't be read")
