@@ -1,9 +1,10 @@
-"""The picture of tools/hit_curve: hit ratio over entries, and beside it over the window.
+"""The picture of tools/hit_curve: hit ratio over entries, or of one size as bars, and beside it over the window.
 
 Colours can be told apart by the colour-blind, and by dashes without any; they suit a light and a dark page.
 """
 from html import escape
 from math import ceil, log2
+from unicodedata import east_asian_width
 
 WIDTH, HEIGHT = 880, 440
 TOP, BOTTOM = 104, 376
@@ -11,6 +12,10 @@ MAIN_LEFT, MAIN_RIGHT = 58, 500
 SWEEP_LEFT, SWEEP_RIGHT = 676, 850
 # Half as wide as the words at the best window.
 HALF_LABEL = 64
+# How far words of the title and of the line below it may reach, and how wide letters are, of their size; bold ones are wider.
+ROOM = WIDTH - 48
+BOLD = 1.2
+WIDTHS = (("iljtfrI.,:;'|!()[] ", 0.38), ("mwMWQO@%&", 0.98))
 CLASSES = {"LRU": "lru", "FIFO": "fifo", "optimum": "best"}
 
 LIGHT = {"page": "#ffffff", "ink": "#1f2933", "soft": "#5b6675", "grid": "#e3e7ed", "axis": "#98a2b3",
@@ -62,6 +67,32 @@ def line(x1, y1, x2, y2, kind):
     return '<line x1="%.1f" y1="%.1f" x2="%.1f" y2="%.1f" class="%s"/>' % (x1, y1, x2, y2, kind)
 
 
+def width_of(words, size):
+    """About how wide words are, rather too wide."""
+    def of(letter):
+        wide = 1.05 if east_asian_width(letter) in "WF" else 0.74 if letter.isupper() else 0.61
+        return next((width for letters, width in WIDTHS if letter in letters), wide)
+
+    return size * sum(map(of, words))
+
+
+def cut(words, size):
+    """The words, or as many letters of them as there is room for, with dots behind."""
+    words = "".join(letter if letter.isprintable() else " " for letter in words)
+    if width_of(words, size) <= ROOM:
+        return words
+    while words and width_of(words + "\u2026", size) > ROOM:
+        words = words[:-1]
+    return words.rstrip() + "\u2026"
+
+
+def below_title(told, gain):
+    """What stands below the title, in one line or in two."""
+    both = "%s. %s" % (told, gain)
+    lines = [both] if width_of(both, 13) <= ROOM else [told, gain]
+    return [text(24, 57 + 18 * at, cut(words, 13), "soft") for at, words in enumerate(lines)]
+
+
 def kind_of(name):
     return CLASSES.get(name, "ours")
 
@@ -86,7 +117,7 @@ def labelled(panel, ticks):
 
 
 def axes(panel, step, ticks, title):
-    parts, numbered = [], labelled(panel, ticks)
+    parts, numbered = [], labelled(panel, ticks) if ticks else ()
     for percent in range(0, round(100 * panel.top_ratio) + 1, step):
         y = panel.y(percent / 100)
         parts.append(line(panel.left, y, panel.right, y, "axis" if percent == 0 else "grid"))
@@ -134,6 +165,19 @@ def main_panel(panel, step, curves):
     return parts
 
 
+def bars_panel(panel, step, curves, entries):
+    """One size alone: a bar for each cache."""
+    parts = axes(panel, step, [], "of {:,} entries".format(entries))
+    width = (panel.right - panel.left) / len(curves)
+    for at, (name, curve) in enumerate(curves.items()):
+        middle, y = panel.left + (at + 0.5) * width, panel.y(curve[entries])
+        parts.append('<rect x="%.1f" y="%.1f" width="%.1f" height="%.1f" class="%s"/>'
+                     % (middle - 0.3 * width, y, 0.6 * width, BOTTOM - y, kind_of(name)))
+        parts.append(text(middle, y - 8, "%.1f %%" % (100 * curve[entries]), "%s label mid" % kind_of(name)))
+        parts.append(text(middle, BOTTOM + 20, name, "%s label mid" % kind_of(name)))
+    return parts
+
+
 def sweep_panel(panel, step, sweep_at, sweep):
     best = max(sweep, key=lambda window: (sweep[window], -window))
     parts = axes(panel, step, list(sweep), "its window, of {:,} entries".format(sweep_at))
@@ -159,15 +203,17 @@ def draw(title, told, curves, sweep_at, sweep):
     top, step = top_of(curves, sweep)
     main = Panel(MAIN_LEFT, MAIN_RIGHT, sizes[0], sizes[-1], top / 100)
     side = Panel(SWEEP_LEFT, SWEEP_RIGHT, min(sweep), max(sweep), top / 100)
-    words = "%s. Hit ratio over entries: %s." % (title, gain_told(curves))
+    gain, name = gain_told(curves), cut(title, BOLD * 19)
+    words = "%s. Hit ratio over entries: %s." % ("".join(c if c.isprintable() else " " for c in title), gain)
     parts = [
         '<svg xmlns="http://www.w3.org/2000/svg" viewBox="0 0 %d %d" width="%d" height="%d" role="img" aria-label="%s">' % (WIDTH, HEIGHT, WIDTH, HEIGHT, escape(words, True)),
         "<title>%s</title>" % escape(words),
         "<style>%s</style>" % STYLE,
         '<rect width="%d" height="%d" rx="8" class="page"/>' % (WIDTH, HEIGHT),
-        text(24, 34, title, "ink title"),
-        text(24, 57, "%s. %s" % (told, gain_told(curves)), "soft"),
+        text(24, 34, name, "ink title"),
+        *below_title(told, gain),
         text(MAIN_LEFT - 34, TOP - 14, "hit ratio", "soft small"),
     ]
-    parts += main_panel(main, step, curves) + sweep_panel(side, step, sweep_at, sweep) + ["</svg>"]
+    parts += bars_panel(main, step, curves, sizes[0]) if len(sizes) == 1 else main_panel(main, step, curves)
+    parts += sweep_panel(side, step, sweep_at, sweep) + ["</svg>"]
     return "\n".join(parts) + "\n"

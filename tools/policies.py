@@ -1,6 +1,9 @@
-"""Other caches over the same keys, for tools/hit_curve: how many of the look-ups hit with so many entries."""
+"""Caches over the same keys, for tools/hit_curve: how many of the look-ups hit with so many entries."""
 import heapq
 from collections import OrderedDict, deque
+
+from model.sketch import Sketch
+from model.trace import word_of_name
 
 
 def lru_hits(keys, entries):
@@ -54,6 +57,62 @@ def optimum_hits(keys, entries):
                     break
         due[key] = nexts[at]
         heapq.heappush(farthest, (-nexts[at], key))
+    return hits
+
+
+class Lists:
+    """The rules of docs/FORMATS.md without moments and weights, over ordered dicts: each ends with its most recent key.
+
+    tools/model has the same rules over plain lists, which takes as long for each look-up as there are entries; the sketch is its.
+    """
+
+    def __init__(self, entries, window):
+        self.window_most, self.main = window, entries - window
+        self.protected_most = self.main * 4 // 5
+        self.window, self.probation, self.protected = OrderedDict(), OrderedDict(), OrderedDict()
+        self.sketch = Sketch(entries)
+
+    def touch(self, key):
+        """Whether the key is held; it becomes the most recent then."""
+        if key in self.probation:
+            self.protected[key] = self.probation.pop(key)
+            if len(self.protected) > self.protected_most:
+                oldest, word = self.protected.popitem(last=False)
+                self.probation[oldest] = word
+            return True
+        region = next((region for region in (self.window, self.protected) if key in region), None)
+        if region is not None:
+            region.move_to_end(key)
+        return region is not None
+
+    def store(self, key, word):
+        """The key enters the window, and the window's oldest leaves it for the main part if it is let in."""
+        self.window[key] = word
+        if len(self.window) <= self.window_most:
+            return
+        candidate, word = self.window.popitem(last=False)
+        if len(self.probation) + len(self.protected) >= self.main:
+            if not self.probation:
+                return
+            victim = next(iter(self.probation))
+            if self.sketch.estimate(word) <= self.sketch.estimate(self.probation[victim]):
+                return
+            del self.probation[victim]
+        self.probation[candidate] = word
+
+
+def our_hits(keys, entries, window, names=False):
+    """A key is counted at each look-up, and one that isn't held is loaded and stored."""
+    lists, hits, words = Lists(entries, window), 0, {}
+    for key in keys:
+        if key not in words:
+            words[key] = word_of_name(key) if names else int(key)
+        hit = lists.touch(key)
+        lists.sketch.count(words[key])
+        if hit:
+            hits += 1
+        else:
+            lists.store(key, words[key])
     return hits
 
 
