@@ -1,8 +1,8 @@
 """The options of the program, as the table of docs/FORMATS.md has them. The other tools and checks read them here."""
 import re
-from pathlib import Path
 
-TOP = Path(__file__).resolve().parent.parent
+from places import TOP
+
 PAGE = TOP / "docs" / "FORMATS.md"
 BELOW_64 = 2 ** 64 - 1
 
