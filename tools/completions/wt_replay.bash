@@ -1,4 +1,4 @@
-# Completion of wt_replay for bash: source this file. Made by tools/check_options --write.
+# Completion of wt_replay for bash: source this file. Made by tools/gate/check_options --write.
 _wt_replay() {
     local word=${COMP_WORDS[COMP_CWORD]} before=${COMP_WORDS[COMP_CWORD-1]}
     case $before in

@@ -1,4 +1,4 @@
-# Completion of wt_replay for fish: put this file into ~/.config/fish/completions. Made by tools/check_options --write.
+# Completion of wt_replay for fish: put this file into ~/.config/fish/completions. Made by tools/gate/check_options --write.
 complete -c wt_replay -f
 complete -c wt_replay -l shards -x -a '1 2 4' -d 'Number of shards: 1, 2 or 4 [1]'
 complete -c wt_replay -l entries -x -a '1 1024 65536' -d 'Entries that a shard may hold: 1 to 65536 [1024]'

@@ -1,4 +1,4 @@
-"""A second program of the rules of docs/FORMATS.md, over plain lists, for tools/check_program and tools/hit_curve.
+"""A second program of the rules of docs/FORMATS.md, over plain lists, for tools/gate/check_program and tools/hit_curve.
 
 It is written from that page alone and shares nothing with the proved program.
 """

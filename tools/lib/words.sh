@@ -1,4 +1,4 @@
-# What the scripts take and answer at once. A script sets `top` to the repository's top and reads this file: . "$top/tools/words.sh"
+# What the scripts take and answer at once. A script sets `top` to the repository's top and reads this file: . "$top/tools/lib/words.sh"
 
 # The comment at a script's head.
 head_of() {
@@ -30,7 +30,7 @@ takes_none() {
     [ $# -eq 0 ] || refuse "$script" "it takes no words, and was given $1"
 }
 
-# The program's options, from a completion, which tools/check_options compares with docs/FORMATS.md and the program.
+# The program's options, from a completion, which tools/gate/check_options compares with docs/FORMATS.md and the program.
 program_options() {
     sed -n "s/^complete -c wt_replay -l \([a-z-]*\) .*-d '\(.*\)'\$/\1 \2/p" "$top/tools/completions/wt_replay.fish"
 }

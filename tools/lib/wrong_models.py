@@ -1,4 +1,4 @@
-"""Models with one mistake each, for `tools/check_program --wrong`: the check has to find every one."""
+"""Models with one mistake each, for `tools/gate/check_program --wrong`: the check has to find every one."""
 import model
 from model.shard import Shard
 from model.sketch import Sketch

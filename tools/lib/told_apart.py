@@ -1,4 +1,4 @@
-"""For each option a run that tells it from every other option, for tools/check_program.
+"""For each option a run that tells it from every other option, for tools/gate/check_program.
 
 The trace of a row is searched for: of random ones it is the first whose foretold report with `--X n` differs from that with
 `--Y n`, for every other option Y, and from that with no such option. So a program that mixed up two options fails a row.

@@ -1,4 +1,4 @@
-"""Runs at fault and runs on devices that fail, with what docs/FORMATS.md says of them, for tools/check_program."""
+"""Runs at fault and runs on devices that fail, with what docs/FORMATS.md says of them, for tools/gate/check_program."""
 import os
 import socket
 import struct

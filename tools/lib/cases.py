@@ -1,4 +1,4 @@
-"""Random options and traces for tools/check_program, and the smallest part of a case that still tells."""
+"""Random options and traces for tools/gate/check_program, and the smallest part of a case that still tells."""
 import string
 
 from options import BELOW_64, OPTIONS

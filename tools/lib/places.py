@@ -1,7 +1,7 @@
 """Where things stand in the repository, and what is said while something isn't built yet."""
 from pathlib import Path
 
-TOOLS = Path(__file__).resolve().parent
+TOOLS = Path(__file__).resolve().parent.parent
 TOP = TOOLS.parent
 CRATES = TOP / "crates"
 PROGRAM = CRATES / "wt_replay" / "out" / "wt_replay"

@@ -1,5 +1,5 @@
 #!/usr/bin/env python3
-"""Says how far a run is. As a program it runs a command of rt: tools/progress.py NAME (--brief | --last FILE) COMMAND..
+"""Says how far a run is. As a program it runs a command of rt: tools/lib/progress.py NAME (--brief | --last FILE) COMMAND..
 
 On a terminal a line moves at the bottom: what is at work, how much is proved, the time so far. In a log there is a line for each
 crate that ends. With --brief all that the command prints is shown only if it fails. With --last it is passed on, but for the
