@@ -64,7 +64,7 @@ build_time() {
     seconds=$(cat "$top/crates/wt_replay/out/build_seconds" 2>/dev/null)
     minutes=$(sed -n 's/.*`wt_replay` \([0-9]*\) and its tests.*/\1/p' "$top/CONTRIBUTING.md")
     case $seconds in
-        '' | *[!0-9]*) echo "the first time this takes about ${minutes:-30} minutes on four cores" ;;
+        '' | *[!0-9]*) echo "the first time this takes about $minutes minutes on four cores" ;;
         *) echo "the last time this took $(in_words "$seconds") here" ;;
     esac
 }
