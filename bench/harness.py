@@ -2,8 +2,17 @@
 import pathlib
 import shutil
 import subprocess
+import sys
 
 ROOT = pathlib.Path(__file__).resolve().parent.parent
+sys.path.insert(0, str(ROOT / "tools" / "lib"))
+
+import words  # noqa: E402
+
+
+def takes_no_words(doc):
+    """Answers --help with the text, and refuses all other words."""
+    words.Parser(doc, str(pathlib.Path(sys.argv[0]).resolve().relative_to(ROOT))).parse_args()
 
 
 def unpack(source, target):

@@ -9,8 +9,8 @@ from pathlib import Path
 class Parser(argparse.ArgumentParser):
     """Takes options by their full names alone, and refuses what it doesn't know in one sentence, with status 2."""
 
-    def __init__(self, doc):
-        super().__init__(description=doc, formatter_class=argparse.RawDescriptionHelpFormatter, allow_abbrev=False)
+    def __init__(self, doc, name=None):
+        super().__init__(name, description=doc, formatter_class=argparse.RawDescriptionHelpFormatter, allow_abbrev=False)
 
     def error(self, message):
         self.exit(2, "%s: %s; `%s --help` tells what it takes\n" % (self.prog, message, self.prog))

@@ -1,13 +1,14 @@
-# What the scripts take and answer at once. A script sets `top` to the repository's top and reads this file: . "$top/tools/lib/words.sh"
+# What the scripts take and answer at once. A script sets `top` to the repository's top and reads this file:
+# . "$top/tools/lib/words.sh". Below, SCRIPT is its path from there.
 
-# The comment at a script's head.
+# Prints the comment at a script's head: head_of SCRIPT
 head_of() {
-    sed -n '2,/^[^#]/s/^# \{0,1\}//p' "$1"
+    sed -n '2,/^[^#]/s/^# \{0,1\}//p' "$top/$1"
 }
 
 # Says what is wrong in a sentence, and ends with status 2: refuse SCRIPT WORDS
 refuse() {
-    echo "${1##*/}: $2; \`${1##*/} --help\` tells what it takes" >&2
+    echo "$1: $2; \`$1 --help\` tells what it takes" >&2
     exit 2
 }
 
@@ -19,7 +20,7 @@ asks_help() {
     return 1
 }
 
-# Ends a script that takes no words, if there are some: takes_none "$0" "$@"
+# Ends a script that takes no words, if there are some: takes_none SCRIPT "$@"
 takes_none() {
     script=$1
     shift
@@ -35,7 +36,8 @@ program_options() {
     sed -n "s/^complete -c wt_replay -l \([a-z-]*\) .*-d '\(.*\)'\$/\1 \2/p" "$top/tools/completions/wt_replay.fish"
 }
 
-# Answers --help and --version of the program, and refuses an option or a word that it doesn't know, before anything is built.
+# Answers --help and --version of the program, and refuses an option or a word that it doesn't know, before anything is built:
+# answer_at_once SCRIPT "$@"
 answer_at_once() {
     script=$1
     shift
