@@ -1,6 +1,8 @@
 """What the checks share: the words that they take, and how they tell what they found."""
 import sys
+from pathlib import Path
 
+from progress import Line
 from words import Parser
 
 
@@ -25,17 +27,21 @@ def tell(name, parts):
 
 
 class Outcomes:
-    """Checks that passed or failed; one that failed has a line."""
+    """Checks that passed or failed; one that failed has a line, and on a terminal a line says how many there were."""
 
     def __init__(self):
         self.passed = self.failed = 0
+        self.progress = Line(Path(sys.argv[0]).name)
 
     def check(self, title, well):
         self.passed, self.failed = self.passed + bool(well), self.failed + (not well)
         if not well:
-            print("FAIL %s" % title)
+            self.progress.wipe()
+            print("FAIL %s" % title, flush=True)
+        self.progress.tell("%d passed, %d failed; latest: %s" % (self.passed, self.failed, title[:60]))
 
     def end(self):
         """Prints the last line, and returns the status."""
+        self.progress.wipe()
         print("%d passed, %d failed" % (self.passed, self.failed))
         return 1 if self.failed else 0
