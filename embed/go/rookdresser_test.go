@@ -1,15 +1,18 @@
 package rookdresser
 
 import (
+	"context"
 	"errors"
 	"fmt"
+	"runtime"
 	"sync"
 	"sync/atomic"
 	"testing"
-	"time"
 )
 
 var setup = Setup{Entries: 100, Window: 1, Flights: 16, Bound: 1 << 40}
+
+var ctx = context.Background()
 
 func together(goroutines int, work func(int)) {
 	var all sync.WaitGroup
@@ -32,7 +35,8 @@ func openOf[K Key](t *testing.T, s Setup) *Cache[K, string] {
 }
 
 func TestASetupOutOfItsRangesIsRefused(t *testing.T) {
-	if _, err := Open[uint64, string](Setup{Entries: 1, Window: 2, Flights: 1, Bound: 1}); err != BadSetup {
+	_, err := Open[uint64, string](Setup{Entries: 1, Window: 2})
+	if !errors.Is(err, BadSetup) || err.Error() != "rookdresser: a setting is out of its range: Window" {
 		t.Fatal(err)
 	}
 }
@@ -55,24 +59,77 @@ func holdsExactly[K Key](t *testing.T, c *Cache[K, string], keyOf func(uint64) K
 			}
 		}
 	})
-	n, err := c.Numbers()
-	if err != nil || n.Entries != 100 || len(c.values) != 100 || n.Hits+n.Misses != n.Lookups {
-		t.Fatal(n, len(c.values), err)
+	if n := holds(t, c); n.Entries != 100 || n.Hits+n.Misses != n.Lookups {
+		t.Fatal(n)
 	}
 }
 
-func TestANameOfMoreThan24BytesIsRefused(t *testing.T) {
-	c, longest := openOf[string](t, setup), "abcdefghijklmnopqrstuvwx"
-	if err := c.Put(longest, "held", 1, 0); err != nil {
+// holds has the values and the keys that are kept compared with the entries of the library.
+func holds[K Key, V any](t *testing.T, c *Cache[K, V]) Numbers {
+	t.Helper()
+	n, err := c.Numbers()
+	values, keys := c.Kept()
+	if err != nil || uint64(values) != n.Entries || uint64(keys) != n.Entries || n.Flights != 0 || len(c.loads) != 0 {
+		t.Fatalf("%d values and %d keys are kept of %d entries, %d loads are open: %v", values, keys, n.Entries, n.Flights, err)
+	}
+	return n
+}
+
+type page string
+type place int8
+
+func TestKeysAreOfAnyKindOfStringOrWholeNumber(t *testing.T) {
+	text, err := Open[page, int](setup)
+	if err != nil {
 		t.Fatal(err)
 	}
-	if err := c.Put(longest+"y", "refused", 1, 0); err != NameTooLong {
+	defer text.Close()
+	small, err := Open[place, int](setup)
+	if err != nil {
 		t.Fatal(err)
 	}
-	_, err := c.Get(longest+"y", 0, func() (string, uint32, error) { t.Error("loaded"); return "", 1, nil })
-	v, found, _ := c.Look(longest, 0)
-	if err != NameTooLong || v != "held" || !found || len(c.values) != 1 {
-		t.Fatal(v, found, err, len(c.values))
+	defer small.Close()
+	for i := -3; i < 3; i++ {
+		if err := text.Put(page(fmt.Sprint("a page of a name longer than 24 bytes ", i)), i, 1, 0); err != nil {
+			t.Fatal(err)
+		}
+		if err := small.Put(place(i), i, 1, 0); err != nil {
+			t.Fatal(err)
+		}
+	}
+	for i := -3; i < 3; i++ {
+		v, found, _ := text.Look(page(fmt.Sprint("a page of a name longer than 24 bytes ", i)), 0)
+		w, there, _ := small.Look(place(i), 0)
+		if v != i || !found || w != i || !there {
+			t.Fatal(i, v, found, w, there)
+		}
+	}
+	holds(t, text)
+	holds(t, small)
+}
+
+func TestKeysGoToTheLibraryUnderASeedIfTheyAreStringsOrAreToBe(t *testing.T) {
+	plain, seeded, other := open(t, setup), open(t, Setup{Entries: 100, Seeded: true}), open(t, Setup{Entries: 100, Seeded: true})
+	if plain.keys.number(7) != 7 || seeded.keys.number(7) == other.keys.number(7) {
+		t.Fatal(plain.keys.number(7), seeded.keys.number(7), other.keys.number(7))
+	}
+	first, second := openOf[string](t, setup), openOf[string](t, setup)
+	if first.keys.number("seven") == second.keys.number("seven") {
+		t.Fatal(first.keys.number("seven"))
+	}
+}
+
+func TestKeysOfOneHashAreToldApart(t *testing.T) {
+	c := openOf[string](t, setup)
+	// Another key has the number that this one would get.
+	number := c.keys.number("a page")
+	c.keys.hold("another", number)
+	if got := c.keys.number("a page"); got != number+1 {
+		t.Fatal(got, number)
+	}
+	c.keys.letGo("another")
+	if got := c.keys.number("a page"); got != number || len(c.keys.rows) != 0 || len(c.keys.used) != 0 {
+		t.Fatal(got, number, c.keys)
 	}
 }
 
@@ -84,9 +141,9 @@ func TestAKeyIsLoadedOnceForAllWhoAsk(t *testing.T) {
 func loadsOnce[K Key](t *testing.T, c *Cache[K, string], key K) {
 	var made int32
 	together(64, func(int) {
-		v, err := c.Get(key, 0, func() (string, uint32, error) {
+		v, err := c.Get(ctx, key, 0, func() (string, uint32, error) {
 			atomic.AddInt32(&made, 1)
-			time.Sleep(50 * time.Millisecond)
+			waitForJoins(c, 63)
 			return "seven", 1, nil
 		})
 		if v != "seven" || err != nil {
@@ -98,25 +155,9 @@ func loadsOnce[K Key](t *testing.T, c *Cache[K, string], key K) {
 	}
 }
 
-func TestALoadThatFailsOrPanicsLeavesNothingOpen(t *testing.T) {
-	c, bad := open(t, setup), errors.New("bad")
-	if _, err := c.Get(1, 0, func() (string, uint32, error) { return "", 0, bad }); err != bad {
-		t.Fatal(err)
-	}
-	func() {
-		defer func() { _ = recover() }()
-		_, _ = c.Get(1, 0, func() (string, uint32, error) { panic("of the load") })
-	}()
-	if n, _ := c.Numbers(); n.Failed != 2 || n.Flights != 0 || n.Entries != 0 || len(c.values) != 0 {
-		t.Fatal(n)
-	}
-}
-
-func TestADropDuringALoadKeepsItsValueOut(t *testing.T) {
-	c := open(t, setup)
-	v, err := c.Get(1, 0, func() (string, uint32, error) { _, err := c.Drop(1, 0); return "one", 1, err })
-	_, found, _ := c.Look(1, 0)
-	if v != "one" || err != nil || found || len(c.values) != 0 {
-		t.Fatal(v, err, found)
+// waitForJoins returns once so many goroutines wait for a load of another.
+func waitForJoins[K Key, V any](c *Cache[K, V], joins uint64) {
+	for c.Stats().Joins < joins {
+		runtime.Gosched()
 	}
 }

@@ -1,30 +1,11 @@
 #!/usr/bin/env python3
 """The rules of embed/python, with 4 threads. ROOKDRESSER_LIB names the folder of librookdresser.so."""
 import random
-import threading
+import time
 import unittest
 
 from rookdresser import Cache, Refused
-
-
-def together(threads, work):
-    """Runs work(i) in so many threads at once, and raises what one of them raised."""
-    gate, raised = threading.Barrier(threads), []
-
-    def run(i):
-        gate.wait()
-        try:
-            work(i)
-        except BaseException as error:
-            raised.append(error)
-
-    runs = [threading.Thread(target=run, args=(i,)) for i in range(threads)]
-    for run_of in runs:
-        run_of.start()
-    for run_of in runs:
-        run_of.join()
-    if raised:
-        raise raised[0]
+from threads import together
 
 
 class Rules(unittest.TestCase):
@@ -35,11 +16,12 @@ class Rules(unittest.TestCase):
             self.assertIsNone(cache.look("b"))
 
     def test_a_key_is_loaded_once_for_64_threads(self):
-        made, begun = [], threading.Event()
+        made = []
         with Cache(entries=10) as cache:
             def load(key):
                 made.append(key)
-                begun.wait(0.2)
+                while cache.stats().joins < 63:
+                    time.sleep(0.001)
                 return key * 2
 
             got = []
@@ -106,9 +88,10 @@ class Rules(unittest.TestCase):
 
             together(4, work)
             numbers = cache.numbers()
-            self.assertEqual((len(cache._values), len(cache._ids), len(cache._held)), (numbers["entries"],) * 3)
+            self.assertEqual(cache.kept(), (numbers["entries"],) * 2)
             self.assertEqual((numbers["flights"], len(cache._loads)), (0, 0))
-            self.assertEqual(sum(held[0] for held in cache._held.values()), numbers["entries"])
+            self.assertEqual(sum(row.uses for row in cache._numbers.values()), numbers["entries"])
+            self.assertEqual(sum(len(rows) for rows in cache._rows.values()), numbers["entries"])
             self.assertLessEqual(numbers["entries"], 100)
             self.assertLessEqual(numbers["weight"], 1500)
 

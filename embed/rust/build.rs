@@ -2,7 +2,15 @@
 fn main() {
     println!("cargo:rerun-if-env-changed=ROOKDRESSER_LIB");
     let folder = std::env::var("ROOKDRESSER_LIB").unwrap_or_else(|_| "../../out/embed".into());
-    println!("cargo:rerun-if-changed={folder}/librookdresser.a");
+    let library = std::path::Path::new(&folder).join("librookdresser.a");
+    println!("cargo:rerun-if-changed={}", library.display());
+    if !library.exists() {
+        eprintln!(
+            "There is no {}. Build it by `sh tools/embed FOLDER`, and name the FOLDER in ROOKDRESSER_LIB.",
+            library.display()
+        );
+        std::process::exit(1);
+    }
     println!("cargo:rustc-link-search=native={folder}");
     println!("cargo:rustc-link-lib=static=rookdresser");
 }

@@ -5,22 +5,14 @@ use std::sync::Barrier;
 use std::time::Duration;
 
 fn main() {
-    let setup = Setup {
-        entries: 1000,
-        window: 10,
-        flights: 64,
-        bound: 1 << 20,
-        after_write: 60_000,
-        after_access: 0,
-        refresh: 0,
-    };
+    let setup = Setup { after_write: 60_000, ..Setup::of(1000) };
     let cache = Loading::<String, String, ()>::open(&setup).expect("the setup is within its ranges");
     let (gate, loads, same) = (Barrier::new(64), AtomicU64::new(0), AtomicU64::new(0));
     std::thread::scope(|threads| {
         for _ in 0..64 {
             threads.spawn(|| {
                 gate.wait();
-                let page = cache.get(&"a page".into(), 0, || {
+                let page = cache.get("a page", 0, || {
                     loads.fetch_add(1, Ordering::SeqCst);
                     std::thread::sleep(Duration::from_millis(50));
                     Ok(("its text".into(), 1))

@@ -6,23 +6,57 @@ pub struct Handle {
     pub is_open: bool,
 }
 
+/// A number that stands for a value of the caller's, with its weight.
 #[repr(C)]
 #[derive(Clone, Copy, Debug, Default, PartialEq, Eq)]
 pub struct Token {
+    /// The caller's number.
     pub token: u64,
+    /// What the value weighs.
     pub weight: u32,
 }
 
+/// What a cache is opened for. Durations are milliseconds; 0 stands for never.
 #[repr(C)]
-#[derive(Clone, Copy, Debug)]
+#[derive(Clone, Copy, Debug, PartialEq, Eq)]
 pub struct Setup {
+    /// How many entries the cache may hold: 1 to 65,536.
     pub entries: u32,
+    /// How many of them the window may hold: 1 to `entries`. A hundredth is a good choice.
     pub window: u32,
+    /// How many loads may be open: 1 to 4,096.
     pub flights: u32,
+    /// How much the entries may weigh together: 1 to 2^48.
     pub bound: u64,
+    /// An entry expires so long after it was written.
     pub after_write: u64,
+    /// An entry expires so long after it was used.
     pub after_access: u64,
+    /// An entry is due for a further load so long after it was written.
     pub refresh: u64,
+}
+
+impl Setup {
+    /// A setup for so many entries, with a hundredth of them as the window, 1,024 loads at most, and no other limit.
+    pub const fn of(entries: u32) -> Setup {
+        let window = if entries < 200 { 1 } else { entries / 100 };
+        Setup { entries, window, flights: 1024, bound: 1 << 48, after_write: 0, after_access: 0, refresh: 0 }
+    }
+
+    /// The name of the first setting that is out of its range.
+    pub fn check(&self) -> Option<&'static str> {
+        const NAMES: [&str; 7] = ["entries", "window", "flights", "bound", "after_write", "after_access", "refresh"];
+        // SAFETY: the setup is borrowed for the call, which only reads it.
+        let setting = unsafe { rd_check(self) };
+        NAMES.get((setting as usize).wrapping_sub(1)).copied()
+    }
+}
+
+impl Default for Setup {
+    /// A setup for 1,000 entries.
+    fn default() -> Setup {
+        Setup::of(1000)
+    }
 }
 
 #[repr(C)]
@@ -45,7 +79,7 @@ pub struct Name {
 }
 
 impl Name {
-    /// The name of these bytes, where they are at most 24.
+    /// The name of these bytes, if they are at most 24.
     pub fn new(bytes: impl AsRef<[u8]>) -> Option<Name> {
         let bytes = bytes.as_ref();
         let mut name = Name { length: bytes.len() as u64, ..Name::default() };
@@ -53,6 +87,7 @@ impl Name {
         Some(name)
     }
 
+    /// Its bytes.
     pub fn as_bytes(&self) -> &[u8] {
         &self.bytes[..self.length as usize]
     }
@@ -62,25 +97,41 @@ impl Name {
 #[repr(C)]
 #[derive(Clone, Copy, Debug, Default, PartialEq, Eq)]
 pub struct Notice<K> {
+    /// The key of the entry.
     pub key: K,
+    /// Its token, which is the caller's again.
     pub token: u64,
+    /// What it weighed.
     pub weight: u32,
+    /// Why it left.
     pub cause: u32,
 }
 
+/// The numbers of a cache.
 #[repr(C)]
 #[derive(Clone, Copy, Debug, Default, PartialEq, Eq)]
 pub struct Numbers {
+    /// Calls of `look` and `seek`.
     pub lookups: u64,
+    /// Those that found the key.
     pub hits: u64,
+    /// Those that didn't.
     pub misses: u64,
+    /// Landings with a value.
     pub loads: u64,
+    /// Landings without one.
     pub failed: u64,
+    /// Entries that left because they expired or were evicted.
     pub evicted: u64,
+    /// Entries held now.
     pub entries: u64,
+    /// What these weigh together.
     pub weight: u64,
+    /// Calls made that weren't refused.
     pub step: u64,
+    /// The latest moment.
     pub latest: u64,
+    /// Loads that are open now.
     pub flights: u64,
 }
 
@@ -104,6 +155,7 @@ impl Numbers {
 }
 
 unsafe extern "C" {
+    pub fn rd_check(setup: *const Setup) -> u64;
     pub fn rd_open(setup: *const Setup, cache: *mut Handle) -> u64;
     pub fn rd_open_names(setup: *const Setup, cache: *mut Handle) -> u64;
     pub fn rd_close(cache: *mut Handle) -> u64;

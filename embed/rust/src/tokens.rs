@@ -3,14 +3,30 @@ use crate::key::Key;
 use crate::sys::{self, Answer, Handle, Notice, Numbers, Setup, Token};
 use std::marker::PhantomData;
 
-/// Why a call was refused. Nothing has changed then.
-#[derive(Clone, Copy, Debug, PartialEq, Eq)]
+/// Why a call was refused. A refused call changes nothing.
+#[derive(Clone, Copy, Debug, PartialEq, Eq, Hash)]
 pub enum Fault {
+    /// An allocation failed. The same call may succeed later.
     OutOfMemory,
+    /// A setting is out of its range: [`Setup::check`] tells which.
     BadSetup,
+    /// The value weighs more than `bound`.
     TooHeavy,
+    /// As many loads are open as `flights` allows. The call may succeed once one of them has landed.
     TooManyFlights,
+    /// The cache has made 2^60 calls, the most that it can. Open another one.
     StepsSpent,
+}
+
+impl Fault {
+    /// All faults, each at the place that [`Fault::place`] tells.
+    pub const ALL: [Fault; 5] =
+        [Fault::OutOfMemory, Fault::BadSetup, Fault::TooHeavy, Fault::TooManyFlights, Fault::StepsSpent];
+
+    /// Its place in [`Fault::ALL`].
+    pub fn place(self) -> usize {
+        self as usize
+    }
 }
 
 impl std::fmt::Display for Fault {
@@ -27,7 +43,7 @@ impl std::fmt::Display for Fault {
 
 impl std::error::Error for Fault {}
 
-// An open cache answers 0 to 5 alone.
+// An open cache returns 0 to 5 alone.
 fn fault(number: u64) -> Fault {
     match number {
         1 => Fault::OutOfMemory,
@@ -38,22 +54,31 @@ fn fault(number: u64) -> Fault {
     }
 }
 
-/// What a look-up met.
+/// What a look-up found.
 #[derive(Clone, Copy, Debug, PartialEq, Eq)]
 pub enum Found {
+    /// The key is there.
     Hit(Token),
+    /// The key isn't there. Only `look` returns it.
     Absent,
+    /// The key is there, but due for a further load, which this caller is to make.
     HitLead(Token, u64),
+    /// Another caller makes the load of this id.
     Join(u64),
+    /// This caller is to make the load of this id.
     Lead(u64),
 }
 
-/// How a load landed, with the number of its sharers.
+/// How a load landed, with the number of those who shared it.
 #[derive(Clone, Copy, Debug, PartialEq, Eq)]
 pub enum Landed {
+    /// Its value was stored.
     Kept(u64),
+    /// Its value was not stored: the key was put, dropped, forgotten or cleared meanwhile, or the value is too heavy.
     Loose(u64),
+    /// It failed.
     Failed(u64),
+    /// No load of this id and key was open.
     Gone,
 }
 
@@ -69,6 +94,7 @@ pub struct Tokens<K = u64> {
 unsafe impl<K> Send for Tokens<K> {}
 
 impl<K: Key> Tokens<K> {
+    /// Opens an empty cache. `BadSetup`, then `OutOfMemory`.
     pub fn open(setup: &Setup) -> Result<Self, Fault> {
         let mut handle = Handle { at: std::ptr::null_mut(), is_open: false };
         // SAFETY: both lead to whole values that are borrowed for the call, and the handle is closed: all bytes are zero.
@@ -91,47 +117,62 @@ impl<K: Key> Tokens<K> {
         }
     }
 
+    /// Looks the key up: `Hit`, which is a use, or `Absent`.
     pub fn look(&mut self, key: K, now: u64) -> Result<Found, Fault> {
         self.made(|h, a| unsafe { K::look(h, key, now, a) }).map(found)
     }
 
+    /// Looks the key up, and joins or opens a load. Whoever leads it calls one of the three landings.
     pub fn seek(&mut self, key: K, now: u64) -> Result<Found, Fault> {
         self.made(|h, a| unsafe { K::seek(h, key, now, a) }).map(found)
     }
 
+    /// Stores the value under the key.
     pub fn put(&mut self, key: K, value: Token, now: u64) -> Result<(), Fault> {
         self.made(|h, a| unsafe { K::put(h, key, value, now, a) }).map(drop)
     }
 
+    /// Closes the load with a value that is to be stored. If memory is refused, the load stays open.
     pub fn land_keep(&mut self, id: u64, key: K, value: Token, now: u64) -> Result<Landed, Fault> {
         self.made(|h, a| unsafe { K::land_keep(h, id, key, value, now, a) }).map(landed)
     }
 
+    /// Closes the load with a value that is not to be stored. Takes no memory.
     pub fn land_loose(&mut self, id: u64, key: K, now: u64) -> Result<Landed, Fault> {
         self.made(|h, a| unsafe { K::land_loose(h, id, key, now, a) }).map(landed)
     }
 
+    /// Closes the load with a failure. Takes no memory.
     pub fn land_failed(&mut self, id: u64, key: K, now: u64) -> Result<Landed, Fault> {
         self.made(|h, a| unsafe { K::land_failed(h, id, key, now, a) }).map(landed)
     }
 
+    /// Takes the key's entry out, and tells whether an unexpired one was there. Its current load will store nothing.
     pub fn drop_key(&mut self, key: K, now: u64) -> Result<bool, Fault> {
         self.made(|h, a| unsafe { K::drop_key(h, key, now, a) }).map(|a| a.number != 0)
     }
 
+    /// Lets nobody further join the key's current load, which will store nothing. Tells whether there was one.
     pub fn forget(&mut self, key: K, now: u64) -> Result<bool, Fault> {
         self.made(|h, a| unsafe { K::forget(h, key, now, a) }).map(|a| a.number != 0)
     }
 
+    /// Takes every entry out. The open loads will store nothing.
     pub fn clear(&mut self, now: u64) -> Result<(), Fault> {
         self.made(|h, a| unsafe { sys::rd_clear(h, now, a) }).map(drop)
     }
 
+    /// Takes every expired entry out.
     pub fn clean(&mut self, now: u64) -> Result<(), Fault> {
         self.made(|h, a| unsafe { sys::rd_clean(h, now, a) }).map(drop)
     }
 
-    /// The notices of the latest call.
+    // Whether the latest call told that something left.
+    pub(crate) fn has_notices(&self) -> bool {
+        self.told > 0
+    }
+
+    /// What the latest call told to have left.
     pub fn notices(&mut self) -> impl Iterator<Item = Notice<K>> + '_ {
         (0..self.told).map(|i| {
             let mut notice = Notice::default();
@@ -140,6 +181,7 @@ impl<K: Key> Tokens<K> {
         })
     }
 
+    /// The numbers of the cache.
     pub fn numbers(&mut self) -> Numbers {
         let mut numbers = Numbers::default();
         unsafe { sys::rd_get_numbers(&mut self.handle, &mut numbers) };

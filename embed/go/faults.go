@@ -1,0 +1,49 @@
+package rookdresser
+
+/*
+#include "rookdresser.h"
+*/
+import "C"
+
+import (
+	"errors"
+	"fmt"
+)
+
+// A Fault is why a call was refused, as rookdresser.h numbers it. Nothing has changed then. errors.Is tells it.
+type Fault uint64
+
+// The faults that a caller can meet.
+const (
+	OutOfMemory    Fault = C.RD_OUT_OF_MEMORY    // the same call may succeed later
+	BadSetup       Fault = C.RD_BAD_SETUP        // a setting is out of its range
+	TooHeavy       Fault = C.RD_TOO_HEAVY        // the value weighs more than Bound
+	TooManyFlights Fault = C.RD_TOO_MANY_FLIGHTS // as many loads are open as Flights allows
+	StepsSpent     Fault = C.RD_STEPS_SPENT      // 2^60 calls were made
+	Closed         Fault = C.RD_CLOSED           // the cache is closed
+)
+
+func (f Fault) Error() string {
+	switch f {
+	case OutOfMemory:
+		return "rookdresser: out of memory"
+	case BadSetup:
+		return "rookdresser: a setting is out of its range"
+	case TooHeavy:
+		return "rookdresser: the value is heavier than Bound"
+	case TooManyFlights:
+		return "rookdresser: too many loads are open"
+	case StepsSpent:
+		return "rookdresser: 2^60 calls were made"
+	case Closed:
+		return "rookdresser: the cache is closed"
+	}
+	return fmt.Sprintf("rookdresser: fault %d", uint64(f))
+}
+
+// ErrPanicked is what those get who shared a load that panicked or ended its goroutine.
+var ErrPanicked = errors.New("rookdresser: the load panicked")
+
+// ErrWaitsForItself is what a Get returns that would wait for good: a load asked for its own key, or for one whose load in turn
+// waits for this goroutine.
+var ErrWaitsForItself = errors.New("rookdresser: the load of the key waits for this very call")

@@ -1,0 +1,103 @@
+#!/usr/bin/env python3
+"""Eight threads, with expiry, refresh, failing loads, invalidations during loads: what is kept is what the library holds."""
+import collections
+import gc
+import random
+import threading
+import unittest
+import weakref
+
+from rookdresser import Cache, Refused
+from threads import together
+
+
+class Value:
+    def __init__(self, key):
+        self.key = key
+
+
+class Stress(unittest.TestCase):
+    def requests(self, cache, now, live, seed, each):
+        rng = random.Random(seed)
+
+        def value_of(key):
+            value = Value(key)
+            live.add(value)
+            return value
+
+        for _ in range(each):
+            now[0] += rng.random() < 0.1
+            key, what = min(rng.randrange(2000), rng.randrange(2000)), rng.random()
+
+            def load(key):
+                if what < 0.05:
+                    raise KeyError(key)
+                if what < 0.10:
+                    cache.drop(key)
+                return value_of(key)
+
+            if what < 0.78:
+                try:
+                    self.assertEqual(cache.get(key, load).key, key)
+                except KeyError as error:
+                    self.assertEqual(error.args, (key,))
+            elif what < 0.86:
+                cache.put(key, value_of(key))
+            elif what < 0.96:
+                found = cache.look(key)
+                self.assertTrue(found is None or found.key == key)
+            elif what < 0.98:
+                cache.drop(key)
+            elif what < 0.99:
+                cache.forget(key)
+            elif what < 0.9999:
+                cache.clean()
+            else:
+                cache.clear()
+
+    def test_after_a_hundred_thousand_requests_exactly_what_is_held_is_kept(self):
+        now, live, told = [0], weakref.WeakSet(), collections.Counter()
+        lock = threading.Lock()
+
+        def on_leave(key, value, cause):
+            with lock:
+                told[cause] += 1
+
+        cache = Cache(entries=500, bound=4000, after_write=900, refresh=400, weigh=lambda key, value: value.key % 20,
+                      clock=lambda: now[0], on_leave=on_leave)
+        together(8, lambda seed: self.requests(cache, now, live, seed, 12_500))
+        numbers, stats = cache.numbers(), cache.stats()
+        print("%d entries, kept %s, %s" % (numbers["entries"], cache.kept(), stats))
+        self.assertEqual((cache.kept(), numbers["flights"]), ((numbers["entries"],) * 2, 0))
+        gc.collect()
+        self.assertEqual(len(live), numbers["entries"])
+        self.assertEqual((stats.hits, stats.misses, stats.failed), (numbers["hits"], numbers["misses"], numbers["failed"]))
+        self.assertEqual(stats.expired + stats.size, numbers["evicted"])
+        self.assertEqual(told, {cause: count for cause in ("explicit", "replaced", "expired", "size") if (count := getattr(stats, cause))})
+        self.assertTrue(min(stats.loads, stats.refreshes, stats.stale, stats.expired, numbers["entries"]) > 0)
+        cache.close()
+        gc.collect()
+        self.assertEqual((len(live), sum(told.values())), (0, sum(stats[8:]) + numbers["entries"]))
+
+    def test_a_cache_that_is_closed_while_in_use_lets_go_of_everything(self):
+        cache, now, live, refused = Cache(entries=100), [0], weakref.WeakSet(), []
+
+        def work(seed):
+            if seed == 0:
+                for _ in range(200):
+                    cache.get(seed, lambda key: 0)
+                cache.close()
+                return
+            try:
+                self.requests(cache, now, live, seed, 5000)
+            except Refused as error:
+                refused.append(error.fault)
+
+        cache.put(0, Value(0))
+        together(8, work)
+        gc.collect()
+        self.assertEqual((set(refused), cache.kept(), len(cache._loads), len(live)), ({100}, (0, 0), 0, 0))
+
+
+if __name__ == "__main__":
+    unittest.main()

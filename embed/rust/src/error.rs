@@ -1,0 +1,40 @@
+//! Why a `get` has no value.
+use crate::Fault;
+use std::error::Error;
+use std::fmt::{Debug, Display, Formatter, Result};
+use std::sync::Arc;
+
+/// Why there is no value.
+#[derive(Debug, PartialEq, Eq)]
+pub enum GetError<E> {
+    /// The load failed, for all who shared it.
+    Load(Arc<E>),
+    /// The cache refused the call.
+    Refused(Fault),
+    /// A load asked for a key whose load waits for it: its own key, or one that another thread loads and that in turn waits for
+    /// this thread. Nobody would ever wake.
+    WaitsForItself,
+}
+
+// Not derived, since a shared error need not be `Clone`.
+impl<E> Clone for GetError<E> {
+    fn clone(&self) -> Self {
+        match self {
+            GetError::Load(error) => GetError::Load(error.clone()),
+            GetError::Refused(fault) => GetError::Refused(*fault),
+            GetError::WaitsForItself => GetError::WaitsForItself,
+        }
+    }
+}
+
+impl<E: Display> Display for GetError<E> {
+    fn fmt(&self, f: &mut Formatter<'_>) -> Result {
+        match self {
+            GetError::Load(error) => write!(f, "the load failed: {error}"),
+            GetError::Refused(fault) => write!(f, "the cache refused the call: {fault}"),
+            GetError::WaitsForItself => f.write_str("a load asked for a key whose load waits for it"),
+        }
+    }
+}
+
+impl<E: Debug + Display> Error for GetError<E> {}

@@ -1,0 +1,392 @@
+//! What a loader, a listener, a value's drop, and a key's hash, equality and clone may do. embed/CALLBACKS.md names these tests.
+mod common;
+use common::within_a_minute;
+use rookdresser::{Cache, Fault, Found, GetError, Landed, Loading, Setup, Stats};
+use std::hash::{Hash, Hasher};
+use std::panic::{catch_unwind, AssertUnwindSafe};
+use std::sync::atomic::{AtomicU64, Ordering};
+use std::sync::{Arc, Barrier, Mutex, OnceLock};
+
+const SETUP: Setup =
+    Setup { entries: 16, window: 1, flights: 8, bound: 1000, after_write: 0, after_access: 0, refresh: 0 };
+
+fn panics(work: impl FnOnce()) -> bool {
+    catch_unwind(AssertUnwindSafe(work)).is_err()
+}
+
+fn holds_exactly<K, V, E>(cache: &Loading<K, V, E>) {
+    let n = cache.numbers();
+    assert_eq!((cache.kept(), n.flights), ((n.entries as usize, n.entries as usize), 0));
+}
+
+// An error of which there is one, as those of input and output are.
+#[derive(Debug, PartialEq)]
+struct Down;
+
+impl std::fmt::Display for Down {
+    fn fmt(&self, f: &mut std::fmt::Formatter<'_>) -> std::fmt::Result {
+        f.write_str("the source is down")
+    }
+}
+
+#[test]
+fn a_loader_that_fails_fails_for_all_and_its_error_need_not_be_clone() {
+    let cache = Loading::<u64, u64, Down>::open(&SETUP).unwrap();
+    let gate = Barrier::new(2);
+    std::thread::scope(|s| {
+        let joins = s.spawn(|| {
+            gate.wait();
+            cache.get(&1, 0, || Ok((2, 1)))
+        });
+        let leads = cache.get(&1, 0, || {
+            gate.wait();
+            while cache.stats().joins == 0 {
+                std::thread::yield_now();
+            }
+            Err(Down)
+        });
+        assert_eq!(leads, Err(GetError::Load(Arc::new(Down))));
+        assert_eq!(joins.join().unwrap(), Err(GetError::Load(Arc::new(Down))));
+    });
+    holds_exactly(&cache);
+}
+
+#[test]
+fn the_question_mark_passes_a_get_s_error_on() {
+    fn ask(cache: &Loading<u64, u64, Down>) -> Result<u64, Box<dyn std::error::Error>> {
+        Ok(*cache.get(&1, 0, || Err(Down))?)
+    }
+    let cache = Loading::open(&SETUP).unwrap();
+    assert_eq!(ask(&cache).unwrap_err().to_string(), "the load failed: the source is down");
+}
+
+#[test]
+fn a_loader_that_panics_is_asked_again_by_those_who_joined() {
+    let cache = Loading::<u64, u64, Down>::open(&SETUP).unwrap();
+    let gate = Barrier::new(2);
+    std::thread::scope(|s| {
+        let joins = s.spawn(|| {
+            gate.wait();
+            cache.get(&1, 0, || Ok((2, 1)))
+        });
+        assert!(panics(|| {
+            let _ = cache.get(&1, 0, || {
+                gate.wait();
+                while cache.stats().joins == 0 {
+                    std::thread::yield_now();
+                }
+                panic!("of the loader")
+            });
+        }));
+        assert_eq!(joins.join().unwrap(), Ok(Arc::new(2)));
+    });
+    assert_eq!(cache.stats().failed, 1);
+    holds_exactly(&cache);
+}
+
+#[test]
+fn a_loader_may_use_the_cache_for_other_keys_and_change_its_own() {
+    let cache = Loading::<u64, u64, Down>::open(&SETUP).unwrap();
+    let got = cache.get(&1, 0, || {
+        cache.put(&1, Arc::new(7), 1, 0).unwrap();
+        Ok((*cache.get(&2, 0, || Ok((20, 1))).unwrap() + 1, 1))
+    });
+    assert_eq!(
+        (got, cache.look(&1, 0), cache.look(&2, 0)),
+        (Ok(Arc::new(21)), Ok(Some(Arc::new(7))), Ok(Some(Arc::new(20))))
+    );
+    assert_eq!(cache.stats().stale, 1);
+    holds_exactly(&cache);
+}
+
+#[test]
+fn a_loader_that_asks_for_its_own_key_is_told() {
+    within_a_minute(|| {
+        let cache = Loading::<u64, u64, GetError<Down>>::open(&SETUP).unwrap();
+        let mut inner = Ok(Arc::new(0));
+        let got = cache.get(&1, 0, || {
+            inner = cache.get(&1, 0, || Ok((1, 1)));
+            Ok((2, 1))
+        });
+        assert_eq!((inner, got), (Err(GetError::WaitsForItself), Ok(Arc::new(2))));
+        holds_exactly(&cache);
+    });
+}
+
+#[test]
+fn loaders_of_two_threads_that_wait_for_each_other_are_told() {
+    within_a_minute(|| {
+        let cache = Loading::<u64, u64, Down>::open(&SETUP).unwrap();
+        let (gate, told) = (Barrier::new(2), AtomicU64::new(0));
+        // Each loads its key and then asks for the other's.
+        let ask = |own: u64, other: u64| {
+            cache.get(&own, 0, || {
+                gate.wait();
+                match cache.get(&other, 0, || Ok((other, 1))) {
+                    Ok(_) => {}
+                    Err(error) => {
+                        assert_eq!(error, GetError::WaitsForItself);
+                        told.fetch_add(1, Ordering::SeqCst);
+                    }
+                }
+                Ok((own, 1))
+            })
+        };
+        std::thread::scope(|s| {
+            let first = s.spawn(|| ask(1, 2));
+            assert_eq!(ask(2, 1), Ok(Arc::new(2)));
+            assert_eq!(first.join().unwrap(), Ok(Arc::new(1)));
+        });
+        assert_eq!(told.into_inner(), 1);
+        holds_exactly(&cache);
+    });
+}
+
+#[test]
+fn a_weight_out_of_range_stores_nothing_and_is_no_error_of_a_get() {
+    let cache = Loading::<u64, u64, Down>::open(&SETUP).unwrap();
+    assert_eq!(cache.get(&1, 0, || Ok((7, u32::MAX))), Ok(Arc::new(7)));
+    assert_eq!(cache.put(&1, Arc::new(7), u32::MAX, 0), Err(Fault::TooHeavy));
+    assert_eq!((cache.look(&1, 0), cache.stats().stale), (Ok(None), 1));
+    assert_eq!(cache.stats().refused[Fault::TooHeavy.place()], 1);
+    holds_exactly(&cache);
+}
+
+#[test]
+fn a_refresh_that_fails_returns_the_old_value() {
+    let cache = Loading::<u64, u64, Down>::open(&Setup { refresh: 50, ..SETUP }).unwrap();
+    cache.put(&1, Arc::new(7), 1, 0).unwrap();
+    assert_eq!(cache.get(&1, 60, || Err(Down)), Ok(Arc::new(7)));
+    assert_eq!(cache.get(&1, 60, || Ok((8, 1))), Ok(Arc::new(8)));
+    let Stats { hits, misses, refreshes, loads, failed, replaced, .. } = cache.stats();
+    assert_eq!((hits, misses, refreshes, loads, failed, replaced), (2, 0, 2, 1, 1, 1));
+}
+
+#[test]
+fn an_entry_that_expires_while_its_refresh_fails_is_let_go() {
+    let setup = Setup { after_write: 100, refresh: 50, ..SETUP };
+    let mut alone = Cache::<String, Vec<u8>>::open(&setup).unwrap();
+    let key = String::from("a page");
+    alone.put(&key, vec![0; 10], 1, 0).unwrap();
+    let Found::HitLead(_, id) = alone.seek(&key, 60).unwrap().0 else { panic!("it is due") };
+    let (landed, left) = alone.fail(id, &key, 150);
+    assert_eq!((landed, left.len(), alone.kept(), alone.numbers().entries), (Landed::Failed(1), 1, (0, 0), 0));
+
+    let cache = Loading::<u64, u64, Down>::open(&setup).unwrap();
+    for now in (0..200_000).step_by(200) {
+        cache.put(&1, Arc::new(7), 1, now).unwrap();
+        let got = cache.get(&1, now + 60, || {
+            cache.look(&2, now + 150).unwrap();
+            Err(Down)
+        });
+        assert_eq!(got, Ok(Arc::new(7)));
+    }
+    assert_eq!((cache.kept(), cache.numbers().entries), ((0, 0), 0));
+}
+
+#[test]
+fn the_age_of_a_loaded_value_counts_from_the_get() {
+    let cache = Loading::<u64, u64, Down>::open(&Setup { after_write: 100, ..SETUP }).unwrap();
+    assert_eq!(cache.get(&1, 1000, || Ok((7, 1))), Ok(Arc::new(7)));
+    assert_eq!(cache.look(&1, 1099), Ok(Some(Arc::new(7))));
+    assert_eq!(cache.look(&1, 1100), Ok(None));
+    // While the load is made, the clock of the cache moves on: a moment before the latest one counts as the latest.
+    let got = cache.get(&2, 2000, || {
+        cache.look(&3, 2090).unwrap();
+        Ok((8, 1))
+    });
+    assert_eq!((got, cache.look(&2, 2189)), (Ok(Arc::new(8)), Ok(Some(Arc::new(8)))));
+    assert_eq!(cache.look(&2, 2190), Ok(None));
+}
+
+// A value whose drop uses the cache that it was in.
+struct Asks(u64);
+
+static ASKED: OnceLock<Loading<u64, Asks, Down>> = OnceLock::new();
+
+impl Drop for Asks {
+    fn drop(&mut self) {
+        let cache = ASKED.get().expect("it is open");
+        cache.drop_key(&(self.0 + 1000), 0).unwrap();
+        // Its own key, too: a value that drops whenever it is stored would never end.
+        if self.0 < 3 {
+            let _ = cache.get(&self.0, 0, || Ok((Asks(self.0 + 3), 1)));
+        }
+    }
+}
+
+#[test]
+fn a_value_s_drop_may_use_the_cache() {
+    within_a_minute(|| {
+        let cache = ASKED.get_or_init(|| Loading::open(&Setup { entries: 2, ..SETUP }).unwrap());
+        for key in 0..20 {
+            assert!(cache.get(&key, 0, || Ok((Asks(key), 1))).is_ok());
+        }
+        drop(cache.clear(0).unwrap());
+        holds_exactly(cache);
+    });
+}
+
+// A value that counts how many of its kind there are, and panics as it is dropped if it is told to.
+#[derive(Debug)]
+struct Counted(Arc<AtomicU64>, bool);
+
+impl Counted {
+    fn new(count: &Arc<AtomicU64>, panics: bool) -> Counted {
+        count.fetch_add(1, Ordering::SeqCst);
+        Counted(count.clone(), panics)
+    }
+}
+
+impl Drop for Counted {
+    fn drop(&mut self) {
+        self.0.fetch_sub(1, Ordering::SeqCst);
+        if self.1 {
+            panic!("of a drop")
+        }
+    }
+}
+
+#[test]
+fn a_value_s_drop_that_panics_spoils_nothing() {
+    within_a_minute(|| {
+        let count = Arc::new(AtomicU64::new(0));
+        let cache = Loading::<u64, Counted, Down>::open(&Setup { entries: 2, ..SETUP }).unwrap();
+        let get = |key: u64, weight| panics(|| drop(cache.get(&key, 0, || Ok((Counted::new(&count, true), weight)))));
+        // Two are held, so three of five were evicted.
+        assert_eq!((0..5).filter(|&key| get(key, 1)).count(), 3);
+        holds_exactly(&cache);
+        assert_eq!((cache.numbers().entries, count.load(Ordering::SeqCst)), (2, 2));
+        // A heavy one evicts both at once: each is dropped, and the get panics once.
+        assert!(get(9, 1000));
+        assert_eq!((cache.kept(), count.load(Ordering::SeqCst)), ((1, 1), 1));
+        // The last one would panic as the cache is dropped.
+        std::mem::forget(cache);
+    });
+}
+
+#[test]
+fn a_listener_is_told_what_left_in_a_get_and_may_use_the_cache() {
+    within_a_minute(|| {
+        static CACHE: OnceLock<Loading<u64, u64, Down>> = OnceLock::new();
+        static TOLD: Mutex<Vec<(u64, u64)>> = Mutex::new(Vec::new());
+        let cache = CACHE.get_or_init(|| {
+            let cache = Loading::open(&Setup { after_write: 100, ..SETUP }).unwrap();
+            cache.with_listener(|left| {
+                let again = CACHE.get().unwrap().get(&left.key, 200, || Ok((9, 1)));
+                TOLD.lock().unwrap().push((*left.key, *again.unwrap()));
+            })
+        });
+        cache.put(&1, Arc::new(7), 1, 0).unwrap();
+        assert_eq!(cache.get(&1, 200, || Ok((8, 1))), Ok(Arc::new(8)));
+        // The value that the get loaded was there by the time that the listener was called.
+        assert_eq!(*TOLD.lock().unwrap(), [(1, 8)]);
+        holds_exactly(cache);
+    });
+}
+
+#[test]
+fn a_listener_that_panics_keeps_nothing_from_being_told() {
+    let told = Arc::new(AtomicU64::new(0));
+    let counted = told.clone();
+    let cache = Loading::<u64, u64, Down>::open(&SETUP).unwrap().with_listener(move |_| {
+        counted.fetch_add(1, Ordering::SeqCst);
+        panic!("of the listener")
+    });
+    for key in 0..3 {
+        cache.put(&key, Arc::new(key), 1, 0).unwrap();
+    }
+    assert!(panics(|| drop(cache.clear(0))));
+    assert_eq!((told.load(Ordering::SeqCst), cache.numbers().entries), (3, 0));
+    // A get whose load makes an entry leave has landed by the time that it panics.
+    let cache = Loading::<u64, u64, Down>::open(&Setup { entries: 1, ..SETUP })
+        .unwrap()
+        .with_listener(|_| panic!("of the listener"));
+    cache.put(&1, Arc::new(1), 1, 0).unwrap();
+    assert!(panics(|| drop(cache.put(&1, Arc::new(2), 1, 0))));
+    assert_eq!(cache.look(&1, 0), Ok(Some(Arc::new(2))));
+    holds_exactly(&cache);
+}
+
+// A key whose hash, equality and clone do as they are told. All of them have one hash.
+#[derive(Debug)]
+struct Odd(u64);
+
+static ODD: OnceLock<Loading<Odd, u64, Down>> = OnceLock::new();
+static IN_EQ: AtomicU64 = AtomicU64::new(0);
+
+impl Hash for Odd {
+    fn hash<H: Hasher>(&self, state: &mut H) {
+        assert_ne!(self.0, 99, "of the hash");
+        state.write_u8(5);
+    }
+}
+
+impl PartialEq for Odd {
+    fn eq(&self, other: &Odd) -> bool {
+        assert!(self.0 != 98 && other.0 != 98, "of the equality");
+        // An equality that asks the cache for its own key, once.
+        if IN_EQ.swap(0, Ordering::SeqCst) == 1 {
+            ODD.get().unwrap().look(self, 0).unwrap();
+            ODD.get().unwrap().put(&Odd(50), Arc::new(50), 1, 0).unwrap();
+        }
+        self.0 == other.0
+    }
+}
+
+impl Eq for Odd {}
+
+impl Clone for Odd {
+    fn clone(&self) -> Odd {
+        // A clone that asks the cache.
+        ODD.get().unwrap().look(&Odd(1), 0).unwrap();
+        assert_ne!(self.0, 97, "of the clone");
+        Odd(self.0)
+    }
+}
+
+#[test]
+fn a_key_s_hash_equality_and_clone_may_panic_and_use_the_cache() {
+    within_a_minute(|| {
+        let cache = ODD.get_or_init(|| Loading::open(&SETUP).unwrap());
+        for key in 0..4 {
+            assert_eq!(cache.get(&Odd(key), 0, || Ok((key, 1))), Ok(Arc::new(key)));
+        }
+        for bad in [99, 98, 97] {
+            assert!(panics(|| drop(cache.get(&Odd(bad), 0, || Ok((bad, 1))))));
+            assert!(panics(|| drop(cache.put(&Odd(bad), Arc::new(bad), 1, 0))));
+            holds_exactly(cache);
+        }
+        for key in 0..4 {
+            IN_EQ.store(1, Ordering::SeqCst);
+            assert_eq!(cache.get(&Odd(key), 0, || Ok((100, 1))), Ok(Arc::new(key)));
+            assert_eq!(cache.look(&Odd(key), 0), Ok(Some(Arc::new(key))));
+        }
+        assert_eq!(cache.drop_key(&Odd(2), 0).unwrap().len(), 1);
+        assert_eq!((cache.look(&Odd(2), 0), cache.look(&Odd(3), 0)), (Ok(None), Ok(Some(Arc::new(3)))));
+        assert_eq!(cache.look(&Odd(50), 0), Ok(Some(Arc::new(50))));
+        holds_exactly(cache);
+    });
+}
+
+#[test]
+fn a_key_alone_of_its_hash_is_not_taken_for_another() {
+    ODD.get_or_init(|| Loading::open(&SETUP).unwrap());
+    let cache = Loading::<Odd, u64, Down>::open(&Setup { refresh: 10, ..SETUP }).unwrap();
+    cache.put(&Odd(1), Arc::new(1), 1, 0).unwrap();
+    // The one row of the hash is tried first, and another key's due entry then stays as it is.
+    assert_eq!(cache.get(&Odd(2), 20, || Ok((2, 1))), Ok(Arc::new(2)));
+    assert_eq!((cache.look(&Odd(1), 20), cache.look(&Odd(2), 20)), (Ok(Some(Arc::new(1))), Ok(Some(Arc::new(2)))));
+    assert_eq!(cache.look(&Odd(3), 20), Ok(None));
+    holds_exactly(&cache);
+}
+
+#[test]
+fn a_setup_is_made_for_a_number_of_entries_and_says_what_is_out_of_range() {
+    assert_eq!((Setup::of(1000).window, Setup::of(7).window, Setup::default()), (10, 1, Setup::of(1000)));
+    assert_eq!((Setup::of(1000).check(), Setup { window: 17, ..SETUP }.check()), (None, Some("window")));
+    assert_eq!(
+        (Setup { entries: 0, ..SETUP }.check(), Setup { bound: 0, ..SETUP }.check()),
+        (Some("entries"), Some("bound"))
+    );
+}
