@@ -1,5 +1,5 @@
 -- Keys that stand once over several lists, and what promote gives by cases.
-use Rattle.std.proofs.Common.{◌≡◌, ℕ, suc, ◌-◌, ◌<◌, ◌≤◌, Bool, true, false, cond, List, [], ◌∷◌, ◌++◌, length, take, Option, Some, None, refl, sym, ap, subst, ◌∙◌, arith, rules}
+use Rattle.std.proofs.Common.{◌≡◌, ℕ, suc, ◌-◌, ◌<◌, ◌≤◌, Bool, true, false, cond, List, [], ◌∷◌, ◌++◌, length, take, Option, Some, None, refl, subst, ◌∙◌, arith, rules}
 use Rattle.std.specs.Map.{keys_of, lookup, lookup_entry}
 use Rattle.std.specs.List.{IsDistinct, AllByRecursion, slice_get}
 use Rattle.std.specs.Prelude.{nat_lt, IsSome}
@@ -9,7 +9,7 @@ use Rattle.lru.specs.LruCache.{last_entry}
 use Rattle.lru.proofs.CallerLemmas.{Contains-lookup_entry}
 use Rattle.wt_regions.specs.declared.held.Held.{Held}
 use Rattle.wt_regions.specs.declared.caps.Caps.{Caps}
-use Rattle.wt_regions.proofs.Moves.{split_of_last, lookup-from_entry, lookup_none-entry}
+use Rattle.wt_regions.proofs.Moves.{split_of_last, lookup-append, lookup-from_entry, lookup_none-entry}
 use Rattle.wt_regions.specs.Lists.{Entry, all_but_last, protected_cap}
 use Rattle.wt_regions.specs.Touch.{promoted}
 
@@ -72,6 +72,29 @@ module _ {K V : Type 0} (eq : K → K → Bool) where
     | true ↦ λ t q. let is : k ≡ e.0 = same k e.0 t in let value : e.1 ≡ h = cc in rw (is, ← value)
     | false ↦ λ t q. entry-from_lookup same k es h q
   ]) refl s
+
+module _ {K V : Type 0} (eq : K → K → Bool) (laws : IsEquivalence eq) (k : K) where
+  apart_if : (xs ys : List (Entry K V)) (o : Option (Held V)) (h : Held V) → IsDistinct eq (keys_of (xs ++ ys)) → lookup (eq k) xs ≡ o → lookup (eq k) ys ≡ Some h → lookup (eq k) xs ≡ None
+  apart_if xs ys None h once is at = is
+  apart_if xs ys (Some g) h once is at = let off = apart eq laws k xs ys g once is in cc
+
+  -- a key that is in the second list is not in the first
+  before : (xs ys : List (Entry K V)) (h : Held V) → IsDistinct eq (keys_of (xs ++ ys)) → lookup (eq k) ys ≡ Some h → lookup (eq k) xs ≡ None
+  before xs ys h once at = apart_if xs ys (lookup (eq k) xs) h once refl at
+
+  module _ (ws ps qs : List (Entry K V)) (h : Held V) (once : IsDistinct eq (keys_of (ws ++ (ps ++ qs)))) where
+    -- a key that is in probation is not in window
+    pub above-probation : lookup (eq k) ps ≡ Some h → lookup (eq k) ws ≡ None
+    above-probation at =
+        let on : lookup (eq k) (ps ++ qs) ≡ Some h = rw (lookup-append (eq k) ps qs, at) in
+        before ws (ps ++ qs) h once on
+
+    -- a key that is in protected is in neither of the others
+    pub above-protected : lookup (eq k) qs ≡ Some h → (lookup (eq k) ws ≡ None) × (lookup (eq k) ps ≡ None)
+    above-protected at =
+        let off = before ps qs h (distinct_after eq ws (ps ++ qs) once) at in
+        let on : lookup (eq k) (ps ++ qs) ≡ Some h = rw (lookup-append (eq k) ps qs, off, at) in
+        (before ws (ps ++ qs) h once on, off)
 
 pub last_below : {K V : Type 0} (e : K × V) (es : List (K × V)) (l : K × V) → last_entry es ≡ Some l → last_entry (e ∷ es) ≡ Some l
 last_below e [] l h = cc

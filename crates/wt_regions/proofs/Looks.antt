@@ -1,7 +1,8 @@
 -- What a look finds, and what the use of it leaves.
 use Rattle.std.proofs.Common.{◌≡◌, ℕ, Bool, true, false, cond, List, ◌++◌, Option, Some, None, refl}
 use Rattle.std.specs.Option.{option_map_or, is_some}
-use Rattle.std.specs.Map.{lookup}
+use Rattle.std.specs.List.{IsDistinct}
+use Rattle.std.specs.Map.{keys_of, lookup}
 use Rattle.std.specs.Prelude.{IsSome}
 use Rattle.std.specs.Cmp.{IsEquivalence}
 use Rattle.wt_regions.specs.declared.caps.Caps.{Caps}
@@ -15,7 +16,7 @@ use Rattle.wt_regions.specs.Touch.{looked_at, touched, used_if}
 use Rattle.wt_regions.specs.Lawful.{IsLawful}
 use Rattle.wt_regions.specs.Moves.{in_front, seen_at}
 use Rattle.wt_regions.proofs.Moves.{lookup-append, lookup_entry-none}
-use Rattle.wt_regions.proofs.Apart.{entry-from_lookup}
+use Rattle.wt_regions.proofs.Apart.{above-protected, above-probation, entry-from_lookup}
 use Rattle.wt_regions.proofs.Touches.{touched-window, touched-protected, touched-kept}
 
 module _ {K V : Type 0} (eq : K → K → Bool) (k : K) (now : ℕ) where
@@ -36,7 +37,15 @@ module _ {K V : Type 0} (eq : K → K → Bool) (k : K) (now : ℕ) where
     held-nowhere : lookup (eq k) ws ≡ None → lookup (eq k) ps ≡ None → lookup (eq k) qs ≡ None → held_for eq k (lists_of c ws ps qs) ≡ None
     held-nowhere nw np nq = rw (lookup-append (eq k) ws (ps ++ qs), nw, lookup-append (eq k) ps qs, np, nq)
 
-module _ {K V : Type 0} (eq : K → K → Bool) (same : (a b : K) → eq a b ≡ true → a ≡ b) (k : K) (now : ℕ) (c : Caps) (ws ps qs : List (Entry K V)) where
+    last_if : (o : Option (Held V)) → lookup (eq k) ws ≡ o → lookup (eq k) ps ≡ None → lookup (eq k) qs ≡ None → held_for eq k (lists_of c ws ps qs) ≡ o
+    last_if (Some h) is np nq = held-window h is
+    last_if None is np nq = held-nowhere is np nq
+
+    -- what is in neither part of main is what window has
+    pub held-outside : lookup (eq k) ps ≡ None → lookup (eq k) qs ≡ None → held_for eq k (lists_of c ws ps qs) ≡ lookup (eq k) ws
+    held-outside np nq = last_if (lookup (eq k) ws) refl np nq
+
+module _ {K V : Type 0} (eq : K → K → Bool) (laws : IsEquivalence eq) (same : (a b : K) → eq a b ≡ true → a ≡ b) (k : K) (now : ℕ) (c : Caps) (ws ps qs : List (Entry K V)) (once : IsDistinct eq (keys_of (ws ++ (ps ++ qs)))) where
   abbrev r : Lists K V
   r = lists_of c ws ps qs
 
@@ -74,17 +83,17 @@ module _ {K V : Type 0} (eq : K → K → Bool) (same : (a b : K) → eq a b ≡
       let is = held-protected eq k now c ws ps qs h nw np at in
       (rw (is, e) refl, rw (is, e) (touched-protected eq k (used now) c ws ps qs nw np))
 
-  look_at : (ow op oq : Option (Held V)) → lookup (eq k) ws ≡ ow → lookup (eq k) ps ≡ op → lookup (eq k) qs ≡ oq
-      → IsLook (option_map_or (λ (h : Held V). cond (is_expired c now h) Expired (InWindow h.value)) ow
+  look_at : (oq op ow : Option (Held V)) → lookup (eq k) qs ≡ oq → lookup (eq k) ps ≡ op → lookup (eq k) ws ≡ ow
+      → IsLook (option_map_or (λ (h : Held V). cond (is_expired c now h) Expired (InProtected h.value)) oq
       (option_map_or (λ (h : Held V). cond (is_expired c now h) Expired (InProbation h.value (used now h))) op
-      (option_map_or (λ (h : Held V). cond (is_expired c now h) Expired (InProtected h.value)) oq Nowhere)))
-  look_at (Some h) op oq iw ip iq = window_if h (is_expired c now h) iw refl
-  look_at None (Some h) oq iw ip iq = probation_if h (is_expired c now h) iw ip refl
-  look_at None None (Some h) iw ip iq = protected_if h (is_expired c now h) iw ip iq refl
-  look_at None None None iw ip iq = let is = held-nowhere eq k now c ws ps qs iw ip iq in (rw is refl, rw is refl)
+      (option_map_or (λ (h : Held V). cond (is_expired c now h) Expired (InWindow h.value)) ow Nowhere)))
+  look_at (Some h) op ow iq ip iw = let off = above-protected eq laws k ws ps qs h once iq in protected_if h (is_expired c now h) off.0 off.1 iq refl
+  look_at None (Some h) ow iq ip iw = probation_if h (is_expired c now h) (above-probation eq laws k ws ps qs h once ip) ip refl
+  look_at None None (Some h) iq ip iw = window_if h (is_expired c now h) iw refl
+  look_at None None None iq ip iw = let is = held-nowhere eq k now c ws ps qs iw ip iq in (rw is refl, rw is refl)
 
   pub look-is : IsLook (seen_at eq k now r)
-  look-is = look_at (lookup (eq k) ws) (lookup (eq k) ps) (lookup (eq k) qs) refl refl refl
+  look-is = look_at (lookup (eq k) qs) (lookup (eq k) ps) (lookup (eq k) ws) refl refl refl
 
 -- a look keeps the regions lawful and their weight
 module _ {K V : Type 0} (eq : K → K → Bool) (laws : IsEquivalence eq) (weigh : V → ℕ) (k : K) (now : ℕ) where

@@ -39,9 +39,9 @@ module _ {K V : Type 0} where
     -- where a look-up finds an entry, with what its use needs
     abbrev pub seen_at : ℕ → Lists K V → Seen V
     seen_at now r =
-        option_map_or (λ h. if is_expired r.caps now h then Expired else InWindow h.value) (lookup (eq k) r.window)
+        option_map_or (λ h. if is_expired r.caps now h then Expired else InProtected h.value) (lookup (eq k) r.protected)
         (option_map_or (λ h. if is_expired r.caps now h then Expired else InProbation h.value (used now h)) (lookup (eq k) r.probation)
-        (option_map_or (λ h. if is_expired r.caps now h then Expired else InProtected h.value) (lookup (eq k) r.protected)
+        (option_map_or (λ h. if is_expired r.caps now h then Expired else InWindow h.value) (lookup (eq k) r.window)
         Nowhere))
 
     -- how many entries have another key than k

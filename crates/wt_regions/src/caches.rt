@@ -1,12 +1,13 @@
 // The caches of the three regions with their limits, which the movers change as one.
 ghost use Rattle.std.specs.Prelude.{◌≡◌, length, IfOk, option_copied};
+ghost use Rattle.std.specs.List.{IsDistinct};
 ghost use Rattle.std.specs.Map.{keys_of};
 ghost use Rattle.wt_regions.specs.Lawful.{IsFit};
 ghost use Rattle.wt_regions.specs.Lists.{all_entries, held_for, no_entries, region_of};
 
 use crate::caps::Caps;
 use crate::held::Held;
-use crate::lru_cache::{empty_cache, keys_in};
+use crate::lru_cache::{empty_cache, held_in, keys_in};
 use lru::LruCache;
 use std::alloc::Global;
 use std::marker::Model;
@@ -68,17 +69,18 @@ impl<K: CacheKey, V: Drop> Caches<K, V> {
         })
     }
 
-    // What is held for the key.
+    // What is held for the key. Protected comes first: most keys that are there are in it.
     pub(crate) fn find(&self, key: K) -> Option<&Held<V>>
+        requires { IsDistinct K.eq (keys_of (all_entries self.now)) }
         ensures { option_copied result ≡ held_for K.eq key self.now }
     {
-        if let Some(held) = self.window.peek(&key) {
+        if let Some(held) = held_in(&self.protected, key) {
             return Some(held);
         }
-        if let Some(held) = self.probation.peek(&key) {
+        if let Some(held) = held_in(&self.probation, key) {
             return Some(held);
         }
-        self.protected.peek(&key)
+        self.window.peek(&key)
     }
 
     // How many entries there are.

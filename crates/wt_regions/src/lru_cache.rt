@@ -1,6 +1,6 @@
 // What the regions do with one `LruCache`. Each has one place more than its region may hold, so
 // that no push drops an entry: where one has to leave, it is taken out by name and told of.
-ghost use Rattle.std.specs.Prelude.{◌≡◌, ◌+◌, ◌<◌, ◌≤◌, ◌∷◌, [], length, None, IfOk, OnOk, OnErr, IsSome, is_some};
+ghost use Rattle.std.specs.Prelude.{◌≡◌, ◌+◌, ◌<◌, ◌≤◌, ◌∷◌, [], length, None, IfOk, OnOk, OnErr, IsSome, is_some, option_copied};
 ghost use Rattle.std.specs.Map.{keys_of, lookup};
 ghost use Rattle.lru.specs.LruCache.{lru_cache};
 ghost use Rattle.wt_regions.specs.Lists.{used};
@@ -42,6 +42,17 @@ pub(crate) fn push_new<K: CacheKey, V: Drop>(
         Ok(_) => Ok(()),
         Err(_) => Err(NoMemory),
     }
+}
+
+// What is held for the key. An empty cache isn't looked into: main is empty where window may hold
+// all entries.
+pub(crate) fn held_in<K: CacheKey, V>(cache: &LruCache<K, Held<V>>, key: K) -> Option<&Held<V>>
+    ensures { option_copied result ≡ lookup (K.eq key) cache.now.entries }
+{
+    if cache.is_empty() {
+        return None;
+    }
+    cache.peek(&key)
 }
 
 // Brings the entry of the key to the front, used now, and answers whether there is one.

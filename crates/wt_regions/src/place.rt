@@ -21,7 +21,7 @@ ghost use Rattle.wt_regions.specs.Steps.{placed};
 
 use crate::caches::Caches;
 use crate::held::Held;
-use crate::lru_cache::{push_new, replace_in};
+use crate::lru_cache::{held_in, push_new, replace_in};
 use crate::notices::{Cause, Notices, tell_held, tell_left};
 use crate::weighs::Weighs;
 use wt_keys::{CacheKey, NoMemory, Share};
@@ -137,24 +137,24 @@ impl<K: CacheKey, V: Share + Weighs> Caches<K, V> {
         ensures err { OnErr result ((self.new ≡ self.old) × (notices.new ≡ notices.old)) }
     {
         let now = held.written;
-        if let Some(own) = self.window.peek(&key) {
-            let cause = self.caps.cause_of(now, own, Cause::Replaced);
-            let old = replace_in(&mut self.window, key, held);
-            return Ok(tell_held(notices, key, old, cause));
+        if let Some(own) = held_in(&self.protected, key) {
+            if self.caps.is_expired(now, own) {
+                return self.settle_past(key, held, notices);
+            }
+            let old = replace_in(&mut self.protected, key, held);
+            return Ok(tell_held(notices, key, old, Cause::Replaced));
         }
-        if let Some(own) = self.probation.peek(&key) {
+        if let Some(own) = held_in(&self.probation, key) {
             if self.caps.is_expired(now, own) {
                 return self.settle_past(key, held, notices);
             }
             let old = self.promote(key, held)?;
             return Ok(tell_held(notices, key, old, Cause::Replaced));
         }
-        if let Some(own) = self.protected.peek(&key) {
-            if self.caps.is_expired(now, own) {
-                return self.settle_past(key, held, notices);
-            }
-            let old = replace_in(&mut self.protected, key, held);
-            return Ok(tell_held(notices, key, old, Cause::Replaced));
+        if let Some(own) = self.window.peek(&key) {
+            let cause = self.caps.cause_of(now, own, Cause::Replaced);
+            let old = replace_in(&mut self.window, key, held);
+            return Ok(tell_held(notices, key, old, cause));
         }
         self.settle(key, held, sketch, notices)
     }

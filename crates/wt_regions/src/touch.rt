@@ -6,14 +6,15 @@
 //
 // A look first finds the region, and makes the shares that the move needs; then the entry moves.
 ghost use Rattle.std.specs.Prelude.{◌≡◌, false, None, IfOk, OnOk, OnErr, IsOk, IsSome};
-ghost use Rattle.std.specs.Map.{lookup};
-ghost use Rattle.wt_regions.specs.Lists.{found_at, has_at};
+ghost use Rattle.std.specs.List.{IsDistinct};
+ghost use Rattle.std.specs.Map.{keys_of, lookup};
+ghost use Rattle.wt_regions.specs.Lists.{all_entries, found_at, has_at};
 ghost use Rattle.wt_regions.specs.Moves.{IsPlaced, seen_at};
 ghost use Rattle.wt_regions.specs.Touch.{looked_at, touched};
 
 use crate::caches::Caches;
 use crate::held::Held;
-use crate::lru_cache::{freshen, push_new, replace_in};
+use crate::lru_cache::{freshen, held_in, push_new, replace_in};
 use crate::weighs::Weighs;
 use wt_keys::{CacheKey, NoMemory, Share};
 
@@ -40,29 +41,31 @@ pub(crate) enum Seen<V> {
 }
 
 impl<K: CacheKey, V: Share + Weighs> Caches<K, V> {
-    // Looks the key up, and makes the shares. Only a hit takes memory.
+    // Looks the key up, and makes the shares. Only a hit takes memory. Protected comes first: most
+    // look-ups that hit find their entry there.
     fn look(&self, key: K, now: u64) -> Result<Seen<V>, NoMemory>
+        requires { IsDistinct K.eq (keys_of (all_entries self.now)) }
         ensures found { IfOk result (λ seen. seen ≡ seen_at K.eq key now self.now) }
         ensures miss_succeeds { has_at K.eq key now self.now ≡ false → IsOk result }
     {
-        if let Some(held) = self.window.peek(&key) {
+        if let Some(held) = held_in(&self.protected, key) {
             if self.caps.is_expired(now, held) {
                 return Ok(Seen::Expired);
             }
-            return Ok(Seen::InWindow(held.value.share()?));
+            return Ok(Seen::InProtected(held.value.share()?));
         }
-        if let Some(held) = self.probation.peek(&key) {
+        if let Some(held) = held_in(&self.probation, key) {
             if self.caps.is_expired(now, held) {
                 return Ok(Seen::Expired);
             }
             let value = held.value.share()?;
             return Ok(Seen::InProbation(value, held.share_used(now)?));
         }
-        if let Some(held) = self.protected.peek(&key) {
+        if let Some(held) = self.window.peek(&key) {
             if self.caps.is_expired(now, held) {
                 return Ok(Seen::Expired);
             }
-            return Ok(Seen::InProtected(held.value.share()?));
+            return Ok(Seen::InWindow(held.value.share()?));
         }
         Ok(Seen::Nowhere)
     }
