@@ -23,6 +23,9 @@
  *    that thread's start or join. Several caches may be used at once;
  *  - malloc, realloc and free are of one allocator, and malloc aligns to 16;
  *  - no call is made from a signal handler, nor in the forked child of a process with threads.
+ *
+ * Keys go to the tables as they are: whoever chooses them can choose ones that the library treats alike, and so make it
+ * slow. Keys that strangers choose are made numbers under a secret seed before, as embed/c/seeded.h does.
  */
 #ifndef ROOKDRESSER_H
 #define ROOKDRESSER_H

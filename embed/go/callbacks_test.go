@@ -240,6 +240,53 @@ func TestAListenerIsToldWhatLeftAndMayUseTheCache(t *testing.T) {
 	}
 }
 
+func TestALoadOrAListenerThatBlocksStopsNoOtherCall(t *testing.T) {
+	c, begun, end, ended := open(t, setup), make(chan struct{}), make(chan struct{}), make(chan error)
+	block := func() { begun <- struct{}{}; <-end }
+	c.Listen(func(Left[uint64, string]) { block() })
+	meanwhile := func() {
+		<-begun
+		if v, err := c.Get(ctx, 2, 0, got("two")); v != "two" || err != nil {
+			t.Error(v, err)
+		}
+		if _, found, err := c.Look(3, 0); found || err != nil {
+			t.Error(found, err)
+		}
+		end <- struct{}{}
+	}
+	go func() {
+		_, err := c.Get(ctx, 1, 0, func() (string, uint32, error) { block(); return "one", 1, nil })
+		ended <- err
+	}()
+	meanwhile()
+	if err := <-ended; err != nil {
+		t.Fatal(err)
+	}
+	go func() { _, err := c.Drop(1, 0); ended <- err }()
+	meanwhile()
+	if err := <-ended; err != nil {
+		t.Fatal(err)
+	}
+	holds(t, c)
+	c.Listen(nil)
+}
+
+func TestAListenerMayCloseTheCache(t *testing.T) {
+	c := open(t, setup)
+	c.Listen(func(Left[uint64, string]) { c.Close() })
+	for key := uint64(0); key < 3; key++ {
+		if err := c.Put(key, "held", 1, 0); err != nil {
+			t.Fatal(err)
+		}
+	}
+	if there, err := c.Drop(1, 0); !there || err != nil {
+		t.Fatal(there, err)
+	}
+	if values, keys := c.Kept(); values != 0 || keys != 0 {
+		t.Fatal(values, keys)
+	}
+}
+
 func TestAListenerThatPanicsKeepsNothingFromBeingTold(t *testing.T) {
 	c := open(t, setup)
 	told := 0

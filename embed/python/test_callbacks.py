@@ -3,11 +3,12 @@
 import gc
 import logging
 import os
+import re
 import signal
-import sys
 import threading
 import time
 import unittest
+from pathlib import Path
 
 from rookdresser import Cache, Reentered, Refused, WaitsForItself
 from threads import together, within_a_minute
@@ -26,6 +27,23 @@ class Callbacks(unittest.TestCase):
             self.assertEqual(numbers["entries"], entries)
 
     # The loader.
+
+    def test_a_loader_that_raises_raises_in_all_who_joined(self):
+        cache, raised = Cache(entries=10), []
+
+        def load(key):
+            wait_for_joins(cache, 3)
+            raise KeyError(key)
+
+        def ask(_):
+            try:
+                cache.get("a", load)
+            except KeyError as error:
+                raised.append(error.args)
+
+        within_a_minute(lambda: together(4, ask))
+        self.assertEqual(raised, [("a",)] * 4)
+        self.holds_exactly(cache, 0)
 
     def test_a_loader_that_is_told_to_exit_ends_its_own_caller_alone(self):
         for ending in (SystemExit, KeyboardInterrupt):
@@ -220,6 +238,35 @@ class Callbacks(unittest.TestCase):
         # The value that the get loaded was there by the time that on_leave was called.
         self.assertEqual(told, [2])
         self.holds_exactly(cache, 1)
+
+    def test_a_loader_or_on_leave_that_blocks_stops_no_other_call(self):
+        begun, end = threading.Barrier(2), threading.Barrier(2)
+
+        def block(*of):
+            begun.wait()
+            end.wait()
+            return 7
+
+        def meanwhile():
+            begun.wait()
+            self.assertEqual(cache.get("b", lambda key: 20), 20)
+            self.assertIsNone(cache.look("c"))
+            end.wait()
+
+        cache = Cache(entries=10, on_leave=block)
+        for blocked in (lambda: cache.get("a", block), lambda: cache.drop("a")):
+            thread = threading.Thread(target=blocked)
+            thread.start()
+            within_a_minute(meanwhile)
+            thread.join()
+        self.holds_exactly(cache, 1)
+
+    def test_on_leave_may_close_the_cache(self):
+        cache = Cache(entries=10, on_leave=lambda *of: cache.close())
+        for key in range(3):
+            cache.put(key, key)
+        self.assertTrue(within_a_minute(lambda: cache.drop(1)))
+        self.assertEqual(cache.kept(), (0, 0))
 
     def test_closing_tells_on_leave_and_keeps_nothing(self):
         told = []
@@ -436,7 +483,15 @@ class Callbacks(unittest.TestCase):
         leader.join()
         self.assertEqual((os.WEXITSTATUS(status), cache.look("a")), (8, 7))
 
+    # The page.
+
+    def test_the_page_of_callbacks_names_tests_that_are_there(self):
+        embed = Path(__file__).resolve().parent.parent
+        tests = "".join(path.read_text() for pattern in ("rust/tests/*.rs", "go/*_test.go", "python/test_*.py") for path in embed.glob(pattern))
+        named = re.findall(r"`((?:Test|test_|an?_|the_|loaders_)\w+)`", (embed / "CALLBACKS.md").read_text())
+        self.assertEqual([name for name in named if not re.search(r"(?:fn|def|func) %s\(" % name, tests)], [])
+        self.assertGreater(len(named), 50)
+
 
 if __name__ == "__main__":
-    sys.dont_write_bytecode = True
     unittest.main()

@@ -252,7 +252,10 @@ fn a_value_s_drop_that_panics_spoils_nothing() {
     within_a_minute(|| {
         let count = Arc::new(AtomicU64::new(0));
         let cache = Loading::<u64, Counted, Down>::open(&Setup { entries: 2, ..SETUP }).unwrap();
-        let get = |key: u64, weight| panics(|| drop(cache.get(&key, 0, || Ok((Counted::new(&count, true), weight)))));
+        // With no AssertUnwindSafe: a panic leaves the cache whole.
+        let get = |key, weight| {
+            catch_unwind(|| drop(cache.get(&key, 0, || Ok((Counted::new(&count, true), weight))))).is_err()
+        };
         // Two are held, so three of five were evicted.
         assert_eq!((0..5).filter(|&key| get(key, 1)).count(), 3);
         holds_exactly(&cache);
@@ -282,6 +285,43 @@ fn a_listener_is_told_what_left_in_a_get_and_may_use_the_cache() {
         // The value that the get loaded was there by the time that the listener was called.
         assert_eq!(*TOLD.lock().unwrap(), [(1, 8)]);
         holds_exactly(cache);
+    });
+}
+
+#[test]
+fn a_loader_or_a_listener_that_blocks_stops_no_other_call() {
+    within_a_minute(|| {
+        let (begun, end) = (Arc::new(Barrier::new(2)), Arc::new(Barrier::new(2)));
+        let (begins, ends) = (begun.clone(), end.clone());
+        let cache = Loading::<u64, u64, Down>::open(&SETUP).unwrap().with_listener(move |_| {
+            begins.wait();
+            ends.wait();
+        });
+        // What the rest of the test does while one thread stands still within a callback.
+        let meanwhile = || {
+            begun.wait();
+            assert_eq!(cache.get(&2, 0, || Ok((20, 1))), Ok(Arc::new(20)));
+            cache.put(&3, Arc::new(30), 1, 0).unwrap();
+            assert_eq!(cache.look(&3, 0), Ok(Some(Arc::new(30))));
+            end.wait();
+        };
+        std::thread::scope(|s| {
+            let blocked = s.spawn(|| {
+                cache.get(&1, 0, || {
+                    begun.wait();
+                    end.wait();
+                    Ok((10, 1))
+                })
+            });
+            meanwhile();
+            assert_eq!(blocked.join().unwrap(), Ok(Arc::new(10)));
+            let blocked = s.spawn(|| cache.drop_key(&1, 0).unwrap().len());
+            begun.wait();
+            assert_eq!((cache.look(&1, 0), cache.get(&2, 0, || Err(Down))), (Ok(None), Ok(Arc::new(20))));
+            end.wait();
+            assert_eq!(blocked.join().unwrap(), 1);
+        });
+        holds_exactly(&cache);
     });
 }
 
