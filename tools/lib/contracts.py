@@ -7,6 +7,7 @@ TRAIT = re.compile(r"^pub\s+trait\s+(\w+)")
 CLAUSE = re.compile(r"^\s*(requires|ensures)\*?\s+(?:(\w+)\s+)?\{")
 GHOST = re.compile(r"^\s*ghost\s+(\w+)\s*[:=]\s*\{")
 WORD = re.compile(r"^(\s*)(?:abbrev\s+|unfoldable\s+|opaque\s+)?pub\s+(record\s+|data\s+)?([^\s:({]+)")
+FIELD = re.compile(r"^\s+pub\s+(\w+)\s+:\s")
 PLAIN = re.compile(r"^(\s*)([^\s:({.]+)(?:\s*,\s*[^\s:({.]+)*\s+:\s")
 TOKEN = re.compile(r"[\w'?-]+")
 
@@ -46,7 +47,7 @@ class Crate:
         self.name, self.folder = folder.name, folder
         self.clauses, self.public, self.tests, self.ghosts = {}, set(), set(), {}
         self.for_c = set()
-        self.words, self.links = set(), {}
+        self.words, self.links, self.fields = set(), {}, {}
         self.files, self.test_files, self.word_files = {}, {}, {}
         for path in sorted((folder / "src").rglob("*.rt")):
             self.read_source(path)
@@ -98,7 +99,7 @@ class Crate:
 
     def read_words(self, path):
         """Adds the words of one file of specs/, each with the words that its text names."""
-        record, head, current = None, None, None
+        record, head, current, field = None, None, None, None
         for line in path.read_text().split("\n"):
             if re.match(r"^\s*(pub\s+)?use\s", line):
                 for old, new in re.findall(r"([\w']+) as ([\w']+)", line):
@@ -120,8 +121,13 @@ class Crate:
                 m = PLAIN.match(line)
                 if m and "=" not in line.split(" : ")[0]:
                     current = m.group(2)
+            elif FIELD.match(line):
+                field = FIELD.match(line).group(1)
+            if record is not None and field is not None:
+                fields = self.fields.setdefault(current, {})
+                fields[field] = fields.get(field, "") + line + "\n"
             if head is not None and line.rstrip().endswith("where"):
-                record, head = head, None
+                record, head, field = head, None, None
             if current is not None:
                 self.links.setdefault(current, set()).update(TOKEN.findall(line))
 
@@ -135,6 +141,22 @@ class Crate:
             listed = m.group(2).split(",") if m.group(2) else [m.group(1).split("::")[-1]]
             names |= {x.strip() for x in listed}
         return {c for c in self.public if c.split("::")[0] in names} | self.for_c
+
+
+def crates_in(folders):
+    """The crates in these folders, by name.
+
+    A clause that is a record, as `made`, is there by its fields too: `made.state` is the field `state` of the record.
+    """
+    crates = {folder.name: Crate(folder) for folder in folders}
+    fields = {record: of for crate in crates.values() for record, of in crate.fields.items()}
+    for crate in crates.values():
+        for clauses in crate.clauses.values():
+            for label, text in list(clauses.items()):
+                record = TOKEN.search(text)
+                for field, of in fields.get(record.group(0) if record else "", {}).items():
+                    clauses["%s.%s" % (label, field)] = of
+    return crates
 
 
 def stands_on(path):

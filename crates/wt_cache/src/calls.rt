@@ -1,15 +1,9 @@
 // The calls that load nothing: each is the shards' own.
-ghost use Rattle.std.specs.Prelude.{◌≡◌, ◌*◌, ◌<◌, ◌≤◌, ℕ, IsTrue, IfOk, OnOk, OnErr, IfErr, true, false};
+ghost use Rattle.std.specs.Prelude.{◌*◌, ◌≤◌, IsTrue, IfOk};
 ghost use Rattle.wt_core.specs.declared.calls.Call.TheVariants as call;
 ghost use Rattle.wt_core.specs.declared.calls.Reply.TheVariants as reply;
+ghost use Rattle.wt_shards.specs.Contract.{IsHomeCall, IsSweepCall};
 ghost use Rattle.wt_shards.specs.Asked.{ReplyAnswers};
-ghost use Rattle.wt_shards.specs.Counts.{is_hit};
-ghost use Rattle.wt_shards.specs.Faults.{is_step_fault, is_put_fault};
-ghost use Rattle.wt_shards.specs.Outer.{IsSomeStep};
-ghost use Rattle.wt_shards.specs.Passes.{steps_at, with_step, with_steps};
-ghost use Rattle.wt_shards.specs.Place.{home_of, place_of};
-ghost use Rattle.wt_shards.specs.Sweeps.{AreSwept};
-ghost use Rattle.wt_shards.specs.Told.{HasTold};
 
 use crate::cache::LoadingCache;
 use crate::loader::Loader;
@@ -40,18 +34,9 @@ impl<
     ) -> Result<Done<Reply<V>>, Fault>
         requires room { self.now.layout.config.entries ≤ notices.old.room }
 
-        ensures moved { IfOk result (λ done. pass.new
-            ≡ with_step (home_of K.word key self.now.layout) (is_hit done.reply) pass.old) }
-        ensures later { IfOk result (λ done.
-            steps_at (home_of K.word key self.now.layout) pass.old < done.step) }
-        ensures step { IfOk result (λ done. IsSomeStep K.eq K.word V.weight V.answers
-            (place_of (home_of K.word key self.now.layout) self.now.layout)
-            (call.Look key now) done.reply done.step notices.old notices.new) }
+        ensures made { IsHomeCall K.eq K.word V.weight V.answers self.now.layout key
+            (call.Look key now) (λ reply. reply) pass.old pass.new notices.old notices.new result }
         ensures answers { IfOk result (λ done. ReplyAnswers V.answers key done.reply) }
-
-        ensures told { HasTold self.now.layout.config.entries notices.old notices.new }
-        ensures faults { IfErr result (λ fault. is_step_fault fault ≡ true) }
-        ensures err { OnErr result ((pass.new ≡ pass.old) × (notices.new ≡ notices.old)) }
     {
         self.shards.look(rt, pass, key, now, notices)
     }
@@ -74,17 +59,9 @@ impl<
         requires answers { IsTrue (V.answers value key) }
         requires room { self.now.layout.config.entries ≤ notices.old.room }
 
-        ensures moved { OnOk result
-            (pass.new ≡ with_step (home_of K.word key self.now.layout) false pass.old) }
-        ensures later { IfOk result (λ done.
-            steps_at (home_of K.word key self.now.layout) pass.old < done.step) }
-        ensures step { IfOk result (λ done. IsSomeStep K.eq K.word V.weight V.answers
-            (place_of (home_of K.word key self.now.layout) self.now.layout)
-            (call.Put key value now) reply.Stored done.step notices.old notices.new) }
-
-        ensures told { HasTold self.now.layout.config.entries notices.old notices.new }
-        ensures faults { IfErr result (λ fault. is_put_fault fault ≡ true) }
-        ensures err { OnErr result ((pass.new ≡ pass.old) × (notices.new ≡ notices.old)) }
+        ensures made { IsHomeCall K.eq K.word V.weight V.answers self.now.layout key
+            (call.Put key value now) (λ _. reply.Stored) pass.old pass.new notices.old notices.new
+            result }
     {
         self.shards.put(rt, pass, key, value, now, notices)
     }
@@ -104,17 +81,8 @@ impl<
     ) -> Result<Done<bool>, Fault>
         requires room { self.now.layout.config.entries ≤ notices.old.room }
 
-        ensures moved { OnOk result
-            (pass.new ≡ with_step (home_of K.word key self.now.layout) false pass.old) }
-        ensures later { IfOk result (λ done.
-            steps_at (home_of K.word key self.now.layout) pass.old < done.step) }
-        ensures step { IfOk result (λ done. IsSomeStep K.eq K.word V.weight V.answers
-            (place_of (home_of K.word key self.now.layout) self.now.layout)
-            (call.DropKey key now) (reply.Dropped done.reply) done.step notices.old notices.new) }
-
-        ensures told { HasTold self.now.layout.config.entries notices.old notices.new }
-        ensures faults { IfErr result (λ fault. is_step_fault fault ≡ true) }
-        ensures err { OnErr result ((pass.new ≡ pass.old) × (notices.new ≡ notices.old)) }
+        ensures made { IsHomeCall K.eq K.word V.weight V.answers self.now.layout key
+            (call.DropKey key now) reply.Dropped pass.old pass.new notices.old notices.new result }
     {
         self.shards.drop_key(rt, pass, key, now, notices)
     }
@@ -134,17 +102,8 @@ impl<
     ) -> Result<Done<bool>, Fault>
         requires room { self.now.layout.config.entries ≤ notices.old.room }
 
-        ensures moved { OnOk result
-            (pass.new ≡ with_step (home_of K.word key self.now.layout) false pass.old) }
-        ensures later { IfOk result (λ done.
-            steps_at (home_of K.word key self.now.layout) pass.old < done.step) }
-        ensures step { IfOk result (λ done. IsSomeStep K.eq K.word V.weight V.answers
-            (place_of (home_of K.word key self.now.layout) self.now.layout)
-            (call.Forget key now) (reply.Forgot done.reply) done.step notices.old notices.new) }
-
-        ensures told { HasTold self.now.layout.config.entries notices.old notices.new }
-        ensures faults { IfErr result (λ fault. is_step_fault fault ≡ true) }
-        ensures err { OnErr result ((pass.new ≡ pass.old) × (notices.new ≡ notices.old)) }
+        ensures made { IsHomeCall K.eq K.word V.weight V.answers self.now.layout key
+            (call.Forget key now) reply.Forgot pass.old pass.new notices.old notices.new result }
     {
         self.shards.forget(rt, pass, key, now, notices)
     }
@@ -163,17 +122,8 @@ impl<
     ) -> Result<(), Fault>
         requires room { self.now.layout.shards * self.now.layout.config.entries ≤ notices.old.room }
 
-        ensures moved { OnOk result (pass.new ≡ with_steps self.now.layout.shards pass.old) }
-        ensures steps { OnOk result (AreSwept K.eq K.word V.weight V.answers self.now.layout
-            (call.Clear now) self.now.layout.shards notices.old notices.new) }
-
-        ensures told { HasTold (self.now.layout.shards * self.now.layout.config.entries)
-            notices.old notices.new }
-        ensures faults { IfErr result (λ fault. is_step_fault fault ≡ true) }
-        ensures err { OnErr result ((made : ℕ) × (made < self.now.layout.shards)
-            × (pass.new ≡ with_steps made pass.old)
-            × AreSwept K.eq K.word V.weight V.answers self.now.layout (call.Clear now) made
-            notices.old notices.new) }
+        ensures made { IsSweepCall K.eq K.word V.weight V.answers self.now.layout (call.Clear now)
+            pass.old pass.new notices.old notices.new result }
     {
         self.shards.clear(rt, pass, now, notices)
     }
@@ -193,17 +143,8 @@ impl<
     ) -> Result<(), Fault>
         requires room { self.now.layout.shards * self.now.layout.config.entries ≤ notices.old.room }
 
-        ensures moved { OnOk result (pass.new ≡ with_steps self.now.layout.shards pass.old) }
-        ensures steps { OnOk result (AreSwept K.eq K.word V.weight V.answers self.now.layout
-            (call.Clean now) self.now.layout.shards notices.old notices.new) }
-
-        ensures told { HasTold (self.now.layout.shards * self.now.layout.config.entries)
-            notices.old notices.new }
-        ensures faults { IfErr result (λ fault. is_step_fault fault ≡ true) }
-        ensures err { OnErr result ((made : ℕ) × (made < self.now.layout.shards)
-            × (pass.new ≡ with_steps made pass.old)
-            × AreSwept K.eq K.word V.weight V.answers self.now.layout (call.Clean now) made
-            notices.old notices.new) }
+        ensures made { IsSweepCall K.eq K.word V.weight V.answers self.now.layout (call.Clean now)
+            pass.old pass.new notices.old notices.new result }
     {
         self.shards.clean(rt, pass, now, notices)
     }

@@ -1,6 +1,6 @@
 // The get: one seek, and by its answer a hit, a wait, or a load that is run here or in a worker.
 ghost use Rattle.std.specs.Prelude.{◌≡◌, ◌*◌, ◌<◌, ◌≤◌, true, IsTrue, IfOk, IfErr, OnOk, OnErr};
-ghost use Rattle.wt_shards.specs.Faults.{is_step_fault};
+ghost use Rattle.wt_core.specs.Faults.{is_step_fault};
 ghost use Rattle.wt_shards.specs.Passes.{steps_at};
 ghost use Rattle.wt_shards.specs.Place.{home_of, place_of};
 ghost use Rattle.wt_shards.specs.Told.{HasTold};

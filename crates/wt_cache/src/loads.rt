@@ -9,7 +9,7 @@
 ghost use Rattle.std.specs.Prelude.{◌≡◌, ◌≤◌, false, true, IsTrue, IfOk, IfErr, OnOk, OnErr, MatchResult};
 ghost use Rattle.wt_flights.specs.Outcomes.{outcome_answers};
 ghost use Rattle.wt_shards.specs.Asked.{LandAnswers};
-ghost use Rattle.wt_shards.specs.Faults.{is_step_fault};
+ghost use Rattle.wt_core.specs.Faults.{is_step_fault};
 ghost use Rattle.wt_shards.specs.Passes.{with_step};
 ghost use Rattle.wt_shards.specs.Place.{home_of};
 ghost use Rattle.wt_shards.specs.Told.{HasTold};

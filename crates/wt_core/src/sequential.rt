@@ -23,10 +23,6 @@ use wt_keys::{CacheKey, Fault, NoMemory, Share};
 use wt_regions::{Region, Regions, Weighs};
 use wt_sketch::Sketch;
 
-// From this number on no step is made, but the landing of an open flight, so that no count can
-// wrap.
-pub(crate) const MOST_STEPS: u64 = 1 << 60;
-
 /// The sequential cache: keys with their values in three regions, and the loads that are open.
 ///
 /// Each call that changes it is one step, or is refused and changes nothing, the moment included.
@@ -102,14 +98,7 @@ impl<K: CacheKey, V: Share + Weighs> Core<K, V> {
             regions,
             sketch,
             flights,
-            counts: Counts {
-                lookups: 0,
-                hits: 0,
-                misses: 0,
-                loads: 0,
-                failed: 0,
-                evicted: 0,
-            },
+            counts: Counts::NOTHING,
             latest: 0,
             step: 0,
             bound: config.bound,

@@ -1,4 +1,6 @@
 // The numbers of a cache.
+ghost use Rattle.std.specs.Prelude.{◌≡◌, ◌^◌};
+ghost use Rattle.wt_core.specs.Sums.{AreBelow, sums_of};
 
 /// What has happened so far.
 #[derive(Clone, Copy, Debug, PartialEq, Eq)]
@@ -36,4 +38,47 @@ pub struct Stats {
     pub entries: u64,
     /// What they weigh together.
     pub weight: u64,
+}
+
+impl Counts {
+    /// What has happened to a new cache: nothing.
+    pub const NOTHING: Counts = Counts {
+        lookups: 0,
+        hits: 0,
+        misses: 0,
+        loads: 0,
+        failed: 0,
+        evicted: 0,
+    };
+}
+
+impl Stats {
+    /// The numbers of a new cache: each is 0.
+    pub const NOTHING: Stats = Stats {
+        lookups: 0,
+        hits: 0,
+        misses: 0,
+        loads: 0,
+        failed: 0,
+        evicted: 0,
+        entries: 0,
+        weight: 0,
+    };
+
+    /// Returns the sums of the numbers of two caches. O(1).
+    pub fn plus(&self, other: &Stats) -> Stats
+        requires { AreBelow (2 ^ 64) (sums_of self.now other.now) }
+        ensures { result ≡ sums_of self.now other.now }
+    {
+        Stats {
+            lookups: self.lookups + other.lookups,
+            hits: self.hits + other.hits,
+            misses: self.misses + other.misses,
+            loads: self.loads + other.loads,
+            failed: self.failed + other.failed,
+            evicted: self.evicted + other.evicted,
+            entries: self.entries + other.entries,
+            weight: self.weight + other.weight,
+        }
+    }
 }

@@ -1,9 +1,6 @@
 // Looking up and storing, each one step of the definition.
-ghost use Rattle.std.specs.Prelude.{◌≡◌, ◌<◌, Some, IfSome, IsNone, IsSome, None};
 ghost use Rattle.wt_core.specs.declared.calls.Call.TheVariants as call;
-ghost use Rattle.wt_ffi.specs.declared.opened.Opened.TheVariants as opened;
-ghost use Rattle.wt_ffi.specs.Kinds.{numbered, named};
-ghost use Rattle.wt_ffi.specs.Numbered.{after, number_after, answer_after, IsRefused, IsFree};
+ghost use Rattle.wt_ffi.specs.Contract.{IsNumberCall};
 
 use crate::answer::Answer;
 use crate::handle::Handle;
@@ -23,20 +20,8 @@ pub extern "C" fn rd_look(
     now: u64,
     answer: &mut Answer,
 ) -> u64
-    ensures state { IfSome (numbered handle.old.pointer.cache) (λ c. handle.new.pointer.cache
-        ≡ Some (opened.Numbers (after answer.new.kind (call.Look key now) c))) }
-    ensures number { IfSome (numbered handle.old.pointer.cache) (λ c. result
-        ≡ number_after answer.new.kind (call.Look key now) c) }
-    ensures answer { IfSome (numbered handle.old.pointer.cache) (λ c. answer.new
-        ≡ answer_after answer.new.kind (call.Look key now) c) }
-    ensures refusal { IfSome (numbered handle.old.pointer.cache) (λ c.
-        IsRefused (call.Look key now) c → 0 < answer.new.kind) }
-    ensures memory { IfSome (numbered handle.old.pointer.cache) (λ c.
-        IsFree (call.Look key now) c → 0 < answer.new.kind) }
-    ensures closed { IsNone handle.old.pointer.cache
-        → (result ≡ 100) × (handle.new.pointer.cache ≡ None) × (answer.new ≡ answer.old) }
-    ensures other { IsSome (named handle.old.pointer.cache) → (result ≡ 103)
-        × (handle.new.pointer.cache ≡ handle.old.pointer.cache) × (answer.new ≡ answer.old) }
+    ensures made { IsNumberCall (call.Look key now)
+        handle.old.pointer.cache handle.new.pointer.cache answer.old answer.new result }
 {
     make(alloc, handle, Call::Look(key, now), answer)
 }
@@ -54,20 +39,8 @@ pub extern "C" fn rd_seek(
     now: u64,
     answer: &mut Answer,
 ) -> u64
-    ensures state { IfSome (numbered handle.old.pointer.cache) (λ c. handle.new.pointer.cache
-        ≡ Some (opened.Numbers (after answer.new.kind (call.Seek key now) c))) }
-    ensures number { IfSome (numbered handle.old.pointer.cache) (λ c. result
-        ≡ number_after answer.new.kind (call.Seek key now) c) }
-    ensures answer { IfSome (numbered handle.old.pointer.cache) (λ c. answer.new
-        ≡ answer_after answer.new.kind (call.Seek key now) c) }
-    ensures refusal { IfSome (numbered handle.old.pointer.cache) (λ c.
-        IsRefused (call.Seek key now) c → 0 < answer.new.kind) }
-    ensures memory { IfSome (numbered handle.old.pointer.cache) (λ c.
-        IsFree (call.Seek key now) c → 0 < answer.new.kind) }
-    ensures closed { IsNone handle.old.pointer.cache
-        → (result ≡ 100) × (handle.new.pointer.cache ≡ None) × (answer.new ≡ answer.old) }
-    ensures other { IsSome (named handle.old.pointer.cache) → (result ≡ 103)
-        × (handle.new.pointer.cache ≡ handle.old.pointer.cache) × (answer.new ≡ answer.old) }
+    ensures made { IsNumberCall (call.Seek key now)
+        handle.old.pointer.cache handle.new.pointer.cache answer.old answer.new result }
 {
     make(alloc, handle, Call::Seek(key, now), answer)
 }
@@ -86,20 +59,8 @@ pub extern "C" fn rd_put(
     now: u64,
     answer: &mut Answer,
 ) -> u64
-    ensures state { IfSome (numbered handle.old.pointer.cache) (λ c. handle.new.pointer.cache
-        ≡ Some (opened.Numbers (after answer.new.kind (call.Put key value now) c))) }
-    ensures number { IfSome (numbered handle.old.pointer.cache) (λ c. result
-        ≡ number_after answer.new.kind (call.Put key value now) c) }
-    ensures answer { IfSome (numbered handle.old.pointer.cache) (λ c. answer.new
-        ≡ answer_after answer.new.kind (call.Put key value now) c) }
-    ensures refusal { IfSome (numbered handle.old.pointer.cache) (λ c.
-        IsRefused (call.Put key value now) c → 0 < answer.new.kind) }
-    ensures memory { IfSome (numbered handle.old.pointer.cache) (λ c.
-        IsFree (call.Put key value now) c → 0 < answer.new.kind) }
-    ensures closed { IsNone handle.old.pointer.cache
-        → (result ≡ 100) × (handle.new.pointer.cache ≡ None) × (answer.new ≡ answer.old) }
-    ensures other { IsSome (named handle.old.pointer.cache) → (result ≡ 103)
-        × (handle.new.pointer.cache ≡ handle.old.pointer.cache) × (answer.new ≡ answer.old) }
+    ensures made { IsNumberCall (call.Put key value now)
+        handle.old.pointer.cache handle.new.pointer.cache answer.old answer.new result }
 {
     make(alloc, handle, Call::Put(key, value, now), answer)
 }

@@ -1,10 +1,7 @@
 // Closing a load, each call one step of the definition.
-ghost use Rattle.std.specs.Prelude.{◌≡◌, ◌<◌, Some, IfSome, IsNone, IsSome, None};
 ghost use Rattle.wt_core.specs.declared.calls.Call.TheVariants as call;
 ghost use Rattle.wt_core.specs.declared.calls.Land.TheVariants as land;
-ghost use Rattle.wt_ffi.specs.declared.opened.Opened.TheVariants as opened;
-ghost use Rattle.wt_ffi.specs.Kinds.{numbered, named};
-ghost use Rattle.wt_ffi.specs.Numbered.{after, number_after, answer_after, IsRefused, IsFree};
+ghost use Rattle.wt_ffi.specs.Contract.{IsNumberCall};
 
 use crate::answer::Answer;
 use crate::handle::Handle;
@@ -28,21 +25,8 @@ pub extern "C" fn rd_land_keep(
     now: u64,
     answer: &mut Answer,
 ) -> u64
-    ensures state { IfSome (numbered handle.old.pointer.cache) (λ c. handle.new.pointer.cache
-        ≡ Some (opened.Numbers (after answer.new.kind (call.Land id key (land.Keep value) now)
-        c))) }
-    ensures number { IfSome (numbered handle.old.pointer.cache) (λ c. result
-        ≡ number_after answer.new.kind (call.Land id key (land.Keep value) now) c) }
-    ensures answer { IfSome (numbered handle.old.pointer.cache) (λ c. answer.new
-        ≡ answer_after answer.new.kind (call.Land id key (land.Keep value) now) c) }
-    ensures refusal { IfSome (numbered handle.old.pointer.cache) (λ c.
-        IsRefused (call.Land id key (land.Keep value) now) c → 0 < answer.new.kind) }
-    ensures memory { IfSome (numbered handle.old.pointer.cache) (λ c.
-        IsFree (call.Land id key (land.Keep value) now) c → 0 < answer.new.kind) }
-    ensures closed { IsNone handle.old.pointer.cache
-        → (result ≡ 100) × (handle.new.pointer.cache ≡ None) × (answer.new ≡ answer.old) }
-    ensures other { IsSome (named handle.old.pointer.cache) → (result ≡ 103)
-        × (handle.new.pointer.cache ≡ handle.old.pointer.cache) × (answer.new ≡ answer.old) }
+    ensures made { IsNumberCall (call.Land id key (land.Keep value) now)
+        handle.old.pointer.cache handle.new.pointer.cache answer.old answer.new result }
 {
     make(
         alloc,
@@ -65,20 +49,8 @@ pub extern "C" fn rd_land_loose(
     now: u64,
     answer: &mut Answer,
 ) -> u64
-    ensures state { IfSome (numbered handle.old.pointer.cache) (λ c. handle.new.pointer.cache
-        ≡ Some (opened.Numbers (after answer.new.kind (call.Land id key land.Loose now) c))) }
-    ensures number { IfSome (numbered handle.old.pointer.cache) (λ c. result
-        ≡ number_after answer.new.kind (call.Land id key land.Loose now) c) }
-    ensures answer { IfSome (numbered handle.old.pointer.cache) (λ c. answer.new
-        ≡ answer_after answer.new.kind (call.Land id key land.Loose now) c) }
-    ensures refusal { IfSome (numbered handle.old.pointer.cache) (λ c.
-        IsRefused (call.Land id key land.Loose now) c → 0 < answer.new.kind) }
-    ensures memory { IfSome (numbered handle.old.pointer.cache) (λ c.
-        IsFree (call.Land id key land.Loose now) c → 0 < answer.new.kind) }
-    ensures closed { IsNone handle.old.pointer.cache
-        → (result ≡ 100) × (handle.new.pointer.cache ≡ None) × (answer.new ≡ answer.old) }
-    ensures other { IsSome (named handle.old.pointer.cache) → (result ≡ 103)
-        × (handle.new.pointer.cache ≡ handle.old.pointer.cache) × (answer.new ≡ answer.old) }
+    ensures made { IsNumberCall (call.Land id key land.Loose now)
+        handle.old.pointer.cache handle.new.pointer.cache answer.old answer.new result }
 {
     make(alloc, handle, Call::Land(id, key, Land::Loose, now), answer)
 }
@@ -95,20 +67,8 @@ pub extern "C" fn rd_land_failed(
     now: u64,
     answer: &mut Answer,
 ) -> u64
-    ensures state { IfSome (numbered handle.old.pointer.cache) (λ c. handle.new.pointer.cache
-        ≡ Some (opened.Numbers (after answer.new.kind (call.Land id key land.Failed now) c))) }
-    ensures number { IfSome (numbered handle.old.pointer.cache) (λ c. result
-        ≡ number_after answer.new.kind (call.Land id key land.Failed now) c) }
-    ensures answer { IfSome (numbered handle.old.pointer.cache) (λ c. answer.new
-        ≡ answer_after answer.new.kind (call.Land id key land.Failed now) c) }
-    ensures refusal { IfSome (numbered handle.old.pointer.cache) (λ c.
-        IsRefused (call.Land id key land.Failed now) c → 0 < answer.new.kind) }
-    ensures memory { IfSome (numbered handle.old.pointer.cache) (λ c.
-        IsFree (call.Land id key land.Failed now) c → 0 < answer.new.kind) }
-    ensures closed { IsNone handle.old.pointer.cache
-        → (result ≡ 100) × (handle.new.pointer.cache ≡ None) × (answer.new ≡ answer.old) }
-    ensures other { IsSome (named handle.old.pointer.cache) → (result ≡ 103)
-        × (handle.new.pointer.cache ≡ handle.old.pointer.cache) × (answer.new ≡ answer.old) }
+    ensures made { IsNumberCall (call.Land id key land.Failed now)
+        handle.old.pointer.cache handle.new.pointer.cache answer.old answer.new result }
 {
     make(
         alloc,

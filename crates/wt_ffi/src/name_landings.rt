@@ -1,10 +1,7 @@
 // Closing a load of a name, each call one step of the definition.
-ghost use Rattle.std.specs.Prelude.{◌≡◌, ◌<◌, Some, IfSome, IsNone};
 ghost use Rattle.wt_core.specs.declared.calls.Call.TheVariants as call;
 ghost use Rattle.wt_core.specs.declared.calls.Land.TheVariants as land;
-ghost use Rattle.wt_ffi.specs.declared.opened.Opened.TheVariants as opened;
-ghost use Rattle.wt_ffi.specs.Names.{asked, number_unasked};
-ghost use Rattle.wt_ffi.specs.Named.{after, number_after, answer_after, IsRefused, IsFree};
+ghost use Rattle.wt_ffi.specs.Contract.{IsNameCall};
 
 use crate::answer::Answer;
 use crate::handle::{Handle, TOO_LONG};
@@ -28,21 +25,8 @@ pub extern "C" fn rd_land_keep_name(
     now: u64,
     answer: &mut Answer,
 ) -> u64
-    ensures state { IfSome (asked key.now handle.old.pointer.cache) (λ a. handle.new.pointer.cache
-        ≡ Some (opened.Names (after answer.new.kind (call.Land id a.name (land.Keep value) now)
-        a.cache))) }
-    ensures number { IfSome (asked key.now handle.old.pointer.cache) (λ a. result
-        ≡ number_after answer.new.kind (call.Land id a.name (land.Keep value) now) a.cache) }
-    ensures answer { IfSome (asked key.now handle.old.pointer.cache) (λ a. answer.new
-        ≡ answer_after answer.new.kind (call.Land id a.name (land.Keep value) now) a.cache) }
-    ensures refusal { IfSome (asked key.now handle.old.pointer.cache) (λ a.
-        IsRefused (call.Land id a.name (land.Keep value) now) a.cache → 0 < answer.new.kind) }
-    ensures memory { IfSome (asked key.now handle.old.pointer.cache) (λ a.
-        IsFree (call.Land id a.name (land.Keep value) now) a.cache → 0 < answer.new.kind) }
-    // Where the name is too long, the cache closed or its keys numbers, nothing happens.
-    ensures unasked { IsNone (asked key.now handle.old.pointer.cache)
-        → (result ≡ number_unasked key.now handle.old.pointer.cache)
-        × (handle.new.pointer.cache ≡ handle.old.pointer.cache) × (answer.new ≡ answer.old) }
+    ensures made { IsNameCall (λ name. call.Land id name (land.Keep value) now) key.now
+        handle.old.pointer.cache handle.new.pointer.cache answer.old answer.new result }
 {
     let Some(name) = name_of(key) else {
         return TOO_LONG;
@@ -67,21 +51,8 @@ pub extern "C" fn rd_land_loose_name(
     now: u64,
     answer: &mut Answer,
 ) -> u64
-    ensures state { IfSome (asked key.now handle.old.pointer.cache) (λ a. handle.new.pointer.cache
-        ≡ Some (opened.Names (after answer.new.kind (call.Land id a.name land.Loose now)
-        a.cache))) }
-    ensures number { IfSome (asked key.now handle.old.pointer.cache) (λ a. result
-        ≡ number_after answer.new.kind (call.Land id a.name land.Loose now) a.cache) }
-    ensures answer { IfSome (asked key.now handle.old.pointer.cache) (λ a. answer.new
-        ≡ answer_after answer.new.kind (call.Land id a.name land.Loose now) a.cache) }
-    ensures refusal { IfSome (asked key.now handle.old.pointer.cache) (λ a.
-        IsRefused (call.Land id a.name land.Loose now) a.cache → 0 < answer.new.kind) }
-    ensures memory { IfSome (asked key.now handle.old.pointer.cache) (λ a.
-        IsFree (call.Land id a.name land.Loose now) a.cache → 0 < answer.new.kind) }
-    // Where the name is too long, the cache closed or its keys numbers, nothing happens.
-    ensures unasked { IsNone (asked key.now handle.old.pointer.cache)
-        → (result ≡ number_unasked key.now handle.old.pointer.cache)
-        × (handle.new.pointer.cache ≡ handle.old.pointer.cache) × (answer.new ≡ answer.old) }
+    ensures made { IsNameCall (λ name. call.Land id name land.Loose now) key.now
+        handle.old.pointer.cache handle.new.pointer.cache answer.old answer.new result }
 {
     let Some(name) = name_of(key) else {
         return TOO_LONG;
@@ -106,21 +77,8 @@ pub extern "C" fn rd_land_failed_name(
     now: u64,
     answer: &mut Answer,
 ) -> u64
-    ensures state { IfSome (asked key.now handle.old.pointer.cache) (λ a. handle.new.pointer.cache
-        ≡ Some (opened.Names (after answer.new.kind (call.Land id a.name land.Failed now)
-        a.cache))) }
-    ensures number { IfSome (asked key.now handle.old.pointer.cache) (λ a. result
-        ≡ number_after answer.new.kind (call.Land id a.name land.Failed now) a.cache) }
-    ensures answer { IfSome (asked key.now handle.old.pointer.cache) (λ a. answer.new
-        ≡ answer_after answer.new.kind (call.Land id a.name land.Failed now) a.cache) }
-    ensures refusal { IfSome (asked key.now handle.old.pointer.cache) (λ a.
-        IsRefused (call.Land id a.name land.Failed now) a.cache → 0 < answer.new.kind) }
-    ensures memory { IfSome (asked key.now handle.old.pointer.cache) (λ a.
-        IsFree (call.Land id a.name land.Failed now) a.cache → 0 < answer.new.kind) }
-    // Where the name is too long, the cache closed or its keys numbers, nothing happens.
-    ensures unasked { IsNone (asked key.now handle.old.pointer.cache)
-        → (result ≡ number_unasked key.now handle.old.pointer.cache)
-        × (handle.new.pointer.cache ≡ handle.old.pointer.cache) × (answer.new ≡ answer.old) }
+    ensures made { IsNameCall (λ name. call.Land id name land.Failed now) key.now
+        handle.old.pointer.cache handle.new.pointer.cache answer.old answer.new result }
 {
     let Some(name) = name_of(key) else {
         return TOO_LONG;

@@ -1,9 +1,6 @@
 // Taking entries out and letting loads go, each call one step of the definition.
-ghost use Rattle.std.specs.Prelude.{◌≡◌, ◌<◌, Some, IfSome, IsNone, IsSome, None};
 ghost use Rattle.wt_core.specs.declared.calls.Call.TheVariants as call;
-ghost use Rattle.wt_ffi.specs.declared.opened.Opened.TheVariants as opened;
-ghost use Rattle.wt_ffi.specs.Kinds.{numbered, named};
-ghost use Rattle.wt_ffi.specs.Numbered.{after, number_after, answer_after, IsRefused, IsFree};
+ghost use Rattle.wt_ffi.specs.Contract.{IsNumberCall};
 
 use crate::answer::Answer;
 use crate::handle::Handle;
@@ -23,20 +20,8 @@ pub extern "C" fn rd_drop_key(
     now: u64,
     answer: &mut Answer,
 ) -> u64
-    ensures state { IfSome (numbered handle.old.pointer.cache) (λ c. handle.new.pointer.cache
-        ≡ Some (opened.Numbers (after answer.new.kind (call.DropKey key now) c))) }
-    ensures number { IfSome (numbered handle.old.pointer.cache) (λ c. result
-        ≡ number_after answer.new.kind (call.DropKey key now) c) }
-    ensures answer { IfSome (numbered handle.old.pointer.cache) (λ c. answer.new
-        ≡ answer_after answer.new.kind (call.DropKey key now) c) }
-    ensures refusal { IfSome (numbered handle.old.pointer.cache) (λ c.
-        IsRefused (call.DropKey key now) c → 0 < answer.new.kind) }
-    ensures memory { IfSome (numbered handle.old.pointer.cache) (λ c.
-        IsFree (call.DropKey key now) c → 0 < answer.new.kind) }
-    ensures closed { IsNone handle.old.pointer.cache
-        → (result ≡ 100) × (handle.new.pointer.cache ≡ None) × (answer.new ≡ answer.old) }
-    ensures other { IsSome (named handle.old.pointer.cache) → (result ≡ 103)
-        × (handle.new.pointer.cache ≡ handle.old.pointer.cache) × (answer.new ≡ answer.old) }
+    ensures made { IsNumberCall (call.DropKey key now)
+        handle.old.pointer.cache handle.new.pointer.cache answer.old answer.new result }
 {
     make(alloc, handle, Call::DropKey(key, now), answer)
 }
@@ -53,20 +38,8 @@ pub extern "C" fn rd_forget(
     now: u64,
     answer: &mut Answer,
 ) -> u64
-    ensures state { IfSome (numbered handle.old.pointer.cache) (λ c. handle.new.pointer.cache
-        ≡ Some (opened.Numbers (after answer.new.kind (call.Forget key now) c))) }
-    ensures number { IfSome (numbered handle.old.pointer.cache) (λ c. result
-        ≡ number_after answer.new.kind (call.Forget key now) c) }
-    ensures answer { IfSome (numbered handle.old.pointer.cache) (λ c. answer.new
-        ≡ answer_after answer.new.kind (call.Forget key now) c) }
-    ensures refusal { IfSome (numbered handle.old.pointer.cache) (λ c.
-        IsRefused (call.Forget key now) c → 0 < answer.new.kind) }
-    ensures memory { IfSome (numbered handle.old.pointer.cache) (λ c.
-        IsFree (call.Forget key now) c → 0 < answer.new.kind) }
-    ensures closed { IsNone handle.old.pointer.cache
-        → (result ≡ 100) × (handle.new.pointer.cache ≡ None) × (answer.new ≡ answer.old) }
-    ensures other { IsSome (named handle.old.pointer.cache) → (result ≡ 103)
-        × (handle.new.pointer.cache ≡ handle.old.pointer.cache) × (answer.new ≡ answer.old) }
+    ensures made { IsNumberCall (call.Forget key now)
+        handle.old.pointer.cache handle.new.pointer.cache answer.old answer.new result }
 {
     make(alloc, handle, Call::Forget(key, now), answer)
 }

@@ -2,6 +2,7 @@
 ghost use Rattle.std.specs.Prelude.{◌≡◌, ◌<◌, Some, IfSome, IsNone, IsSome, None};
 ghost use Rattle.wt_ffi.specs.declared.sweeps.Sweep.TheVariants as sweep;
 ghost use Rattle.wt_ffi.specs.Sweeps.{sweep_call, after, number_after, answer_after, IsRefused};
+ghost use Rattle.wt_ffi.specs.Contract.{IsSweptCall};
 
 use crate::answer::Answer;
 use crate::handle::{CLOSED, Handle};
@@ -66,17 +67,8 @@ fn make_sweep(
 /// Takes no memory. O(entries).
 #[unsafe(no_mangle)]
 pub extern "C" fn rd_clear(alloc: Global, handle: &mut Handle, now: u64, answer: &mut Answer) -> u64
-    ensures state { IfSome handle.old.pointer.cache (λ c. handle.new.pointer.cache
-        ≡ Some (after answer.new.kind sweep.Clear now c)) }
-    ensures number { IfSome handle.old.pointer.cache (λ c. result
-        ≡ number_after answer.new.kind sweep.Clear now c) }
-    ensures answer { IfSome handle.old.pointer.cache (λ c. answer.new
-        ≡ answer_after answer.new.kind sweep.Clear now c) }
-    ensures refusal { IfSome handle.old.pointer.cache (λ c.
-        IsRefused sweep.Clear now c → 0 < answer.new.kind) }
-    ensures memory { IsSome handle.old.pointer.cache → 0 < answer.new.kind }
-    ensures closed { IsNone handle.old.pointer.cache
-        → (result ≡ 100) × (handle.new.pointer.cache ≡ None) × (answer.new ≡ answer.old) }
+    ensures made { IsSweptCall sweep.Clear now handle.old.pointer.cache handle.new.pointer.cache
+        answer.old answer.new result }
 {
     make_sweep(alloc, handle, Sweep::Clear, now, answer)
 }
@@ -86,17 +78,8 @@ pub extern "C" fn rd_clear(alloc: Global, handle: &mut Handle, now: u64, answer:
 /// Takes no memory. O(entries).
 #[unsafe(no_mangle)]
 pub extern "C" fn rd_clean(alloc: Global, handle: &mut Handle, now: u64, answer: &mut Answer) -> u64
-    ensures state { IfSome handle.old.pointer.cache (λ c. handle.new.pointer.cache
-        ≡ Some (after answer.new.kind sweep.Clean now c)) }
-    ensures number { IfSome handle.old.pointer.cache (λ c. result
-        ≡ number_after answer.new.kind sweep.Clean now c) }
-    ensures answer { IfSome handle.old.pointer.cache (λ c. answer.new
-        ≡ answer_after answer.new.kind sweep.Clean now c) }
-    ensures refusal { IfSome handle.old.pointer.cache (λ c.
-        IsRefused sweep.Clean now c → 0 < answer.new.kind) }
-    ensures memory { IsSome handle.old.pointer.cache → 0 < answer.new.kind }
-    ensures closed { IsNone handle.old.pointer.cache
-        → (result ≡ 100) × (handle.new.pointer.cache ≡ None) × (answer.new ≡ answer.old) }
+    ensures made { IsSweptCall sweep.Clean now handle.old.pointer.cache handle.new.pointer.cache
+        answer.old answer.new result }
 {
     make_sweep(alloc, handle, Sweep::Clean, now, answer)
 }

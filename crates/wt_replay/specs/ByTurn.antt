@@ -3,6 +3,7 @@ use Rattle.std.specs.Prelude.{◌≡◌, ℕ, ◌+◌, ◌*◌, ◌≤◌, Bool,
 use Rattle.std.specs.Option.{option_map, option_or}
 use Rattle.std.specs.Io.KnownBytes.{Keeps, Appends}
 use Rattle.wt_core.specs.Lawful.{AreSmall}
+use Rattle.wt_core.specs.Sums.{no_numbers}
 use Rattle.wt_core.specs.declared.stats.Stats.{Stats}
 use Rattle.wt_shards.specs.Totals.{Settled}
 use Rattle.wt_shards.specs.declared.total.Total.{Total}
@@ -78,15 +79,18 @@ IsTurnFault wrong WriteFault = ⊥
 IsTurnFault wrong (Cache fault) = Unit {0}
 IsTurnFault wrong (GateShut n) = Unit {0}
 
--- what a thread needs: at most four shards, room for what a line tells, and so many lines and threads as there may be
-pub record IsReady (shards entries room first lines threads : ℕ) : Type 0 where
-  pub few : shards ≤ 4
-  pub roomy : 4 * entries ≤ room
-  pub near : first ≤ 2
+-- lines that threads may do in turn: their first number is 1 or 2, and there are so many lines and threads as there may be
+pub record IsReady (first lines threads : ℕ) : Type 0 where
   pub some_line : 1 ≤ first
+  pub near : first ≤ 2
   pub short : lines ≤ 1000000
   pub some : 1 ≤ threads
   pub within : threads ≤ 64
+
+-- at most four shards, and lines that threads may do in turn
+pub record IsManned (shards first lines threads : ℕ) : Type 0 where
+  pub few : shards ≤ 4
+  pub ready : IsReady first lines threads
 
 -- numbers that hang together and can be added up
 pub record IsGood (t : Total) : Type 0 where
@@ -95,16 +99,9 @@ pub record IsGood (t : Total) : Type 0 where
 
 -- the numbers of a shard, where there is one
 abbrev pub numbers_of : Option Total → Stats
-numbers_of None = record { lookups = 0; hits = 0; misses = 0; loads = 0; failed = 0; evicted = 0; entries = 0; weight = 0 }
+numbers_of None = no_numbers
 numbers_of (Some total) = total.stats
 
--- the sums of the numbers of all shards
-pub record AreSums (sums : Stats) (t : Settled) : Type 0 where
-  pub lookups : sums.lookups ≡ (numbers_of t.zero).lookups + (numbers_of t.one).lookups + (numbers_of t.two).lookups + (numbers_of t.three).lookups
-  pub hits : sums.hits ≡ (numbers_of t.zero).hits + (numbers_of t.one).hits + (numbers_of t.two).hits + (numbers_of t.three).hits
-  pub misses : sums.misses ≡ (numbers_of t.zero).misses + (numbers_of t.one).misses + (numbers_of t.two).misses + (numbers_of t.three).misses
-  pub loads : sums.loads ≡ (numbers_of t.zero).loads + (numbers_of t.one).loads + (numbers_of t.two).loads + (numbers_of t.three).loads
-  pub failed : sums.failed ≡ (numbers_of t.zero).failed + (numbers_of t.one).failed + (numbers_of t.two).failed + (numbers_of t.three).failed
-  pub evicted : sums.evicted ≡ (numbers_of t.zero).evicted + (numbers_of t.one).evicted + (numbers_of t.two).evicted + (numbers_of t.three).evicted
-  pub entries : sums.entries ≡ (numbers_of t.zero).entries + (numbers_of t.one).entries + (numbers_of t.two).entries + (numbers_of t.three).entries
-  pub weight : sums.weight ≡ (numbers_of t.zero).weight + (numbers_of t.one).weight + (numbers_of t.two).weight + (numbers_of t.three).weight
+-- what each of the four numbers of a shard ended with, where it is in use
+abbrev pub shards_of : Settled → List (Option Total)
+shards_of t = t.zero ∷ t.one ∷ t.two ∷ t.three ∷ []

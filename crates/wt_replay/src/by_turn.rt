@@ -10,12 +10,14 @@ ghost use Rattle.wt_core.specs.Lawful.{AreSmall};
 ghost use Rattle.wt_shards.specs.Opening.{AreBlanksOf};
 ghost use Rattle.wt_trace.specs.Options.{config_of, option_fault};
 ghost use Rattle.wt_trace.specs.Stops.{AreAsked};
-ghost use Rattle.wt_trace.specs.Trace.{lines_of, trace_from};
-ghost use Rattle.wt_replay.specs.ByTurn.{AreLooked, AreSums, IsGood};
+ghost use Rattle.wt_trace.specs.Trace.{lines_of, trace_from, line_end};
+ghost use Rattle.wt_core.specs.Sums.{AreSums};
+ghost use Rattle.wt_replay.specs.ByTurn.{AreLooked, IsGood};
 ghost use Rattle.wt_replay.specs.ByTurn as spec;
 
 use crate::crew::{gather, stop_of, work_all};
-use crate::turns::{Rules, RunFault};
+use crate::loader::TraceLoader;
+use crate::turns::{Deal, RunFault};
 use std::alloc::Global;
 use std::marker::Brand;
 use std::sync::Wait;
@@ -31,17 +33,6 @@ use wt_trace::{
 // How many loads may wait for a worker.
 const MOST_WAITING: u32 = 64;
 
-const NOTHING: Stats = Stats {
-    lookups: 0,
-    hits: 0,
-    misses: 0,
-    loads: 0,
-    failed: 0,
-    evicted: 0,
-    entries: 0,
-    weight: 0,
-};
-
 // The numbers of a shard, if there is one.
 fn numbers(total: Option<Total>) -> Stats
     requires { IfSome total IsGood }
@@ -51,7 +42,7 @@ fn numbers(total: Option<Total>) -> Stats
 {
     match total {
         Some(total) => total.stats,
-        None => NOTHING,
+        None => Stats::NOTHING,
     }
 }
 
@@ -59,23 +50,14 @@ fn numbers(total: Option<Total>) -> Stats
 fn sum_of<B: Books>(totals: &Totals<B>) -> Stats
     requires each { IfSome totals.now.zero IsGood × IfSome totals.now.one IsGood
         × IfSome totals.now.two IsGood × IfSome totals.now.three IsGood }
-    ensures sums { AreSums result totals.now }
+    ensures sums { AreSums spec.numbers_of result (spec.shards_of totals.now) }
     ensures looked { AreLooked result }
 {
     let zero = numbers(totals.of(0));
     let one = numbers(totals.of(1));
     let two = numbers(totals.of(2));
     let three = numbers(totals.of(3));
-    Stats {
-        lookups: zero.lookups + one.lookups + two.lookups + three.lookups,
-        hits: zero.hits + one.hits + two.hits + three.hits,
-        misses: zero.misses + one.misses + two.misses + three.misses,
-        loads: zero.loads + one.loads + two.loads + three.loads,
-        failed: zero.failed + one.failed + two.failed + three.failed,
-        evicted: zero.evicted + one.evicted + two.evicted + three.evicted,
-        entries: zero.entries + one.entries + two.entries + three.entries,
-        weight: zero.weight + one.weight + two.weight + three.weight,
-    }
+    zero.plus(&one).plus(&two).plus(&three)
 }
 
 // A new cache at given ledgers, with a line where there are workers.
@@ -84,7 +66,7 @@ fn opened<K: TraceKey, N: Names + Send + Sync, R: Wait>(
     alloc: Global,
     blanks: Blanks,
     options: &Options,
-) -> Result<LoadingCache<K, Version<K>, Rules, Of<N>>, Fault>
+) -> Result<LoadingCache<K, Version<K>, TraceLoader, Of<N>>, Fault>
     requires layout { N.layout ≡ record
         { shards = options.now.shards; config = config_of options.now } }
     requires blanks { AreBlanksOf N.name blanks }
@@ -103,12 +85,12 @@ fn opened<K: TraceKey, N: Names + Send + Sync, R: Wait>(
         Ok(shards) => shards,
         Err(fault) => return Err(fault),
     };
-    let rules = Rules::of(options);
+    let loader = TraceLoader::of(options);
     if options.workers == 0 {
-        return Ok(LoadingCache::new(shards, rules, None));
+        return Ok(LoadingCache::new(shards, loader, None));
     }
     match JobLine::new(rt, alloc, MOST_WAITING) {
-        Ok(line) => Ok(LoadingCache::new(shards, rules, Some(line))),
+        Ok(line) => Ok(LoadingCache::new(shards, loader, Some(line))),
         Err(fault) => Err(fault),
     }
 }
@@ -117,7 +99,7 @@ fn opened<K: TraceKey, N: Names + Send + Sync, R: Wait>(
 fn settled<K: TraceKey, N: Names + Send + Sync, R: Wait>(
     rt: &R,
     alloc: Global,
-    cache: LoadingCache<K, Version<K>, Rules, Of<N>>,
+    cache: LoadingCache<K, Version<K>, TraceLoader, Of<N>>,
     passes: Vec<Pass<Of<N>>>,
 ) -> Result<Stats, Fault>
     ensures { IfOk result AreLooked }
@@ -134,34 +116,24 @@ fn session<K: TraceKey, N: Names + Send + Sync, G: Gate, R: Threads + Wait + Syn
     alloc: Global,
     blanks: Blanks,
     options: &Options,
-    first: u64,
-    lines: &[Line<K>],
-    threads: usize,
+    deal: &Deal<'_, K>,
     gate: &G,
 ) -> Result<Stats, RunFault>
     requires layout { N.layout ≡ record
         { shards = options.now.shards; config = config_of options.now } }
     requires blanks { AreBlanksOf N.name blanks }
     requires options { option_fault options.now ≡ None }
-    requires first { (1 ≤ first) × (first ≤ 2) }
-    requires lines { length lines.now ≤ 1000000 }
-    requires threads { (1 ≤ threads) × (threads ≤ 64) }
-    ensures asked { OnOk result (AreAsked (λ _. true) (λ n. G.answers gate.now n true) first
-        lines.now) }
+    ensures asked { OnOk result (AreAsked (λ _. true) (λ n. G.answers gate.now n true)
+        deal.now.first deal.now.lines.now) }
     ensures looked { IfOk result AreLooked }
 {
-    let cache: LoadingCache<K, Version<K>, Rules, Of<N>> = match opened(
+    let cache: LoadingCache<K, Version<K>, TraceLoader, Of<N>> = match opened(
         rt, alloc, blanks, options,
     ) {
         Ok(cache) => cache,
         Err(fault) => return Err(RunFault::Cache(fault)),
     };
-    let rules = Rules::of(options);
-    let room = 4 * cache.entries() as usize;
-    let workers = options.workers as usize;
-    let (ran, worked) = work_all(
-        rt, alloc, &cache, &rules, first, lines, threads, workers, gate, room,
-    );
+    let (ran, worked) = work_all(rt, alloc, &cache, deal, gate, options.workers as usize);
     let (Ok(ran), Ok(worked)) = (ran, worked) else {
         return Err(RunFault::Cache(Fault::NoMemory));
     };
@@ -178,40 +150,26 @@ fn session<K: TraceKey, N: Names + Send + Sync, G: Gate, R: Threads + Wait + Syn
     }
 }
 
-// Does the lines, the first of which is line `first`, turn by turn on so many threads, and returns
-// the sums of the numbers of all shards: hits and misses are the look-ups.
+// Does the lines of a deal turn by turn, and returns the sums of the numbers of all shards: hits and
+// misses are the look-ups.
 fn totals_by_turn<K: TraceKey, G: Gate, R: Threads + Wait + Sync>(
     rt: &R,
     alloc: Global,
     options: &Options,
-    first: u64,
-    lines: &[Line<K>],
-    threads: usize,
+    deal: &Deal<'_, K>,
     gate: &G,
 ) -> Result<Stats, RunFault>
     requires options { option_fault options.now ≡ None }
-    requires first { (1 ≤ first) × (first ≤ 2) }
-    requires lines { length lines.now ≤ 1000000 }
-    requires threads { (1 ≤ threads) × (threads ≤ 64) }
-    ensures asked { OnOk result (AreAsked (λ _. true) (λ n. G.answers gate.now n true) first
-        lines.now) }
+    ensures asked { OnOk result (AreAsked (λ _. true) (λ n. G.answers gate.now n true)
+        deal.now.first deal.now.lines.now) }
     ensures looked { IfOk result AreLooked }
 {
-    session::<K, Brand, G, R>(
-        rt,
-        alloc,
-        Blanks::new(),
-        options,
-        first,
-        lines,
-        threads,
-        gate,
-    )
+    session::<K, Brand, G, R>(rt, alloc, Blanks::new(), options, deal, gate)
 }
 
 // The number of the first line that leaves a load open or lands one, if there is one.
 fn first_open<K: TraceKey>(first: u64, lines: &[Line<K>]) -> Option<u64>
-    requires { first + length lines.now ≤ 1000002 }
+    requires { first + length lines.now ≤ line_end + 1 }
     ensures { result ≡ spec.first_open first lines.now }
 {
     let mut rest = lines;
@@ -256,7 +214,14 @@ fn sums_of_trace<K: TraceKey, G: Gate, R: Threads + Wait + Sync>(
     if let Err(fault) = read.verdict {
         return Err(fault);
     }
-    match totals_by_turn(rt, alloc, options, first, &read.lines, threads, gate) {
+    let loader = TraceLoader::of(options);
+    let deal = Deal {
+        loader: &loader,
+        first,
+        lines: &read.lines,
+        threads,
+    };
+    match totals_by_turn(rt, alloc, options, &deal, gate) {
         Ok(sums) => Ok(sums),
         Err(RunFault::Cache(fault)) => Err(ReplayFault::Cache(fault)),
         Err(RunFault::GateShut { n }) => Err(ReplayFault::GateShut { n }),

@@ -1,9 +1,10 @@
 // The threads of a replay turn by turn, and its workers.
-ghost use Rattle.std.specs.Prelude.{◌≡◌, ◌*◌, ◌<◌, ◌≤◌, ℕ, length, vec_len, get_or, IfOk, IfSome, IsOk, IsNone, Err};
-ghost use Rattle.wt_replay.specs.ByTurn.{IsReady};
+ghost use Rattle.std.specs.Prelude.{◌≡◌, ◌<◌, ◌≤◌, ℕ, length, vec_len, get_or, IfOk, IfSome, IsOk, IsNone, Err};
+ghost use Rattle.wt_replay.specs.ByTurn.{IsManned};
 ghost use Rattle.wt_replay.specs.Turns.{AreDone, IsDone, unmade};
 
-use crate::turns::{Rules, RunFault, run_loads, run_thread};
+use crate::loader::TraceLoader;
+use crate::turns::{Deal, RunFault, run_loads, run_thread};
 use std::alloc::{AllocError, Global};
 use std::sync::Wait;
 use std::sync::atomic::{AtomicBool, Ordering};
@@ -12,7 +13,7 @@ use std::thread::Threads;
 use wt_cache::LoadingCache;
 use wt_keys::Fault;
 use wt_shards::{Names, Of, Pass};
-use wt_trace::{Gate, Line, TraceKey, Version};
+use wt_trace::{Gate, TraceKey, Version};
 
 // How often is looked for a worker before the lines begin.
 const MOST_LOOKS: u32 = 10_000;
@@ -27,33 +28,39 @@ pub(crate) type Worked<B> = Vec<Result<Pass<B>, Fault>>;
 fn turns<K: TraceKey, N: Names + Send + Sync, G: Gate, R: Threads + Wait + Sync>(
     rt: &R,
     alloc: Global,
-    cache: &LoadingCache<K, Version<K>, Rules, Of<N>>,
-    rules: &Rules,
-    first: u64,
-    lines: &[Line<K>],
-    threads: usize,
+    cache: &LoadingCache<K, Version<K>, TraceLoader, Of<N>>,
+    deal: &Deal<'_, K>,
     gate: &G,
-    room: usize,
 ) -> Result<Ran<Of<N>>, AllocError>
-    requires { IsReady cache.now.layout.shards cache.now.layout.config.entries room first
-        (length lines.now) threads }
-    ensures each { IfOk result (λ ran. AreDone K.word cache.now (G.answers gate.now) first lines.now
-        threads ran.items) }
-    ensures len { IfOk result (λ ran. vec_len ran ≡ threads) }
+    requires { cache.now.layout.shards ≤ 4 }
+    ensures each { IfOk result (λ ran. AreDone K.word cache.now (G.answers gate.now)
+        deal.now.first deal.now.lines.now deal.now.threads ran.items) }
+    ensures len { IfOk result (λ ran. vec_len ran ≡ deal.now.threads) }
 {
+    // What a thread's closure captures is taken apart, since a value with a fact of its own can't be.
+    let Deal {
+        loader,
+        first,
+        lines,
+        threads,
+    } = *deal;
     thread::map_indices(
         rt,
         alloc,
         threads,
         &|t: usize| -> Result<Pass<Of<N>>, RunFault>
-            requires { IsReady cache.now.layout.shards cache.now.layout.config.entries room first
-                (length lines.now) threads × (t < threads) }
+            requires { IsManned cache.now.layout.shards first (length lines.now) threads
+                × (t < threads) }
             ensures { IsDone K.word cache.entry.now (G.answers gate.entry.now) first lines.entry.now
                 threads t result }
         {
-            run_thread(
-                rt, alloc, cache, rules, first, lines, t, threads, gate, room,
-            )
+            let deal = Deal {
+                loader,
+                first,
+                lines,
+                threads,
+            };
+            run_thread(rt, alloc, cache, &deal, t, gate)
         },
     )
 }
@@ -61,7 +68,7 @@ fn turns<K: TraceKey, N: Names + Send + Sync, G: Gate, R: Threads + Wait + Sync>
 // Closes the line of loads where no worker comes to it, so that each caller loads for itself.
 fn await_worker<K: TraceKey, N: Names + Send + Sync, R: Wait>(
     rt: &R,
-    cache: &LoadingCache<K, Version<K>, Rules, Of<N>>,
+    cache: &LoadingCache<K, Version<K>, TraceLoader, Of<N>>,
     manned: &AtomicBool,
 ) {
     let Some(line) = cache.line() else {
@@ -80,23 +87,18 @@ fn await_worker<K: TraceKey, N: Names + Send + Sync, R: Wait>(
 fn handle_all<K: TraceKey, N: Names + Send + Sync, G: Gate, R: Threads + Wait + Sync>(
     rt: &R,
     alloc: Global,
-    cache: &LoadingCache<K, Version<K>, Rules, Of<N>>,
-    rules: &Rules,
-    first: u64,
-    lines: &[Line<K>],
-    threads: usize,
+    cache: &LoadingCache<K, Version<K>, TraceLoader, Of<N>>,
+    deal: &Deal<'_, K>,
     gate: &G,
-    room: usize,
     manned: &AtomicBool,
 ) -> Result<Ran<Of<N>>, AllocError>
-    requires { IsReady cache.now.layout.shards cache.now.layout.config.entries room first
-        (length lines.now) threads }
-    ensures each { IfOk result (λ ran. AreDone K.word cache.now (G.answers gate.now) first lines.now
-        threads ran.items) }
-    ensures len { IfOk result (λ ran. vec_len ran ≡ threads) }
+    requires { cache.now.layout.shards ≤ 4 }
+    ensures each { IfOk result (λ ran. AreDone K.word cache.now (G.answers gate.now)
+        deal.now.first deal.now.lines.now deal.now.threads ran.items) }
+    ensures len { IfOk result (λ ran. vec_len ran ≡ deal.now.threads) }
 {
     await_worker(rt, cache, manned);
-    let ran = turns(rt, alloc, cache, rules, first, lines, threads, gate, room);
+    let ran = turns(rt, alloc, cache, deal, gate);
     if let Some(line) = cache.line() {
         line.close(rt);
     }
@@ -107,20 +109,15 @@ fn handle_all<K: TraceKey, N: Names + Send + Sync, G: Gate, R: Threads + Wait + 
 fn load_all<K: TraceKey, N: Names + Send + Sync, R: Threads + Wait + Sync>(
     rt: &R,
     alloc: Global,
-    cache: &LoadingCache<K, Version<K>, Rules, Of<N>>,
+    cache: &LoadingCache<K, Version<K>, TraceLoader, Of<N>>,
     workers: usize,
-    room: usize,
     manned: &AtomicBool,
-) -> Result<Worked<Of<N>>, AllocError>
-    requires room { 4 * cache.now.layout.config.entries ≤ room }
-{
+) -> Result<Worked<Of<N>>, AllocError> {
     thread::map_indices(
         rt,
         alloc,
         workers,
-        &|_worker: usize| -> Result<Pass<Of<N>>, Fault>
-            requires { 4 * cache.now.layout.config.entries ≤ room }
-        { run_loads(rt, alloc, cache, room, manned) },
+        &|_worker: usize| -> Result<Pass<Of<N>>, Fault> { run_loads(rt, alloc, cache, manned) },
     )
 }
 
@@ -128,41 +125,44 @@ fn load_all<K: TraceKey, N: Names + Send + Sync, R: Threads + Wait + Sync>(
 pub(crate) fn work_all<K: TraceKey, N: Names + Send + Sync, G: Gate, R: Threads + Wait + Sync>(
     rt: &R,
     alloc: Global,
-    cache: &LoadingCache<K, Version<K>, Rules, Of<N>>,
-    rules: &Rules,
-    first: u64,
-    lines: &[Line<K>],
-    threads: usize,
-    workers: usize,
+    cache: &LoadingCache<K, Version<K>, TraceLoader, Of<N>>,
+    deal: &Deal<'_, K>,
     gate: &G,
-    room: usize,
+    workers: usize,
 ) -> (
     Result<Ran<Of<N>>, AllocError>,
     Result<Worked<Of<N>>, AllocError>,
 )
-    requires { IsReady cache.now.layout.shards cache.now.layout.config.entries room first
-        (length lines.now) threads }
-    ensures each { IfOk result.0 (λ ran. AreDone K.word cache.now (G.answers gate.now) first
-        lines.now threads ran.items) }
-    ensures len { IfOk result.0 (λ ran. vec_len ran ≡ threads) }
+    requires { cache.now.layout.shards ≤ 4 }
+    ensures each { IfOk result.0 (λ ran. AreDone K.word cache.now (G.answers gate.now)
+        deal.now.first deal.now.lines.now deal.now.threads ran.items) }
+    ensures len { IfOk result.0 (λ ran. vec_len ran ≡ deal.now.threads) }
 {
     let manned = AtomicBool::new(false);
+    // As above.
+    let Deal {
+        loader,
+        first,
+        lines,
+        threads,
+    } = *deal;
     thread::join(
         rt,
         || -> Result<Ran<Of<N>>, AllocError>
-            requires { IsReady cache.now.layout.shards cache.now.layout.config.entries room first
-                (length lines.now) threads }
+            requires { IsManned cache.now.layout.shards first (length lines.now) threads }
             ensures { IfOk result (λ ran. (vec_len ran ≡ threads)
                 × AreDone K.word cache.entry.now (G.answers gate.entry.now) first lines.entry.now
                 threads ran.items) }
         {
-            handle_all(
-                rt, alloc, cache, rules, first, lines, threads, gate, room, &manned,
-            )
+            let deal = Deal {
+                loader,
+                first,
+                lines,
+                threads,
+            };
+            handle_all(rt, alloc, cache, &deal, gate, &manned)
         },
-        || -> Result<Worked<Of<N>>, AllocError>
-            requires { 4 * cache.now.layout.config.entries ≤ room }
-        { load_all(rt, alloc, cache, workers, room, &manned) },
+        || -> Result<Worked<Of<N>>, AllocError> { load_all(rt, alloc, cache, workers, &manned) },
     )
 }
 

@@ -5,6 +5,7 @@ ghost use Rattle.std.specs.Prelude.{◌≡◌, IfOk, is_ok, if◌then◌else◌}
 
 mod by_turn;
 mod crew;
+mod loader;
 mod replay;
 #[cfg(test)]
 mod tests;

@@ -5,6 +5,7 @@ ghost use Rattle.wt_replay.specs.ByTurn.{IsLetThrough, Turned};
 ghost use Rattle.wt_trace.specs.Options.{option_fault};
 ghost use Rattle.wt_trace.specs.Replayed.{Gave, Rises};
 ghost use Rattle.wt_trace.specs.declared.fault.ReplayFault.TheVariants as fault;
+ghost use Rattle.wt_trace.specs.Trace.{read_end};
 
 use crate::by_turn::sums_by_turn;
 use std::alloc::Global;
@@ -46,7 +47,7 @@ pub fn replay_by_turn<H: Threads + Wait + Sync, R: Read, W: Write, G: Gate>(
     ensures turned { Turned (R.remaining reader.old.inner) (R.remaining reader.new.inner)
         (W.contents writer.old.inner) (W.contents writer.new.inner) result }
     ensures reads { Rises reader.old.failures reader.new.failures result fault.ReadFault }
-    ensures turns { reader.new.reads ≤ reader.old.reads + 65000002 }
+    ensures turns { reader.new.reads ≤ reader.old.reads + read_end + 1 }
     ensures asked { OnOk result ((bytes : List ℕ)
         × Gave (R.remaining reader.old.inner) (R.remaining reader.new.inner) bytes
         × IsLetThrough (λ n. G.answers gate.now n true) bytes) }

@@ -1,19 +1,18 @@
 // What one thread of a replay turn by turn does.
-ghost use Rattle.std.specs.Prelude.{◌≡◌, ◌*◌, ◌+◌, ◌<◌, ◌≤◌, false, true, length, IfOk, OnOk, IfErr};
-ghost use Rattle.wt_regions.specs.Lawful.{is_zero};
-ghost use Rattle.wt_trace.specs.Options.{option_fault};
+ghost use Rattle.std.specs.Prelude.{◌≡◌, ◌*◌, ◌+◌, ◌≤◌, false, true, length, IfOk, OnOk, IfErr};
 ghost use Rattle.wt_replay.specs.ByTurn.{IsReady};
 ghost use Rattle.wt_replay.specs.Turns.{HasActed, AreTurns, IsTurn, IsRunStop, is_turn};
 ghost use Rattle.wt_shards.specs.Passes.{new_pass};
 
+use crate::loader::TraceLoader;
 use std::alloc::Global;
 use std::sync::Wait;
 use std::sync::atomic::{AtomicBool, Ordering};
-use wt_cache::{Loader, LoadingCache};
+use wt_cache::LoadingCache;
 use wt_core::Notices;
-use wt_keys::{CacheKey, Fault};
+use wt_keys::Fault;
 use wt_shards::{Books, Pass};
-use wt_trace::{Act, Gate, Line, Options, TraceKey, Version, fails_by, weight_by};
+use wt_trace::{Act, Gate, Line, TraceKey, Version};
 
 /// Why a run ended before its last line.
 #[derive(Clone, Copy, Debug)]
@@ -24,50 +23,28 @@ pub(crate) enum RunFault {
     GateShut { n: u64 },
 }
 
-/// The loader of a trace: it makes values of version 0, and fails by the rule.
-#[derive(Clone, Copy, Debug, Drop)]
-pub(crate) struct Rules {
-    modulus: u64,
-    fail_mod: Option<u64>,
-    ghost some: { 0 < modulus },
-    ghost small: { modulus ≤ 1000000 },
-    ghost divides: { is_zero fail_mod ≡ false },
+/// The lines of a trace that threads do in turn.
+#[derive(Drop)]
+pub(crate) struct Deal<'a, K> {
+    /// Makes the values that lines put, as it makes those that are loaded.
+    pub loader: &'a TraceLoader,
+    /// The number of the first line: 2 behind a header, else 1.
+    pub first: u64,
+    /// The lines, at most 1,000,000.
+    pub lines: &'a [Line<K>],
+    /// How many threads share them, 1 to 64.
+    pub threads: usize,
+    ghost ready: { IsReady first (length lines.now) threads },
 }
 
-impl Rules {
-    // Those of the options.
-    pub(crate) fn of(options: &Options) -> Rules
-        requires { option_fault options.now ≡ None }
-    {
-        Rules {
-            modulus: options.modulus,
-            fail_mod: options.fail_mod,
-        }
-    }
-
-    // The value that line n makes of a key.
-    fn version<K: CacheKey>(&self, n: u64, key: K) -> Version<K>
-        ensures { result.key ≡ key }
-    {
-        Version {
-            key,
-            line: n,
-            weight: weight_by(self.modulus, key.word()),
-        }
-    }
-}
-
-impl<K: CacheKey> Loader<K, Version<K>> for Rules {
-    fn load(&self, key: &K) -> Result<Version<K>, u32> {
-        if fails_by(self.fail_mod, key.word()) {
-            return Err(7);
-        }
-        Ok(Version {
-            key: *key,
-            line: 0,
-            weight: weight_by(self.modulus, key.word()),
-        })
-    }
+/// The turns of one thread with the lines of a deal.
+#[derive(Drop)]
+struct Turns<'a, K: TraceKey, B: Books> {
+    cache: &'a LoadingCache<K, Version<K>, TraceLoader, B>,
+    deal: &'a Deal<'a, K>,
+    // The thread's number, from 0.
+    t: usize,
+    ghost few: { cache.now.layout.shards ≤ 4 },
 }
 
 // A fault of a line that doesn't end the run: a load that failed, a value too heavy, no place for a
@@ -82,8 +59,8 @@ fn passed_over(fault: Fault) -> Result<(), Fault> {
 // Does what line n asks for, once. Lines that leave a load open or land one are none of a turn.
 fn act<K: TraceKey, B: Books, R: Wait>(
     rt: &R,
-    cache: &LoadingCache<K, Version<K>, Rules, B>,
-    rules: &Rules,
+    cache: &LoadingCache<K, Version<K>, TraceLoader, B>,
+    loader: &TraceLoader,
     pass: &mut Pass<B>,
     n: u64,
     line: &Line<K>,
@@ -106,7 +83,7 @@ fn act<K: TraceKey, B: Books, R: Wait>(
             Ok(_) => Ok(()),
             Err(fault) => Err(fault),
         },
-        Act::Put(key) => match cache.put(rt, pass, key, rules.version(n, key), now, notices) {
+        Act::Put(key) => match cache.put(rt, pass, key, loader.version(n, key), now, notices) {
             Ok(_) => Ok(()),
             Err(fault) => passed_over(fault),
         },
@@ -125,36 +102,6 @@ fn act<K: TraceKey, B: Books, R: Wait>(
     }
 }
 
-// Does line n, if the gate lets it through, and drops what left the cache.
-fn do_line<K: TraceKey, B: Books, G: Gate, R: Wait>(
-    rt: &R,
-    cache: &LoadingCache<K, Version<K>, Rules, B>,
-    rules: &Rules,
-    pass: &mut Pass<B>,
-    n: u64,
-    line: &Line<K>,
-    gate: &G,
-    notices: &mut Notices<K, Version<K>>,
-) -> Result<(), RunFault>
-    requires few { cache.now.layout.shards ≤ 4 }
-    requires room { 4 * cache.now.layout.config.entries ≤ notices.old.room }
-    ensures asked { OnOk result (G.answers gate.now n true) }
-    ensures moved { OnOk result (HasActed K.word cache.now.layout cache.now.lined line.now.act
-        pass.old pass.new) }
-    ensures err { IfErr result (IsRunStop (λ m. G.answers gate.now m false)) }
-    ensures room { 4 * cache.now.layout.config.entries ≤ notices.new.room }
-{
-    if !gate.pass(n) {
-        return Err(RunFault::GateShut { n });
-    }
-    let done = act(rt, cache, rules, pass, n, line, notices);
-    notices.empty();
-    match done {
-        Ok(()) => Ok(()),
-        Err(fault) => Err(RunFault::Cache(fault)),
-    }
-}
-
 // Whether line n is thread t's: lines are dealt out in turn.
 fn is_turn(n: u64, t: u64, threads: u64) -> bool
     requires { (1 ≤ n) × (1 ≤ threads) }
@@ -163,112 +110,113 @@ fn is_turn(n: u64, t: u64, threads: u64) -> bool
     (n - 1) % threads == t
 }
 
-// Does line n if it is thread t's, and else leaves it alone.
-#[tactic(auto, using(crate::proofs::Dealt::own_turn, crate::proofs::Dealt::other_turn))]
-fn take_turn<K: TraceKey, B: Books, G: Gate, R: Wait>(
-    rt: &R,
-    cache: &LoadingCache<K, Version<K>, Rules, B>,
-    rules: &Rules,
-    pass: &mut Pass<B>,
-    n: u64,
-    line: &Line<K>,
-    t: u64,
-    threads: u64,
-    gate: &G,
-    notices: &mut Notices<K, Version<K>>,
-) -> Result<(), RunFault>
-    requires few { cache.now.layout.shards ≤ 4 }
-    requires room { 4 * cache.now.layout.config.entries ≤ notices.old.room }
-    requires n { 1 ≤ n }
-    requires threads { 1 ≤ threads }
-    ensures turn { OnOk result (IsTurn (is_turn threads t n) (G.answers gate.now n true)
-        (HasActed K.word cache.now.layout cache.now.lined line.now.act) pass.old pass.new) }
-    ensures err { IfErr result (IsRunStop (λ m. G.answers gate.now m false)) }
-    ensures room { 4 * cache.now.layout.config.entries ≤ notices.new.room }
-{
-    if !is_turn(n, t, threads) {
-        return Ok(());
-    }
-    do_line(rt, cache, rules, pass, n, line, gate, notices)
-}
-
-// Does a thread's lines in their order, up to its first fault. The list's first line is line
-// `first`.
-fn do_lines<K: TraceKey, B: Books, G: Gate, R: Wait>(
-    rt: &R,
-    cache: &LoadingCache<K, Version<K>, Rules, B>,
-    rules: &Rules,
-    pass: &mut Pass<B>,
-    first: u64,
-    lines: &[Line<K>],
-    t: u64,
-    threads: u64,
-    gate: &G,
-    notices: &mut Notices<K, Version<K>>,
-) -> Result<(), RunFault>
-    requires few { cache.now.layout.shards ≤ 4 }
-    requires room { 4 * cache.now.layout.config.entries ≤ notices.old.room }
-    requires first { (1 ≤ first) × (first ≤ 2) }
-    requires lines { length lines.now ≤ 1000000 }
-    requires threads { 1 ≤ threads }
-    ensures turns { OnOk result (AreTurns (is_turn threads t) (λ n. G.answers gate.now n true)
-        (HasActed K.word cache.now.layout cache.now.lined) first lines.now pass.old pass.new) }
-    ensures err { IfErr result (IsRunStop (λ n. G.answers gate.now n false)) }
-{
-    let mut rest = lines;
-    let mut n = first;
-    while let Some((line, after)) = rest.split_first() {
-        let taken = take_turn(rt, cache, rules, pass, n, line, t, threads, gate, notices);
-        if let Err(fault) = taken {
-            return Err(fault);
+impl<'a, K: TraceKey, B: Books> Turns<'a, K, B> {
+    // Does line n, if the gate lets it through, and drops what left the cache.
+    fn do_line<G: Gate, R: Wait>(
+        &self,
+        rt: &R,
+        gate: &G,
+        pass: &mut Pass<B>,
+        n: u64,
+        line: &Line<K>,
+        notices: &mut Notices<K, Version<K>>,
+    ) -> Result<(), RunFault>
+        requires room { 4 * self.now.cache.now.layout.config.entries ≤ notices.old.room }
+        ensures asked { OnOk result (G.answers gate.now n true) }
+        ensures moved { OnOk result (HasActed K.word self.now.cache.now.layout
+            self.now.cache.now.lined line.now.act pass.old pass.new) }
+        ensures err { IfErr result (IsRunStop (λ m. G.answers gate.now m false)) }
+        ensures room { 4 * self.now.cache.now.layout.config.entries ≤ notices.new.room }
+    {
+        if !gate.pass(n) {
+            return Err(RunFault::GateShut { n });
         }
-        rest = after;
-        n += 1;
+        let done = act(rt, self.cache, self.deal.loader, pass, n, line, notices);
+        notices.empty();
+        match done {
+            Ok(()) => Ok(()),
+            Err(fault) => Err(RunFault::Cache(fault)),
+        }
     }
-    Ok(())
+
+    // Does line n if it is this thread's, and else leaves it alone.
+    #[tactic(auto, using(crate::proofs::Dealt::own_turn, crate::proofs::Dealt::other_turn))]
+    fn take_turn<G: Gate, R: Wait>(
+        &self,
+        rt: &R,
+        gate: &G,
+        pass: &mut Pass<B>,
+        n: u64,
+        line: &Line<K>,
+        notices: &mut Notices<K, Version<K>>,
+    ) -> Result<(), RunFault>
+        requires room { 4 * self.now.cache.now.layout.config.entries ≤ notices.old.room }
+        requires n { 1 ≤ n }
+        ensures turn { OnOk result (IsTurn (is_turn self.now.deal.now.threads self.now.t n)
+            (G.answers gate.now n true)
+            (HasActed K.word self.now.cache.now.layout self.now.cache.now.lined line.now.act)
+            pass.old pass.new) }
+        ensures err { IfErr result (IsRunStop (λ m. G.answers gate.now m false)) }
+        ensures room { 4 * self.now.cache.now.layout.config.entries ≤ notices.new.room }
+    {
+        if !is_turn(n, self.t as u64, self.deal.threads as u64) {
+            return Ok(());
+        }
+        self.do_line(rt, gate, pass, n, line, notices)
+    }
+
+    // Does the thread's lines in their order, up to its first fault.
+    fn do_lines<G: Gate, R: Wait>(
+        &self,
+        rt: &R,
+        gate: &G,
+        pass: &mut Pass<B>,
+        notices: &mut Notices<K, Version<K>>,
+    ) -> Result<(), RunFault>
+        requires room { 4 * self.now.cache.now.layout.config.entries ≤ notices.old.room }
+        ensures turns { OnOk result (AreTurns (is_turn self.now.deal.now.threads self.now.t)
+            (λ n. G.answers gate.now n true)
+            (HasActed K.word self.now.cache.now.layout self.now.cache.now.lined)
+            self.now.deal.now.first self.now.deal.now.lines.now pass.old pass.new) }
+        ensures err { IfErr result (IsRunStop (λ n. G.answers gate.now n false)) }
+    {
+        let mut rest = self.deal.lines;
+        let mut n = self.deal.first;
+        while let Some((line, after)) = rest.split_first() {
+            if let Err(fault) = self.take_turn(rt, gate, pass, n, line, notices) {
+                return Err(fault);
+            }
+            rest = after;
+            n += 1;
+        }
+        Ok(())
+    }
 }
 
 /// Does the lines of thread t with a pass of its own, which it hands back.
 pub(crate) fn run_thread<K: TraceKey, B: Books, G: Gate, R: Wait>(
     rt: &R,
     alloc: Global,
-    cache: &LoadingCache<K, Version<K>, Rules, B>,
-    rules: &Rules,
-    first: u64,
-    lines: &[Line<K>],
+    cache: &LoadingCache<K, Version<K>, TraceLoader, B>,
+    deal: &Deal<'_, K>,
     t: usize,
-    threads: usize,
     gate: &G,
-    room: usize,
 ) -> Result<Pass<B>, RunFault>
-    requires ready { IsReady cache.now.layout.shards cache.now.layout.config.entries room first
-        (length lines.now) threads }
-    ensures turns { IfOk result (λ pass. AreTurns (is_turn threads t)
-        (λ n. G.answers gate.now n true) (HasActed K.word cache.now.layout cache.now.lined) first
-        lines.now (new_pass cache.now.layout.shards) pass) }
+    requires few { cache.now.layout.shards ≤ 4 }
+    ensures turns { IfOk result (λ pass. AreTurns (is_turn deal.now.threads t)
+        (λ n. G.answers gate.now n true) (HasActed K.word cache.now.layout cache.now.lined)
+        deal.now.first deal.now.lines.now (new_pass cache.now.layout.shards) pass) }
     ensures err { IfErr result (IsRunStop (λ n. G.answers gate.now n false)) }
 {
     let mut pass = match cache.pass(rt, alloc) {
         Ok(pass) => pass,
         Err(fault) => return Err(RunFault::Cache(fault)),
     };
-    let Ok(mut notices) = Notices::new(alloc, room) else {
+    let Ok(mut notices) = Notices::new(alloc, 4 * cache.entries() as usize) else {
         return Err(RunFault::Cache(Fault::NoMemory));
     };
-    let t = t as u64;
-    let threads = threads as u64;
-    match do_lines(
-        rt,
-        cache,
-        rules,
-        &mut pass,
-        first,
-        lines,
-        t,
-        threads,
-        gate,
-        &mut notices,
-    ) {
+    let turns = Turns { cache, deal, t };
+    match turns.do_lines(rt, gate, &mut pass, &mut notices) {
         Ok(()) => Ok(pass),
         Err(fault) => Err(fault),
     }
@@ -282,12 +230,9 @@ pub(crate) fn run_thread<K: TraceKey, B: Books, G: Gate, R: Wait>(
 pub(crate) fn run_loads<K: TraceKey, B: Books, R: Wait>(
     rt: &R,
     alloc: Global,
-    cache: &LoadingCache<K, Version<K>, Rules, B>,
-    room: usize,
+    cache: &LoadingCache<K, Version<K>, TraceLoader, B>,
     manned: &AtomicBool,
-) -> Result<Pass<B>, Fault>
-    requires room { 4 * cache.now.layout.config.entries ≤ room }
-{
+) -> Result<Pass<B>, Fault> {
     let mut pass = match cache.pass(rt, alloc) {
         Ok(pass) => pass,
         Err(fault) => return Err(fault),
@@ -298,7 +243,7 @@ pub(crate) fn run_loads<K: TraceKey, B: Books, R: Wait>(
     let Ok(mut hand) = line.pass(rt) else {
         return Err(Fault::NoMemory);
     };
-    let Ok(mut notices) = Notices::new(alloc, room) else {
+    let Ok(mut notices) = Notices::new(alloc, 4 * cache.entries() as usize) else {
         return Err(Fault::NoMemory);
     };
     manned.store(true, Ordering::SeqCst);

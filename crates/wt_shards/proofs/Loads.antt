@@ -23,6 +23,7 @@ use Rattle.wt_core.specs.declared.calls.Reply.{Reply}
 use Rattle.wt_core.specs.declared.calls.Reply.TheVariants.{Hit, HitLead, Join, Lead}
 use Rattle.wt_core.specs.State.{State, found as found_in, stepped}
 use Rattle.wt_core.specs.Seek.{foreseen_at, foreseen_of, met, seek_reply, refreshes}
+use Rattle.wt_core.proofs.Opens.{land-rows}
 use Rattle.wt_shards.specs.Audited.{load_at, load_of, still_open}
 use Rattle.wt_shards.proofs.Numbers.{flights_after, flights_sought, step-to}
 use Rattle.wt_shards.proofs.Values.{cond-ap}
@@ -38,9 +39,6 @@ map-same g f h (x ∷ xs) = λ i. h x i ∷ map-same g f h xs i
 map-filter : {X Y : Type 0} (g : X → Y) (p : Y → Bool) (xs : List X) → map g (filter (λ x. p (g x)) xs) ≡ filter p (map g xs)
 map-filter g p [] = refl
 map-filter g p (x ∷ xs) = sym (cond-ap (map g) (p (g x)) (x ∷ filter (λ y. p (g y)) xs) (filter (λ y. p (g y)) xs)) ∙ (λ i. cond (p (g x)) (g x ∷ map-filter g p xs i) (map-filter g p xs i))
-
-pub same-length : {K : Type 0} (rs qs : List (Row K)) → map load_of rs ≡ map load_of qs → length rs ≡ length qs
-same-length rs qs h = sym (length-map rs load_of) ∙ ap length h ∙ length-map qs load_of
 
 module _ {K : Type 0} where
   not_current-load : (b : Bool) (r : Row K) → load_of (cond b (not_current r) r) ≡ load_of r
@@ -66,32 +64,6 @@ module _ {K : Type 0} where
     loads-begun t ls l h id key =
         map-append load_at ls (l ∷ []) ∙ (λ i. h i ++ (id i, key i) ∷ [])
         ∙ sym (map-append load_of t.rows (record { id = t.next; key = k; current = true; sharers = 1 } ∷ []))
-
-    -- how many loads are open after a seek
-    abbrev pub open_by : Foreseen → ℕ → ℕ
-    open_by (foreseen.Lead id) n = n + 1
-    open_by (foreseen.HitLead id) n = n + 1
-    open_by (foreseen.Hit) n = n
-    open_by (foreseen.Join id) n = n
-
-    begun-length : (t : Flights K) → length (begun k t).rows ≡ length t.rows + 1
-    begun-length t = length-append t.rows (record { id = t.next; key = k; current = true; sharers = 1 } ∷ [])
-
-    module _ {V : Type 0} (s : State K V) where
-      abbrev elsewhere : Option ℕ → Reply V
-      elsewhere o = option_map_or Join o (Lead s.flights.next)
-
-      current-length : (o : Option ℕ) → length (flights_sought eq k (elsewhere o) s.flights).rows ≡ open_by (foreseen_of (elsewhere o)) (length s.flights.rows)
-      current-length None = begun-length s.flights
-      current-length (Some id) = same-length (joined eq k s.flights).rows s.flights.rows (loads-joined s.flights)
-
-      pub met-length : (f : Found V) → length (flights_sought eq k (met eq k f s) s.flights).rows ≡ open_by (foreseen_of (met eq k f s)) (length s.flights.rows)
-      met-length (found.Hit v) = elim (refreshes eq k s) as (λ b. length (flights_sought eq k (cond b (HitLead v s.flights.next) (Hit v)) s.flights).rows ≡ open_by (foreseen_of (cond b (HitLead v s.flights.next) (Hit v))) (length s.flights.rows)) [
-        | true ↦ begun-length s.flights
-        | false ↦ refl
-      ]
-      met-length found.Absent = current-length (current_of eq k s.flights)
-      met-length found.Expired = current-length (current_of eq k s.flights)
 
   -- ---- a landing
   module _ (eq : K → K → Bool) (k : K) (id : ℕ) where
@@ -155,27 +127,6 @@ module _ {K : Type 0} where
         at_row : (o : Option (Row K)) → row_of eq k id t ≡ o → filter (λ r. not (its r)) t.rows ≡ (option_map_or (λ row. landed id t) o t).rows
         at_row None is = cut_none t.rows is
         at_row (Some q) is = (cut_one t.rows q pairs is).0
-
-    -- one load less
-    pub landed-length : (t : Flights K) (q : Row K) → row_of eq k id t ≡ Some q → AllPairs (λ (r s : Row K). r.id < s.id) t.rows → length (option_map_or (λ row. landed id t) (row_of eq k id t) t).rows + 1 ≡ length t.rows
-    landed-length t q is pairs = rw is (cut_one t.rows q pairs is).1
-
--- ---- how many loads are open after a step
-module _ {K V : Type 0} (eq : K → K → Bool) (word : K → ℕ) (weight : V → ℕ) (s : State K V) (c : Call K V) where
-  pub seek-rows : (k : K) (now : ℕ) (f : Foreseen) → c ≡ Seek k now → foreseen_at eq k now s ≡ f → length (step eq word weight s c).state.flights.rows ≡ open_by eq k f (length s.flights.rows)
-  seek-rows k now f is meets = rw is (ap (λ (t : Flights K). length t.rows) (step-to eq word weight s (Seek k now)).flights ∙ met-length eq k (stepped now s) (found_in eq k (stepped now s)) ∙ ap (λ x. open_by eq k x (length s.flights.rows)) meets)
-
-  pub land-rows : (id : ℕ) (k : K) (what : Landing V) (now : ℕ) (q : Row K) → c ≡ Land id k what now → row_of eq k id s.flights ≡ Some q → AllPairs (λ (r s : Row K). r.id < s.id) s.flights.rows → length (step eq word weight s c).state.flights.rows + 1 ≡ length s.flights.rows
-  land-rows id k what now q is found pairs = rw is (
-      let n = ap (λ (t : Flights K). length t.rows) (step-to eq word weight s (Land id k what now)).flights in
-      let m = landed-length eq k id s.flights q found pairs in
-      omega (arith, n, m))
-
-  pub land-allowed : (id : ℕ) (k : K) (what : Landing V) (now : ℕ) (q : Row K) → c ≡ Land id k what now → row_of eq k id s.flights ≡ Some q → refusal_of eq word weight s c ≡ None
-  land-allowed id k what now q is found = rw is (ap (λ (o : Option (Row K)). cond (is_some o) None (spent s)) found)
-
-  pub gone-rows : (id : ℕ) (k : K) (what : Landing V) (now : ℕ) → c ≡ Land id k what now → row_of eq k id s.flights ≡ None → length (step eq word weight s c).state.flights.rows ≡ length s.flights.rows
-  gone-rows id k what now is found = rw is (ap (λ (t : Flights K). length t.rows) (step-to eq word weight s (Land id k what now)).flights ∙ ap (λ (o : Option (Row K)). length (option_map_or (λ row. landed id s.flights) o s.flights).rows) found)
 
 -- ---- the limit stays
 sought-limit : {K V : Type 0} (eq : K → K → Bool) (k : K) (r : Reply V) (t : Flights K) → (flights_sought eq k r t).limit ≡ t.limit
@@ -270,9 +221,6 @@ module _ {K V : Type 0} (eq : K → K → Bool) (word : K → ℕ) (weight : V �
       stays (Forget k now) p = refl
       stays (Clean now) p = refl
 
-  pub plain-length : (s : State K V) (c : Call K V) → IsPlain c → length (step eq word weight s c).state.flights.rows ≡ length s.flights.rows
-  plain-length s c p = same-length (step eq word weight s c).state.flights.rows s.flights.rows (plain-loads s c p)
-
   -- the landing of the load that is closed leaves
   pub land-still_open : (s : State K V) (id : ℕ) (k : K) (what : Landing V) (now : ℕ) (ls : List (Leading K)) → map load_at ls ≡ map load_of s.flights.rows → AllPairs (λ (r s : Row K). r.id < s.id) s.flights.rows
       → map load_at (still_open eq (Land id k what now) ls ++ []) ≡ map load_of (step eq word weight s (Land id k what now)).state.flights.rows
@@ -288,7 +236,7 @@ module _ {K V : Type 0} (eq : K → K → Bool) (word : K → ℕ) (weight : V �
   landing-place s (Seek k now) n m h pairs room = absurd h
   landing-place s (Land id k what now) n m h pairs room =
       let found = is_some-there (row_of eq k id s.flights) h in
-      let less = land-rows eq word weight s (Land id k what now) id k what now found.0 refl found.1 pairs in
+      let less = land-rows eq word weight k s id what now found.0 found.1 pairs in
       omega (arith, less, room)
   landing-place s (Put k v now) n m h pairs room = absurd h
   landing-place s (DropKey k now) n m h pairs room = absurd h

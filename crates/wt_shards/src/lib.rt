@@ -12,7 +12,6 @@ mod lag;
 mod laws;
 mod names;
 mod pass;
-mod refusal;
 mod shade;
 mod shading;
 mod shard;

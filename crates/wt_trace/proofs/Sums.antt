@@ -5,21 +5,11 @@ use Rattle.std.proofs.lemmas.List.{map-id}
 use Rattle.std.proofs.lemmas.List.FromFn.{map-range_with_len_more}
 use Rattle.std.specs.List.{flat_map, range_with_len}
 use Rattle.wt_trace.specs.Answers.{Answers}
-use Rattle.wt_trace.specs.Report.{AreTotals, summary, summary_of, count_text}
+use Rattle.wt_trace.specs.Report.{summary, summary_of, count_text}
+use Rattle.wt_core.specs.Sums.{AreSums}
 use Rattle.wt_core.specs.declared.stats.Stats.{Stats}
 
--- no number is above a bound
-pub record AreBelow (bound : ℕ) (t : Stats) : Type 0 where
-  pub lookups : t.lookups ≤ bound
-  pub hits : t.hits ≤ bound
-  pub misses : t.misses ≤ bound
-  pub loads : t.loads ≤ bound
-  pub failed : t.failed ≤ bound
-  pub evicted : t.evicted ≤ bound
-  pub entries : t.entries ≤ bound
-  pub weight : t.weight ≤ bound
-
-pub summary_of-totals : (t : Stats) (all : List Answers) → AreTotals t all → summary_of t ≡ summary all
+pub summary_of-totals : (t : Stats) (all : List Answers) → AreSums (λ (a : Answers). a.stats) t all → summary_of t ≡ summary all
 unfolding summary summary_of
 summary_of-totals t all are = λ i.
     count_text (codes "lookups ") (are.lookups i) ++ (count_text (codes " hits ") (are.hits i) ++ (

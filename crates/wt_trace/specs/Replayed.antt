@@ -1,6 +1,7 @@
 -- What a replay did.
 use Rattle.std.specs.Prelude.{◌≡◌, ℕ, ◌<◌, ◌^◌, ◌-◌, ◌≤◌, ◌⊎◌, ◌↔◌, List, length, Option, Result, Err, Some, ◌++◌, Bool, true, false}
 use Rattle.std.specs.Io.KnownBytes.{Keeps, Appends, Consumes, IsAtEnd}
+use Rattle.wt_trace.specs.Trace.{read_end}
 use Rattle.wt_trace.specs.Options.{option_fault}
 use Rattle.wt_trace.specs.Report.{report}
 use Rattle.wt_trace.specs.Stops.{Asked}
@@ -12,8 +13,8 @@ use Rattle.wt_trace.specs.declared.fault.ReplayFault.TheVariants.{Cache, ReadFau
 -- A reader gave these bytes: all that it had, or the first 65,000,001.
 pub record Gave (old new : Option (List ℕ)) (bytes : List ℕ) : Type 0 where
   pub given : Consumes old new bytes
-  pub few : length bytes ≤ 65000001
-  pub all : (length bytes ≡ 65000001) ⊎ IsAtEnd new
+  pub few : length bytes ≤ read_end
+  pub all : (length bytes ≡ read_end) ⊎ IsAtEnd new
 
 -- what was known to be written grew by a prefix of the bytes
 abbrev pub AppendsPrefix : Option (List ℕ) → Option (List ℕ) → List ℕ → Type 0

@@ -41,17 +41,6 @@ summary_of t =
 abbrev pub sum_text : List ℕ → (Stats → ℕ) → List Answers → List ℕ
 sum_text label number all = count_text label (sum_by (λ (a : Answers). number a.stats) all)
 
--- the sums of the numbers of all shards
-pub record AreTotals (sum : Stats) (all : List Answers) : Type 0 where
-  pub lookups : sum.lookups ≡ sum_by (λ (a : Answers). a.stats.lookups) all
-  pub hits : sum.hits ≡ sum_by (λ (a : Answers). a.stats.hits) all
-  pub misses : sum.misses ≡ sum_by (λ (a : Answers). a.stats.misses) all
-  pub loads : sum.loads ≡ sum_by (λ (a : Answers). a.stats.loads) all
-  pub failed : sum.failed ≡ sum_by (λ (a : Answers). a.stats.failed) all
-  pub evicted : sum.evicted ≡ sum_by (λ (a : Answers). a.stats.evicted) all
-  pub entries : sum.entries ≡ sum_by (λ (a : Answers). a.stats.entries) all
-  pub weight : sum.weight ≡ sum_by (λ (a : Answers). a.stats.weight) all
-
 -- the numbers of all shards
 unfoldable pub summary : List Answers → List ℕ
 summary all =

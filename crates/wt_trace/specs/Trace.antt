@@ -7,6 +7,14 @@ use Rattle.wt_trace.specs.declared.fault.ReplayFault.{ReplayFault}
 use Rattle.wt_trace.specs.declared.fault.ReplayFault.TheVariants.{BadLine, LineTooLong, TooManyLines}
 use Rattle.wt_trace.specs.Line.{line_of}
 
+-- the number behind that of the last line that a trace may have
+abbrev pub line_end : ℕ
+line_end = 1000001
+
+-- how many bytes are read of a trace at most: 1,000,000 lines of 64 bytes, an LF behind each, and one byte that tells of more
+abbrev pub read_end : ℕ
+read_end = 65000001
+
 -- how a report ends
 abbrev pub Verdict : Type 0
 Verdict = Result (Unit {0}) ReplayFault

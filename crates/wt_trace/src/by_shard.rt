@@ -8,17 +8,17 @@ ghost use Rattle.wt_trace.specs.Options.{option_fault};
 ghost use Rattle.wt_trace.specs.Parts.{IsPart, part_at, place_at, without};
 ghost use Rattle.wt_trace.specs.Report as report;
 ghost use Rattle.wt_trace.specs.Stops.{IsStop, AreAsked, AllAsked, Asked};
-ghost use Rattle.wt_trace.specs.Trace.{lines_of, trace_from};
+ghost use Rattle.wt_trace.specs.Trace.{lines_of, trace_from, line_end};
 
 use crate::answers::Answers;
 use crate::fault::ReplayFault;
 use crate::gate::Gate;
+use crate::header::behind_header;
 use crate::key::TraceKey;
 use crate::options::Options;
 use crate::parsing::read_on_threads;
 use crate::pieces::Pieces;
 use crate::printing::text_on_threads;
-use crate::report::behind_header;
 use crate::shard::shard_answers;
 use std::alloc::{AllocError, Global};
 use std::marker::Model;
@@ -53,7 +53,7 @@ fn part_of<K: TraceKey, G: Gate>(
     t: usize,
 ) -> Result<Part, ReplayFault>
     requires options { option_fault options.now ≡ None }
-    requires few { first + length read.now.lines ≤ 1000001 }
+    requires few { first + length read.now.lines ≤ line_end }
     requires threads { 0 < threads }
     ensures asked { OnOk result ((s : ℕ) → s < options.now.shards → s % threads ≡ t
         → AreAsked (spec.belongs (keys_by K.eq K.word K.read K.shown) options.now s)
@@ -113,7 +113,7 @@ fn parts<H: Threads + Sync, K: TraceKey, G: Gate>(
     threads: usize,
 ) -> Result<Vec<Result<Part, ReplayFault>>, AllocError>
     requires options { option_fault options.now ≡ None }
-    requires few { first + length read.now.lines ≤ 1000001 }
+    requires few { first + length read.now.lines ≤ line_end }
     requires threads { 0 < threads }
     ensures len { IfOk result (λ parts. vec_len parts ≡ threads) }
     ensures each { IfOk result (λ parts. (t : ℕ) → t < threads
@@ -128,7 +128,7 @@ fn parts<H: Threads + Sync, K: TraceKey, G: Gate>(
         alloc,
         threads,
         &|t: usize| -> Result<Part, ReplayFault>
-            requires { (option_fault options.now ≡ None) × (first + length read.now.lines ≤ 1000001)
+            requires { (option_fault options.now ≡ None) × (first + length read.now.lines ≤ line_end)
                 × (0 < threads) }
             ensures { IsPart (spec.answers (keys_by K.eq K.word K.read K.shown) options.entry.now
                 first read.entry.now.lines) (λ n. G.answers gate.entry.now n false)
@@ -151,7 +151,7 @@ fn answers_by_shard<H: Threads + Sync, K: TraceKey, G: Gate>(
     threads: usize,
 ) -> Result<Vec<Answers>, ReplayFault>
     requires options { option_fault options.now ≡ None }
-    requires few { first + length read.now.lines ≤ 1000001 }
+    requires few { first + length read.now.lines ≤ line_end }
     requires threads { 0 < threads }
     ensures asked { OnOk result (AllAsked (keys_by K.eq K.word K.read K.shown) options.now
         (λ n. G.answers gate.now n true) first read.now.lines) }
@@ -183,7 +183,7 @@ fn report_of<H: Threads + Sync, K: TraceKey, G: Gate>(
     threads: usize,
 ) -> Result<(Vec<u8>, Result<(), ReplayFault>), ReplayFault>
     requires options { option_fault options.now ≡ None }
-    requires first { first ≤ 1000001 }
+    requires first { first ≤ line_end }
     requires threads { (0 < threads) × (threads ≤ 64) }
     ensures asked { OnOk result (AllAsked (keys_by K.eq K.word K.read K.shown) options.now
         (λ n. G.answers gate.now n true) first

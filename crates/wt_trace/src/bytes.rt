@@ -1,34 +1,6 @@
-// Bytes that are cut, and digits that are read.
-ghost use Rattle.std.specs.Prelude.{◌≡◌, ◌==◌, ◌^◌, ◌<◌, ◌≤◌, position, IfSome, IsNone};
+// Bytes that are cut.
+ghost use Rattle.std.specs.Prelude.{◌≡◌, ◌==◌, position};
 ghost use Rattle.std.specs.List.{before_first, after_first};
-ghost use Rattle.std.specs.Str.Parse.{AllDigits, digits_value};
-ghost use Rattle.wt_trace.specs.Keys.{number_of};
-
-// The value of digits, unless it is 2^64 or more.
-fn value_of(digits: &[u8]) -> Option<u64>
-    ensures some { IfSome result (λ n. AllDigits 10 digits.now × (n ≡ digits_value 10 digits.now)
-        × (n < 2 ^ 64)) }
-    ensures none { IsNone result → AllDigits 10 digits.now → 2 ^ 64 ≤ digits_value 10 digits.now }
-{
-    let mut n = 0u64;
-    for b in digits {
-        if !b.is_ascii_digit() {
-            return None;
-        }
-        n = n.checked_mul(10)?.checked_add(u64::from(*b - b'0'))?;
-    }
-    Some(n)
-}
-
-/// Returns the number that 1 to 20 digits spell, below 2^64.
-pub fn number_of(digits: &[u8]) -> Option<u64>
-    ensures { result ≡ number_of digits.now }
-{
-    if digits.len() < 1 || 20 < digits.len() {
-        return None;
-    }
-    value_of(digits)
-}
 
 // Where such a byte stands first.
 pub(crate) fn place_of(bytes: &[u8], stop: u8) -> Option<usize>

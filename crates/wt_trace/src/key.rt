@@ -3,8 +3,7 @@ ghost use Rattle.std.specs.Prelude.{◌≡◌, ◌++◌, ℕ, List, Option, OnOk
 ghost use Rattle.std.specs.List.{list_all};
 ghost use Rattle.wt_trace.specs.Keys.{number_of, name_of, is_name_byte};
 
-use crate::bytes::number_of;
-use itoa::Buffer;
+use crate::digits::{number_of, show_number};
 use std::alloc::AllocError;
 use wt_keys::{CacheKey, Name};
 
@@ -68,12 +67,4 @@ fn are_name_bytes(bytes: &[u8]) -> bool
     ensures { result ≡ list_all is_name_byte bytes.now }
 {
     bytes.iter().all(|byte| is_name_byte(*byte))
-}
-
-/// Appends the digits of a number.
-pub fn show_number(out: &mut Vec<u8>, n: u64) -> Result<(), AllocError>
-    ensures { OnOk result (out.new.items ≡ out.old.items ++ decimal n) }
-{
-    let mut digits = Buffer::new();
-    out.extend_from_slice(digits.format(n).as_bytes())
 }

@@ -5,8 +5,10 @@
 mod answers;
 mod by_shard;
 mod bytes;
+mod digits;
 mod fault;
 mod gate;
+mod header;
 mod key;
 mod laws;
 mod line;
@@ -18,6 +20,7 @@ mod report;
 mod rules;
 mod run;
 mod shard;
+mod summary;
 mod tallied;
 #[cfg(test)]
 mod tests;
@@ -27,13 +30,14 @@ mod words;
 
 pub use fault::{ReplayFault, status_and_line};
 pub use gate::{Gate, Open};
+pub use header::behind_header;
 pub use key::TraceKey;
 pub use laws::{a_get_leaves_no_load_open, a_shard_is_a_run_of_its_calls};
 pub use line::{Act, Line, reads_every_line};
 pub use options::{MOST_THREADS, MOST_WEIGHT, Options};
-pub use report::{behind_header, summary_text};
-pub use rules::{fails_by, weight_by};
+pub use rules::{FAILED_LOAD, fails_by, version_by, weight_by};
 pub use run::{MOST_BYTES, read_up_to, replay, replay_by_shard, write_out};
+pub use summary::summary_text;
 pub use tallied::Tallied;
 pub use trace::{Lines, read_lines};
 pub use version::Version;

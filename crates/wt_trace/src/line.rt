@@ -3,7 +3,8 @@ ghost use Rattle.std.specs.Prelude.{◌≡◌};
 ghost use Rattle.wt_trace.specs.Keys.{IsNumber, IsName, numbers, names};
 ghost use Rattle.wt_trace.specs.Line as spec;
 
-use crate::bytes::{cut, number_of};
+use crate::bytes::cut;
+use crate::digits::number_of;
 use crate::key::TraceKey;
 
 /// What a line asks for.

@@ -2,7 +2,7 @@
 // the pieces are put together in their order. A thread doesn't know how many lines there are before
 // its piece, so a piece with a fault is read again, by the numbers of its lines.
 ghost use Rattle.std.specs.Prelude.{◌≡◌, ◌==◌, ◌+◌, ◌<◌, ◌≤◌, ℕ, [], ◌++◌, IfOk, IfSome, None, position, get_or, slice_set, drop, length, vec_len};
-ghost use Rattle.wt_trace.specs.Trace.{IsFaultless, lines_of, lines_of_all, trace_from};
+ghost use Rattle.wt_trace.specs.Trace.{IsFaultless, lines_of, lines_of_all, trace_from, line_end};
 
 use crate::bytes::place_of;
 use crate::key::TraceKey;
@@ -78,7 +78,7 @@ fn cut_up<'a>(alloc: Global, bytes: &'a [u8], count: usize) -> Result<Vec<Bytes<
 
 // The lines of a piece, if none is at fault and there is memory for them.
 fn read_piece<K: TraceKey>(alloc: Global, first: u64, bytes: &[u8]) -> Option<Piece<K>>
-    requires { first ≤ 1000001 }
+    requires { first ≤ line_end }
     ensures { IfSome result (IsFaultless (trace_from K.read first (lines_of bytes.now))) }
 {
     let Ok(read) = read_lines::<K>(alloc, first, bytes) else {
@@ -98,7 +98,7 @@ fn read_pieces<H: Threads + Sync, K: TraceKey>(
     first: u64,
     pieces: &[Bytes<'_>],
 ) -> Result<Vec<Option<Piece<K>>>, AllocError>
-    requires { first ≤ 1000001 }
+    requires { first ≤ line_end }
     ensures len { IfOk result (λ read. vec_len read ≡ length pieces.now) }
     ensures each { IfOk result (λ read. (t : ℕ) → t < length pieces.now
         → IfSome (get_or read.items t None)
@@ -109,7 +109,7 @@ fn read_pieces<H: Threads + Sync, K: TraceKey>(
         alloc,
         pieces.len(),
         &|t: usize| -> Option<Piece<K>>
-            requires { (first ≤ 1000001) × (t < length pieces.now) }
+            requires { (first ≤ line_end) × (t < length pieces.now) }
             ensures { IfSome result (IsFaultless
                 (trace_from K.read first (lines_of (get_or pieces.entry.now t [])))) }
         { read_piece(alloc, first, bytes_at(pieces, t)) },
@@ -124,9 +124,9 @@ fn numbered<K: TraceKey>(
     bytes: &[u8],
     read: Option<Piece<K>>,
 ) -> Result<Lines<K>, NoMemory>
-    requires n { n ≤ 1000001 }
+    requires n { n ≤ line_end }
     requires sound { IfSome read (IsFaultless (trace_from K.read first (lines_of bytes.now))) }
-    ensures few { IfOk result (λ lines. n + length lines.lines.items ≤ 1000001) }
+    ensures few { IfOk result (λ lines. n + length lines.lines.items ≤ line_end) }
     ensures lines { IfOk result (λ lines. lines.lines.items
         ≡ (trace_from K.read n (lines_of bytes.now)).lines) }
     ensures verdict { IfOk result (λ lines. lines.verdict
@@ -160,12 +160,12 @@ fn put_together<K: TraceKey>(
     pieces: &[Bytes<'_>],
     read: Vec<Option<Piece<K>>>,
 ) -> Result<Pieces<K>, NoMemory>
-    requires first { first ≤ 1000001 }
+    requires first { first ≤ line_end }
     requires len { vec_len read ≡ length pieces.now }
     requires each { (t : ℕ) → t < length pieces.now
         → IfSome (get_or read.items t None)
         (IsFaultless (trace_from K.read first (lines_of (get_or pieces.now t [])))) }
-    ensures few { IfOk result (λ all. first + length all.lines ≤ 1000001) }
+    ensures few { IfOk result (λ all. first + length all.lines ≤ line_end) }
     ensures lines { IfOk result (λ all. all ≡ trace_from K.read first (lines_of_all pieces.now)) }
 {
     let mut read = read;
@@ -191,9 +191,9 @@ pub fn read_on_threads<H: Threads + Sync, K: TraceKey>(
     bytes: &[u8],
     threads: usize,
 ) -> Result<Pieces<K>, NoMemory>
-    requires first { first ≤ 1000001 }
+    requires first { first ≤ line_end }
     requires threads { 0 < threads }
-    ensures few { IfOk result (λ all. first + length all.lines ≤ 1000001) }
+    ensures few { IfOk result (λ all. first + length all.lines ≤ line_end) }
     ensures lines { IfOk result (λ all. all ≡ trace_from K.read first (lines_of bytes.now)) }
 {
     let pieces = cut_up(alloc, bytes, threads)?;

@@ -7,12 +7,14 @@ ghost use Rattle.wt_trace.specs.Keys.{keys_by};
 ghost use Rattle.wt_trace.specs.Options.{option_fault};
 ghost use Rattle.wt_trace.specs.Report.{lines_text, piece_text};
 ghost use Rattle.wt_trace.specs.Report as spec;
+ghost use Rattle.wt_trace.specs.Trace.{line_end};
 
 use crate::answers::Answers;
 use crate::key::TraceKey;
 use crate::options::Options;
 use crate::pieces::Pieces;
-use crate::report::{show_lines, show_summary};
+use crate::report::show_lines;
+use crate::summary::show_summary;
 use std::alloc::{AllocError, Global};
 use std::thread;
 use std::thread::Threads;
@@ -32,7 +34,7 @@ fn piece(
 ) -> Result<Vec<u8>, AllocError>
     requires whole { All (λ a. length a.texts ≡ count) all.now }
     requires fits { first + count < 2 ^ 64 }
-    requires most { most ≤ 1000002 }
+    requires most { most ≤ line_end + 1 }
     requires t { t < 64 }
     ensures { IfOk result (λ out. out.items ≡ piece_text first all.now count most t) }
 {
@@ -54,7 +56,7 @@ fn pieces<H: Threads + Sync>(
 ) -> Result<Vec<Result<Vec<u8>, AllocError>>, AllocError>
     requires whole { All (λ a. length a.texts ≡ count) all.now }
     requires fits { first + count < 2 ^ 64 }
-    requires most { most ≤ 1000002 }
+    requires most { most ≤ line_end + 1 }
     requires threads { threads ≤ 64 }
     ensures len { IfOk result (λ pieces. vec_len pieces ≡ threads) }
     ensures each { IfOk result (λ pieces. (t : ℕ) → t < threads
@@ -67,7 +69,7 @@ fn pieces<H: Threads + Sync>(
         threads,
         &|t: usize| -> Result<Vec<u8>, AllocError>
             requires { All (λ a. length a.texts ≡ count) all.now × (first + count < 2 ^ 64)
-                × (most ≤ 1000002) × (t < 64) }
+                × (most ≤ line_end + 1) × (t < 64) }
             ensures { IfOk result (λ out. out.items ≡ piece_text first all.entry.now count most t) }
         { piece(alloc, first, all, count, most, t) },
     )
@@ -94,7 +96,7 @@ fn lines_on_threads<H: Threads + Sync>(
     threads: usize,
 ) -> Result<Vec<u8>, NoMemory>
     requires whole { All (λ a. length a.texts ≡ count) all.now }
-    requires fits { first + count ≤ 1000001 }
+    requires fits { first + count ≤ line_end }
     requires threads { (0 < threads) × (threads ≤ 64) }
     ensures { IfOk result (λ out. out.items ≡ lines_text first all.now 0 count) }
 {
@@ -124,7 +126,7 @@ pub fn text_on_threads<H: Threads + Sync, K: TraceKey>(
     threads: usize,
 ) -> Result<Vec<u8>, NoMemory>
     requires options { option_fault options.now ≡ None }
-    requires few { first + length read.now.lines ≤ 1000001 }
+    requires few { first + length read.now.lines ≤ line_end }
     requires threads { (0 < threads) × (threads ≤ 64) }
     requires all { all.now ≡ map (answers (keys_by K.eq K.word K.read K.shown) options.now first
         read.now.lines) (range_with_len 0 options.now.shards) }

@@ -5,6 +5,7 @@ ghost use Rattle.wt_trace.specs.Replayed.{Replayed, AppendsPrefix, Rises, ShutsO
 ghost use Rattle.wt_trace.specs.Options.{option_fault};
 ghost use Rattle.wt_keys.specs.declared.fault.Fault.TheVariants as cache;
 ghost use Rattle.wt_trace.specs.declared.fault.ReplayFault.TheVariants as fault;
+ghost use Rattle.wt_trace.specs.Trace.{read_end};
 
 use crate::by_shard::report_by_shard;
 use crate::fault::ReplayFault;
@@ -101,7 +102,7 @@ pub fn replay<R: Read, W: Write>(
         (R.remaining reader.new.inner) (W.contents writer.old.inner) (W.contents writer.new.inner)
         result }
     ensures reads { Rises reader.old.failures reader.new.failures result fault.ReadFault }
-    ensures turns { reader.new.reads ≤ reader.old.reads + 65000002 }
+    ensures turns { reader.new.reads ≤ reader.old.reads + read_end + 1 }
     ensures writes { Rises writer.old.failures writer.new.failures result fault.WriteFault }
     ensures shut { ShutsOnly (λ _. ⊥) result }
 {
@@ -140,7 +141,7 @@ pub fn replay_by_shard<H: Threads + Sync, R: Read, W: Write, G: Gate>(
         (R.remaining reader.new.inner) (W.contents writer.old.inner) (W.contents writer.new.inner)
         result }
     ensures reads { Rises reader.old.failures reader.new.failures result fault.ReadFault }
-    ensures turns { reader.new.reads ≤ reader.old.reads + 65000002 }
+    ensures turns { reader.new.reads ≤ reader.old.reads + read_end + 1 }
     ensures writes { Rises writer.old.failures writer.new.failures result fault.WriteFault }
     ensures shut { ShutsOnly (λ n. G.answers gate.now n false) result }
     ensures asked { LetThrough options.now (λ n. G.answers gate.now n true)

@@ -1,10 +1,11 @@
 // A shard at work on the lines of a trace.
-ghost use Rattle.std.specs.Prelude.{◌≡◌, ◌++◌, ◌+◌, ◌≤◌, ◌%◌, IfOk, OnOk, IfErr, length, None, [], true, false};
+ghost use Rattle.std.specs.Prelude.{◌≡◌, ◌++◌, ◌+◌, ◌≤◌, IfOk, OnOk, IfErr, length, None, [], true, false};
 ghost use Rattle.wt_trace.specs.Keys.{keys_by};
 ghost use Rattle.wt_trace.specs.Options.{option_fault};
 ghost use Rattle.wt_trace.specs.Answers as spec;
 ghost use Rattle.wt_trace.specs.Stops.{IsStop, AreAsked};
 ghost use Rattle.wt_trace.specs.declared.line.Act.TheVariants as act;
+ghost use Rattle.wt_trace.specs.Trace.{line_end};
 
 use crate::answers::Answers;
 use crate::fault::ReplayFault;
@@ -13,12 +14,12 @@ use crate::key::TraceKey;
 use crate::line::{Act, Line};
 use crate::options::Options;
 use crate::pieces::Walk;
-use crate::rules::{fails_by, weight_by};
+use crate::rules::{load_by, version_by};
 use crate::version::Version;
 use crate::words::{show, show_loaded, show_notices, show_reply, show_with};
 use std::alloc::Global;
 use std::marker::Model;
-use wt_core::{Call, Core, Land, Notices, Reply};
+use wt_core::{Call, Core, Notices, Reply};
 use wt_keys::{Fault, NoMemory, shard_of};
 
 // A shard with its cache, what its latest call told, and the text that its lines added so far.
@@ -86,7 +87,7 @@ impl<K: TraceKey> Shard<K> {
         ensures same { (self.new.options ≡ self.old.options) × (self.new.shard ≡ self.old.shard) }
     {
         self.later.empty();
-        let call = Call::Land(id, key, load(&self.options, n, key), moment);
+        let call = Call::Land(id, key, load_by(&self.options, n, key), moment);
         let reply = self.core.take(call, &mut self.later)?;
         show_loaded(&mut self.text, &reply)?;
         show_notices(&mut self.text, self.told.list())?;
@@ -132,7 +133,7 @@ impl<K: TraceKey> Shard<K> {
     {
         match self.core.first_of(key) {
             Some(id) => {
-                let call = Call::Land(id, key, load(&self.options, n, key), moment);
+                let call = Call::Land(id, key, load_by(&self.options, n, key), moment);
                 self.one_call(call)
             }
             None => {
@@ -156,7 +157,7 @@ impl<K: TraceKey> Shard<K> {
         match line.act {
             Act::Look(key) => self.one_call(Call::Look(key, now)),
             Act::Put(key) => {
-                let value = version(&self.options, n, key);
+                let value = version_by(&self.options, n, key);
                 self.one_call(Call::Put(key, value, now))
             }
             Act::Seek(key) => self.one_call(Call::Seek(key, now)),
@@ -195,30 +196,6 @@ impl<K: TraceKey> Shard<K> {
     }
 }
 
-// The value that line n makes of a key.
-fn version<K: TraceKey>(options: &Options, n: u64, key: K) -> Version<K>
-    requires { option_fault options.now ≡ None }
-    ensures { result ≡ spec.version (keys_by K.eq K.word K.read K.shown) options.now n key }
-{
-    Version {
-        key,
-        line: n,
-        weight: weight_by(options.modulus, key.word()),
-    }
-}
-
-// How the load of a key on line n ends: by rule it fails where the rule's number divides the key's
-// word.
-fn load<K: TraceKey>(options: &Options, n: u64, key: K) -> Land<Version<K>>
-    requires { option_fault options.now ≡ None }
-    ensures { result ≡ spec.load (keys_by K.eq K.word K.read K.shown) options.now n key }
-{
-    if fails_by(options.fail_mod, key.word()) {
-        return Land::Failed;
-    }
-    Land::Keep(version(options, n, key))
-}
-
 // Whether what a line asks for belongs to the shard: to that of its key, or to each.
 fn belongs<K: TraceKey>(options: &Options, shard: usize, act: &Act<K>) -> bool
     requires { option_fault options.now ≡ None }
@@ -245,7 +222,7 @@ pub fn shard_answers<K: TraceKey, G: Gate>(
     gate: &G,
 ) -> Result<Answers, ReplayFault>
     requires options { option_fault options.now ≡ None }
-    requires few { first + length lines ≤ 1000001 }
+    requires few { first + length lines ≤ line_end }
     ensures answers { IfOk result (λ a. a
         ≡ spec.answers (keys_by K.eq K.word K.read K.shown) options.now first lines.entry number) }
     ensures asked { OnOk result (AreAsked

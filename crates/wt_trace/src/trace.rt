@@ -1,6 +1,6 @@
 // A trace, read line by line up to the first fault.
 ghost use Rattle.std.specs.Prelude.{◌≡◌, ◌+◌, ◌≤◌, IfOk, length};
-ghost use Rattle.wt_trace.specs.Trace.{lines_of, trace_from};
+ghost use Rattle.wt_trace.specs.Trace.{lines_of, trace_from, line_end};
 ghost use Rattle.wt_trace.specs.Trace as spec;
 
 use crate::bytes::cut;
@@ -46,8 +46,8 @@ pub fn read_lines<K: TraceKey>(
     first: u64,
     bytes: &[u8],
 ) -> Result<Lines<K>, NoMemory>
-    requires { first ≤ 1000001 }
-    ensures few { IfOk result (λ read. first + length read.lines.items ≤ 1000001) }
+    requires { first ≤ line_end }
+    ensures few { IfOk result (λ read. first + length read.lines.items ≤ line_end) }
     ensures lines { IfOk result (λ read. read.lines.items
         ≡ (trace_from K.read first (lines_of bytes.now)).lines) }
     ensures verdict { IfOk result (λ read. read.verdict

@@ -4,7 +4,8 @@ ghost use Rattle.std.specs.List.{flat_map};
 ghost use Rattle.wt_trace.specs.Keys.{keys_by};
 ghost use Rattle.wt_trace.specs.Words as spec;
 
-use crate::key::{TraceKey, show_number};
+use crate::digits::show_number;
+use crate::key::TraceKey;
 use crate::version::Version;
 use std::alloc::AllocError;
 use wt_core::{Cause, Notice, Reply};

@@ -1,11 +1,12 @@
 // Look-ups of a shard.
-ghost use Rattle.std.specs.Prelude.{◌≡◌, ℕ, ◌+◌, ◌<◌, ◌≤◌, None, Some, [], IfOk, OnOk, OnErr, IsOk, IsOkUnless, MatchOption, Ok, Err, IsTrue, is_some, length, IfErr, true, IfSome};
+ghost use Rattle.std.specs.Prelude.{◌≡◌, ℕ, ◌+◌, ◌≤◌, None, [], IfOk, IfErr, OnOk, OnErr, IsOkUnless, MatchOption, Err, true};
 ghost use Rattle.wt_keys.specs.declared.fault.Fault.TheVariants as fault;
 ghost use Rattle.wt_regions.specs.Notices.{appended};
 ghost use Rattle.wt_core.specs.declared.calls.Call.TheVariants as call;
+ghost use Rattle.wt_core.specs.Faults.{is_seek_fault};
+ghost use Rattle.wt_shards.specs.Contract.{IsShardCall};
 ghost use Rattle.wt_shards.specs.Counts.{counted, is_hit};
 ghost use Rattle.wt_shards.specs.Told.{HasTold};
-ghost use Rattle.wt_shards.specs.Faults.{is_step_fault, is_seek_fault, is_put_fault};
 
 use crate::kept::{Kept, find_kept};
 use crate::shard::Shard;
@@ -17,8 +18,8 @@ use wt_core::{Call, Foreseen, Notices, Reply, Weighs};
 use wt_keys::{Answers, CacheKey, Fault, Share};
 
 impl<K: CacheKey, V: Share + Weighs + Answers<K>, S: ShardLedger, H: Ledger> Shard<K, V, S, H> {
-    ghost use Rattle.wt_core.specs.Step.{step, refusal_of};
     ghost use Rattle.wt_shards.specs.Asked.{ReplyAnswers};
+    ghost use Rattle.wt_core.specs.Step.{step, refusal_of};
     ghost use Rattle.wt_shards.specs.Audited.{IsCaughtUp, IsHome, shard_step};
     ghost use Rattle.wt_shards.specs.Sought.{IsOfLandings, opened_by, reply_of};
 
@@ -37,33 +38,10 @@ impl<K: CacheKey, V: Share + Weighs + Answers<K>, S: ShardLedger, H: Ledger> Sha
         requires home { IsHome K.word S.ShardLedger.place.shards S.ShardLedger.place.index key }
         requires room { S.ShardLedger.place.config.entries ≤ notices.old.room }
 
-        ensures state { OnOk result (self.new
-            ≡ shard_step K.eq K.word V.weight (call.Look key now) [] self.old) }
-        ensures answer { IfOk result (λ reply. reply
-            ≡ (step K.eq K.word V.weight self.old.core (call.Look key now)).reply) }
-        ensures notices { OnOk result (notices.new ≡ appended
-            (step K.eq K.word V.weight self.old.core (call.Look key now)).notices
-            notices.old) }
-        ensures moved { IfOk result (λ reply. mine.new ≡ counted (is_hit reply) mine.old) }
-        // The number of this step is above those of all steps that the caller made here.
-        ensures later { OnOk result ((mine.old.steps ≤ self.old.core.step)
-            × (self.new.core.step ≡ self.old.core.step + 1)) }
+        ensures made { IsShardCall K.eq K.word V.weight S.ShardLedger.place.config.entries
+            (call.Look key now) (λ reply. reply) (λ _. []) self.old self.new mine.old mine.new
+            notices.old notices.new result }
         ensures answers { IfOk result (λ reply. ReplyAnswers V.answers key reply) }
-
-        ensures allowed { OnOk result
-            (refusal_of K.eq K.word V.weight self.old.core (call.Look key now) ≡ None) }
-        // What the state refuses is refused whatever the memory does, and leaves the whole shard as
-        // it is.
-        ensures refusal { MatchOption
-            (refusal_of K.eq K.word V.weight self.old.core (call.Look key now))
-            (IsOkUnless result fault.NoMemory)
-            (λ f. (result ≡ Err f) × (self.new ≡ self.old)) }
-        ensures faults { IfErr result (λ f. is_step_fault f ≡ true) }
-        // Whatever is answered.
-        ensures told { HasTold S.ShardLedger.place.config.entries notices.old notices.new }
-        ensures err { OnErr result
-            (IsCaughtUp K.eq K.word V.weight (call.Look key now) self.old self.new
-            × (mine.new ≡ mine.old) × (notices.new ≡ notices.old)) }
     {
         self.make(mine, Call::Look(key, now), None, notices)
     }
@@ -117,7 +95,7 @@ impl<K: CacheKey, V: Share + Weighs + Answers<K>, S: ShardLedger, H: Ledger> Sha
             × (mine.new ≡ mine.old) × (notices.new ≡ notices.old)) }
     {
         let met = self.core.foresee(key, now);
-        let rows = match self.open_met(key, now, &met) {
+        let rows = match self.core.open_met(key, now, &met) {
             Ok(rows) => rows,
             Err(fault) => return Err(fault),
         };

@@ -1,23 +1,21 @@
 // A step of a shard, whichever call it is: decide, catch up, step, record.
-ghost use Rattle.std.specs.Prelude.{◌≡◌, ℕ, ◌+◌, ◌<◌, ◌≤◌, None, Some, IfOk, OnOk, OnErr, IsOk, IsOkUnless, MatchOption, Ok, Err, IsTrue, is_some, length, map, ◌++◌, IfErr, true, IfSome};
+ghost use Rattle.std.specs.Prelude.{◌≡◌, ℕ, ◌+◌, ◌≤◌, None, IfOk, OnOk, OnErr, IsOk, IsOkUnless, MatchOption, Err, length, map, ◌++◌, IfErr, true};
 ghost use Rattle.std.specs.Option.{option_to_list};
 ghost use Rattle.wt_keys.specs.declared.fault.Fault.TheVariants as fault;
 ghost use Rattle.wt_regions.specs.Notices.{appended};
 ghost use Rattle.wt_core.specs.declared.calls.Call.TheVariants as call;
-ghost use Rattle.wt_core.specs.Seek.{foreseen_at};
 ghost use Rattle.wt_shards.specs.Counts.{counted, is_hit};
 ghost use Rattle.wt_shards.specs.Told.{HasTold};
-ghost use Rattle.wt_shards.specs.Faults.{is_fault_of, is_seek_fault};
+ghost use Rattle.wt_core.specs.Faults.{is_fault_of};
 
 use crate::kept::{Kept, change};
 use crate::lag::catch_up;
-use crate::refusal::{open_after, open_met};
 use crate::shading::shaded;
 use crate::shard::Shard;
 use crate::shard_ledger::ShardLedger;
 use crate::shares::Shares;
 use std::sync::ledger::Ledger;
-use wt_core::{Call, Foreseen, Notices, Reply, Weighs, steps_keep_counts, steps_tell_few};
+use wt_core::{Call, Notices, Reply, Weighs, steps_keep_counts, steps_tell_few};
 use wt_keys::{Answers, CacheKey, Fault, NoMemory, Share};
 
 impl<K: CacheKey, V: Share + Weighs + Answers<K>, S: ShardLedger, H: Ledger> Shard<K, V, S, H> {
@@ -25,21 +23,6 @@ impl<K: CacheKey, V: Share + Weighs + Answers<K>, S: ShardLedger, H: Ledger> Sha
     ghost use Rattle.wt_core.specs.Step.{step, refusal_of};
     ghost use Rattle.wt_shards.specs.Asked.{AnswersAsked, IsAsked};
     ghost use Rattle.wt_shards.specs.Audited.{IsAudited, IsCaughtUp, excess, load_at, load_of, moved, need, places, shard_step, still_open};
-
-    // How many loads are open after a seek that meets this, or why the state refuses it.
-    #[inline]
-    pub(crate) fn open_met(&self, key: K, now: u64, met: &Foreseen) -> Result<usize, Fault>
-        requires { met.now ≡ foreseen_at K.eq key now self.now.core }
-        ensures allowed { IfOk result (λ rows.
-            (refusal_of K.eq K.word V.weight self.now.core (call.Seek key now) ≡ None)
-            × (rows ≡ length
-            (step K.eq K.word V.weight self.now.core (call.Seek key now)).state.flights.rows)) }
-        ensures refusal { IfErr result (λ f.
-            refusal_of K.eq K.word V.weight self.now.core (call.Seek key now) ≡ Some f) }
-        ensures faults { IfErr result (λ f. is_seek_fault f ≡ true) }
-    {
-        open_met(&self.core, self.config.flights, key, now, met)
-    }
 
     // Makes the call's step and records it; the landing is that of the load which the step opens.
     // Inlined, so that what is decided of the call is decided for the one that its caller makes.
@@ -86,7 +69,7 @@ impl<K: CacheKey, V: Share + Weighs + Answers<K>, S: ShardLedger, H: Ledger> Sha
         ensures err { OnErr result (IsCaughtUp K.eq K.word V.weight call self.old self.new
             × (mine.new ≡ mine.old) × (notices.new ≡ notices.old)) }
     {
-        match open_after(&self.core, self.config.bound, self.config.flights, &call) {
+        match self.core.open_after(&call) {
             Ok(rows) => self.make_allowed(mine, call, rows, opened, notices),
             Err(fault) => Err(fault),
         }

@@ -1,14 +1,12 @@
 // One step at one shard, under its lock.
-ghost use Rattle.std.specs.Prelude.{◌≡◌, ◌<◌, ◌≤◌, false, true, IsTrue, IfOk, IfErr, OnOk, OnErr};
+ghost use Rattle.std.specs.Prelude.{◌≤◌, IsTrue, IfOk};
 ghost use Rattle.wt_core.specs.declared.calls.Call.TheVariants as call;
 ghost use Rattle.wt_core.specs.declared.calls.Reply.TheVariants as reply;
+ghost use Rattle.wt_shards.specs.Contract.{IsLockedCall};
 ghost use Rattle.wt_shards.specs.Asked.{LandAnswers, ReplyAnswers};
 ghost use Rattle.wt_shards.specs.Audited.{IsHome};
-ghost use Rattle.wt_shards.specs.Counts.{counted, is_hit};
-ghost use Rattle.wt_shards.specs.Faults.{is_step_fault, is_seek_fault, is_put_fault};
-ghost use Rattle.wt_shards.specs.Outer.{IsSomeStep, IsOfKey};
+ghost use Rattle.wt_shards.specs.Outer.{IsOfKey};
 ghost use Rattle.wt_shards.specs.Sought.{reply_of};
-ghost use Rattle.wt_shards.specs.Told.{HasTold};
 
 use crate::done::Done;
 use crate::shard::Shard;
@@ -38,15 +36,9 @@ pub(crate) fn look_at<
 ) -> Result<Done<Reply<V>>, Fault>
     requires home { IsHome K.word S.ShardLedger.place.shards S.ShardLedger.place.index key }
     requires room { S.ShardLedger.place.config.entries ≤ notices.old.room }
-    ensures moved { IfOk result (λ done. mine.new ≡ counted (is_hit done.reply) mine.old) }
-    ensures later { IfOk result (λ done. mine.old.steps < done.step) }
-    ensures step { IfOk result (λ done. IsSomeStep K.eq K.word V.weight V.answers
-        S.ShardLedger.place (call.Look key now) done.reply done.step
-        notices.old notices.new) }
+    ensures made { IsLockedCall K.eq K.word V.weight V.answers S.ShardLedger.place
+        (call.Look key now) (λ reply. reply) mine.old mine.new notices.old notices.new result }
     ensures answers { IfOk result (λ done. ReplyAnswers V.answers key done.reply) }
-    ensures faults { IfErr result (λ fault. is_step_fault fault ≡ true) }
-    ensures err { OnErr result ((mine.new ≡ mine.old) × (notices.new ≡ notices.old)) }
-    ensures told { HasTold S.ShardLedger.place.config.entries notices.old notices.new }
 {
     let mut shard = shard.lock(rt);
     // For the prover: shows what holds of the shard.
@@ -75,17 +67,10 @@ pub(crate) fn seek_at<
 ) -> Result<Done<Sought<K, V>>, Fault>
     requires home { IsHome K.word S.ShardLedger.place.shards S.ShardLedger.place.index key }
     requires room { S.ShardLedger.place.config.entries ≤ notices.old.room }
-    ensures moved { IfOk result (λ done.
-        mine.new ≡ counted (is_hit (reply_of done.reply)) mine.old) }
-    ensures later { IfOk result (λ done. mine.old.steps < done.step) }
-    ensures step { IfOk result (λ done. IsSomeStep K.eq K.word V.weight V.answers
-        S.ShardLedger.place (call.Seek key now) (reply_of done.reply) done.step
-        notices.old notices.new) }
+    ensures made { IsLockedCall K.eq K.word V.weight V.answers S.ShardLedger.place
+        (call.Seek key now) reply_of mine.old mine.new notices.old notices.new result }
     ensures answers { IfOk result (λ done. ReplyAnswers V.answers key (reply_of done.reply)) }
     ensures asked { IfOk result (λ done. IsOfKey key now done.reply) }
-    ensures faults { IfErr result (λ fault. is_seek_fault fault ≡ true) }
-    ensures err { OnErr result ((mine.new ≡ mine.old) × (notices.new ≡ notices.old)) }
-    ensures told { HasTold S.ShardLedger.place.config.entries notices.old notices.new }
 {
     let mut shard = shard.lock(rt);
     // For the prover: shows what holds of the shard.
@@ -117,14 +102,9 @@ pub(crate) fn land_at<
         lead.now.key }
     requires room { S.ShardLedger.place.config.entries ≤ notices.old.room }
     requires answers { LandAnswers V.answers lead.now.key what }
-    ensures moved { OnOk result (mine.new ≡ counted false mine.old) }
-    ensures later { IfOk result (λ done. mine.old.steps < done.step) }
-    ensures step { IfOk result (λ done. IsSomeStep K.eq K.word V.weight V.answers
-        S.ShardLedger.place (call.Land lead.now.id lead.now.key what now) done.reply done.step
-        notices.old notices.new) }
-    ensures faults { IfErr result (λ fault. is_step_fault fault ≡ true) }
-    ensures err { OnErr result ((mine.new ≡ mine.old) × (notices.new ≡ notices.old)) }
-    ensures told { HasTold S.ShardLedger.place.config.entries notices.old notices.new }
+    ensures made { IsLockedCall K.eq K.word V.weight V.answers S.ShardLedger.place
+        (call.Land lead.now.id lead.now.key what now) (λ reply. reply) mine.old mine.new
+        notices.old notices.new result }
 {
     let mut shard = shard.lock(rt);
     // For the prover: shows what holds of the shard.
@@ -155,14 +135,9 @@ pub(crate) fn put_at<
     requires home { IsHome K.word S.ShardLedger.place.shards S.ShardLedger.place.index key }
     requires room { S.ShardLedger.place.config.entries ≤ notices.old.room }
     requires answers { IsTrue (V.answers value key) }
-    ensures moved { OnOk result (mine.new ≡ counted false mine.old) }
-    ensures later { IfOk result (λ done. mine.old.steps < done.step) }
-    ensures step { IfOk result (λ done. IsSomeStep K.eq K.word V.weight V.answers
-        S.ShardLedger.place (call.Put key value now) reply.Stored done.step
-        notices.old notices.new) }
-    ensures faults { IfErr result (λ fault. is_put_fault fault ≡ true) }
-    ensures err { OnErr result ((mine.new ≡ mine.old) × (notices.new ≡ notices.old)) }
-    ensures told { HasTold S.ShardLedger.place.config.entries notices.old notices.new }
+    ensures made { IsLockedCall K.eq K.word V.weight V.answers S.ShardLedger.place
+        (call.Put key value now) (λ _. reply.Stored) mine.old mine.new notices.old notices.new
+        result }
 {
     let mut shard = shard.lock(rt);
     // For the prover: shows what holds of the shard.
@@ -191,14 +166,8 @@ pub(crate) fn drop_key_at<
 ) -> Result<Done<bool>, Fault>
     requires home { IsHome K.word S.ShardLedger.place.shards S.ShardLedger.place.index key }
     requires room { S.ShardLedger.place.config.entries ≤ notices.old.room }
-    ensures moved { OnOk result (mine.new ≡ counted false mine.old) }
-    ensures later { IfOk result (λ done. mine.old.steps < done.step) }
-    ensures step { IfOk result (λ done. IsSomeStep K.eq K.word V.weight V.answers
-        S.ShardLedger.place (call.DropKey key now) (reply.Dropped done.reply) done.step
-        notices.old notices.new) }
-    ensures faults { IfErr result (λ fault. is_step_fault fault ≡ true) }
-    ensures err { OnErr result ((mine.new ≡ mine.old) × (notices.new ≡ notices.old)) }
-    ensures told { HasTold S.ShardLedger.place.config.entries notices.old notices.new }
+    ensures made { IsLockedCall K.eq K.word V.weight V.answers S.ShardLedger.place
+        (call.DropKey key now) reply.Dropped mine.old mine.new notices.old notices.new result }
 {
     let mut shard = shard.lock(rt);
     // For the prover: shows what holds of the shard.
@@ -227,14 +196,8 @@ pub(crate) fn forget_at<
 ) -> Result<Done<bool>, Fault>
     requires home { IsHome K.word S.ShardLedger.place.shards S.ShardLedger.place.index key }
     requires room { S.ShardLedger.place.config.entries ≤ notices.old.room }
-    ensures moved { OnOk result (mine.new ≡ counted false mine.old) }
-    ensures later { IfOk result (λ done. mine.old.steps < done.step) }
-    ensures step { IfOk result (λ done. IsSomeStep K.eq K.word V.weight V.answers
-        S.ShardLedger.place (call.Forget key now) (reply.Forgot done.reply) done.step
-        notices.old notices.new) }
-    ensures faults { IfErr result (λ fault. is_step_fault fault ≡ true) }
-    ensures err { OnErr result ((mine.new ≡ mine.old) × (notices.new ≡ notices.old)) }
-    ensures told { HasTold S.ShardLedger.place.config.entries notices.old notices.new }
+    ensures made { IsLockedCall K.eq K.word V.weight V.answers S.ShardLedger.place
+        (call.Forget key now) reply.Forgot mine.old mine.new notices.old notices.new result }
 {
     let mut shard = shard.lock(rt);
     // For the prover: shows what holds of the shard.

@@ -1,14 +1,10 @@
 // Look-ups, each at the shard of its key.
-ghost use Rattle.std.specs.Prelude.{◌≡◌, ◌<◌, ◌≤◌, true, IfOk, IfErr, OnErr};
+ghost use Rattle.std.specs.Prelude.{◌≤◌, IfOk};
 ghost use Rattle.wt_core.specs.declared.calls.Call.TheVariants as call;
+ghost use Rattle.wt_shards.specs.Contract.{IsHomeCall};
 ghost use Rattle.wt_shards.specs.Asked.{ReplyAnswers};
-ghost use Rattle.wt_shards.specs.Counts.{is_hit};
-ghost use Rattle.wt_shards.specs.Faults.{is_step_fault, is_seek_fault};
-ghost use Rattle.wt_shards.specs.Outer.{IsSomeStep, IsOfKey};
-ghost use Rattle.wt_shards.specs.Passes.{with_step, steps_at};
-ghost use Rattle.wt_shards.specs.Place.{home_of, place_of};
+ghost use Rattle.wt_shards.specs.Outer.{IsOfKey};
 ghost use Rattle.wt_shards.specs.Sought.{reply_of};
-ghost use Rattle.wt_shards.specs.Told.{HasTold};
 
 use crate::at_home::at_home;
 use crate::books::Books;
@@ -40,19 +36,9 @@ impl<K: CacheKey, V: Share + Weighs + Answers<K> + Send + Sync, B: Books> Shards
     ) -> Result<Done<Reply<V>>, Fault>
         requires room { self.now.config.entries ≤ notices.old.room }
 
-        ensures moved { IfOk result (λ done. pass.new
-            ≡ with_step (home_of K.word key self.now) (is_hit done.reply) pass.old) }
-        ensures later { IfOk result (λ done.
-            steps_at (home_of K.word key self.now) pass.old < done.step) }
-        ensures step { IfOk result (λ done. IsSomeStep K.eq K.word V.weight V.answers
-            (place_of (home_of K.word key self.now) self.now)
-            (call.Look key now) done.reply done.step notices.old notices.new) }
+        ensures made { IsHomeCall K.eq K.word V.weight V.answers self.now key (call.Look key now)
+            (λ reply. reply) pass.old pass.new notices.old notices.new result }
         ensures answers { IfOk result (λ done. ReplyAnswers V.answers key done.reply) }
-
-        ensures faults { IfErr result (λ fault. is_step_fault fault ≡ true) }
-        ensures err { OnErr result ((pass.new ≡ pass.old) × (notices.new ≡ notices.old)) }
-        // Whatever is answered.
-        ensures told { HasTold self.now.config.entries notices.old notices.new }
     {
         let home = shard_of(key.word(), self.shards);
         at_home!(
@@ -81,20 +67,10 @@ impl<K: CacheKey, V: Share + Weighs + Answers<K> + Send + Sync, B: Books> Shards
     ) -> Result<Done<Sought<K, V>>, Fault>
         requires room { self.now.config.entries ≤ notices.old.room }
 
-        ensures moved { IfOk result (λ done. pass.new
-            ≡ with_step (home_of K.word key self.now) (is_hit (reply_of done.reply)) pass.old) }
-        ensures later { IfOk result (λ done.
-            steps_at (home_of K.word key self.now) pass.old < done.step) }
-        ensures step { IfOk result (λ done. IsSomeStep K.eq K.word V.weight V.answers
-            (place_of (home_of K.word key self.now) self.now)
-            (call.Seek key now) (reply_of done.reply) done.step notices.old notices.new) }
+        ensures made { IsHomeCall K.eq K.word V.weight V.answers self.now key (call.Seek key now)
+            reply_of pass.old pass.new notices.old notices.new result }
         ensures answers { IfOk result (λ done. ReplyAnswers V.answers key (reply_of done.reply)) }
         ensures asked { IfOk result (λ done. IsOfKey key now done.reply) }
-
-        ensures faults { IfErr result (λ fault. is_seek_fault fault ≡ true) }
-        ensures err { OnErr result ((pass.new ≡ pass.old) × (notices.new ≡ notices.old)) }
-        // Whatever is answered.
-        ensures told { HasTold self.now.config.entries notices.old notices.new }
     {
         let home = shard_of(key.word(), self.shards);
         at_home!(

@@ -23,25 +23,13 @@ fn stats_at<
     ensures looked { result.hits + result.misses ≡ result.lookups }
 {
     let Some(shard) = shard else {
-        return NOTHING;
+        return Stats::NOTHING;
     };
     let shard = shard.lock(rt);
     // For the prover: shows what holds of the shard.
     let _steps = shard.steps();
     shard.stats()
 }
-
-// The numbers where there is no shard.
-const NOTHING: Stats = Stats {
-    lookups: 0,
-    hits: 0,
-    misses: 0,
-    loads: 0,
-    failed: 0,
-    evicted: 0,
-    entries: 0,
-    weight: 0,
-};
 
 impl<K: CacheKey, V: Share + Weighs + Answers<K> + Send + Sync, B: Books> Shards<K, V, B> {
     /// Returns how many entries one shard may hold. Takes no lock. O(1).
@@ -69,15 +57,6 @@ impl<K: CacheKey, V: Share + Weighs + Answers<K> + Send + Sync, B: Books> Shards
         let one = stats_at(rt, &self.one);
         let two = stats_at(rt, &self.two);
         let three = stats_at(rt, &self.three);
-        Stats {
-            lookups: zero.lookups + one.lookups + two.lookups + three.lookups,
-            hits: zero.hits + one.hits + two.hits + three.hits,
-            misses: zero.misses + one.misses + two.misses + three.misses,
-            loads: zero.loads + one.loads + two.loads + three.loads,
-            failed: zero.failed + one.failed + two.failed + three.failed,
-            evicted: zero.evicted + one.evicted + two.evicted + three.evicted,
-            entries: zero.entries + one.entries + two.entries + three.entries,
-            weight: zero.weight + one.weight + two.weight + three.weight,
-        }
+        zero.plus(&one).plus(&two).plus(&three)
     }
 }

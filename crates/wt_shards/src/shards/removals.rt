@@ -1,12 +1,8 @@
 // Removals of entries, and of loads from what further callers join, each at the shard of its key.
-ghost use Rattle.std.specs.Prelude.{◌≡◌, ◌<◌, ◌≤◌, false, true, IfOk, IfErr, OnOk, OnErr};
+ghost use Rattle.std.specs.Prelude.{◌≤◌};
 ghost use Rattle.wt_core.specs.declared.calls.Call.TheVariants as call;
 ghost use Rattle.wt_core.specs.declared.calls.Reply.TheVariants as reply;
-ghost use Rattle.wt_shards.specs.Faults.{is_step_fault};
-ghost use Rattle.wt_shards.specs.Outer.{IsSomeStep};
-ghost use Rattle.wt_shards.specs.Passes.{with_step, steps_at};
-ghost use Rattle.wt_shards.specs.Place.{home_of, place_of};
-ghost use Rattle.wt_shards.specs.Told.{HasTold};
+ghost use Rattle.wt_shards.specs.Contract.{IsHomeCall};
 
 use crate::at_home::at_home;
 use crate::books::Books;
@@ -35,18 +31,8 @@ impl<K: CacheKey, V: Share + Weighs + Answers<K> + Send + Sync, B: Books> Shards
     ) -> Result<Done<bool>, Fault>
         requires room { self.now.config.entries ≤ notices.old.room }
 
-        ensures moved { OnOk result (pass.new
-            ≡ with_step (home_of K.word key self.now) false pass.old) }
-        ensures later { IfOk result (λ done.
-            steps_at (home_of K.word key self.now) pass.old < done.step) }
-        ensures step { IfOk result (λ done. IsSomeStep K.eq K.word V.weight V.answers
-            (place_of (home_of K.word key self.now) self.now)
-            (call.DropKey key now) (reply.Dropped done.reply) done.step notices.old notices.new) }
-
-        ensures faults { IfErr result (λ fault. is_step_fault fault ≡ true) }
-        ensures err { OnErr result ((pass.new ≡ pass.old) × (notices.new ≡ notices.old)) }
-        // Whatever is answered.
-        ensures told { HasTold self.now.config.entries notices.old notices.new }
+        ensures made { IsHomeCall K.eq K.word V.weight V.answers self.now key (call.DropKey key now)
+            reply.Dropped pass.old pass.new notices.old notices.new result }
     {
         let home = shard_of(key.word(), self.shards);
         at_home!(
@@ -73,18 +59,8 @@ impl<K: CacheKey, V: Share + Weighs + Answers<K> + Send + Sync, B: Books> Shards
     ) -> Result<Done<bool>, Fault>
         requires room { self.now.config.entries ≤ notices.old.room }
 
-        ensures moved { OnOk result (pass.new
-            ≡ with_step (home_of K.word key self.now) false pass.old) }
-        ensures later { IfOk result (λ done.
-            steps_at (home_of K.word key self.now) pass.old < done.step) }
-        ensures step { IfOk result (λ done. IsSomeStep K.eq K.word V.weight V.answers
-            (place_of (home_of K.word key self.now) self.now)
-            (call.Forget key now) (reply.Forgot done.reply) done.step notices.old notices.new) }
-
-        ensures faults { IfErr result (λ fault. is_step_fault fault ≡ true) }
-        ensures err { OnErr result ((pass.new ≡ pass.old) × (notices.new ≡ notices.old)) }
-        // Whatever is answered.
-        ensures told { HasTold self.now.config.entries notices.old notices.new }
+        ensures made { IsHomeCall K.eq K.word V.weight V.answers self.now key (call.Forget key now)
+            reply.Forgot pass.old pass.new notices.old notices.new result }
     {
         let home = shard_of(key.word(), self.shards);
         at_home!(

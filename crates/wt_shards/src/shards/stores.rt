@@ -1,13 +1,9 @@
 // Stores, by a caller and by the landing of a load, each at the shard of its key.
-ghost use Rattle.std.specs.Prelude.{◌≡◌, ◌<◌, ◌≤◌, false, true, IsTrue, IfOk, IfErr, OnOk, OnErr};
+ghost use Rattle.std.specs.Prelude.{◌≤◌, IsTrue};
 ghost use Rattle.wt_core.specs.declared.calls.Call.TheVariants as call;
 ghost use Rattle.wt_core.specs.declared.calls.Reply.TheVariants as reply;
+ghost use Rattle.wt_shards.specs.Contract.{IsHomeCall};
 ghost use Rattle.wt_shards.specs.Asked.{LandAnswers};
-ghost use Rattle.wt_shards.specs.Faults.{is_step_fault, is_put_fault};
-ghost use Rattle.wt_shards.specs.Outer.{IsSomeStep};
-ghost use Rattle.wt_shards.specs.Passes.{with_step, steps_at};
-ghost use Rattle.wt_shards.specs.Place.{home_of, place_of};
-ghost use Rattle.wt_shards.specs.Told.{HasTold};
 
 use crate::at_home::at_home;
 use crate::books::Books;
@@ -40,18 +36,9 @@ impl<K: CacheKey, V: Share + Weighs + Answers<K> + Send + Sync, B: Books> Shards
         requires answers { IsTrue (V.answers value key) }
         requires room { self.now.config.entries ≤ notices.old.room }
 
-        ensures moved { OnOk result (pass.new
-            ≡ with_step (home_of K.word key self.now) false pass.old) }
-        ensures later { IfOk result (λ done.
-            steps_at (home_of K.word key self.now) pass.old < done.step) }
-        ensures step { IfOk result (λ done. IsSomeStep K.eq K.word V.weight V.answers
-            (place_of (home_of K.word key self.now) self.now)
-            (call.Put key value now) reply.Stored done.step notices.old notices.new) }
-
-        ensures faults { IfErr result (λ fault. is_put_fault fault ≡ true) }
-        ensures err { OnErr result ((pass.new ≡ pass.old) × (notices.new ≡ notices.old)) }
-        // Whatever is answered.
-        ensures told { HasTold self.now.config.entries notices.old notices.new }
+        ensures made { IsHomeCall K.eq K.word V.weight V.answers self.now key
+            (call.Put key value now) (λ _. reply.Stored) pass.old pass.new notices.old notices.new
+            result }
     {
         let home = shard_of(key.word(), self.shards);
         at_home!(
@@ -82,19 +69,9 @@ impl<K: CacheKey, V: Share + Weighs + Answers<K> + Send + Sync, B: Books> Shards
         requires answers { LandAnswers V.answers lead.now.key what }
         requires room { self.now.config.entries ≤ notices.old.room }
 
-        ensures moved { OnOk result (pass.new
-            ≡ with_step (home_of K.word lead.now.key self.now) false pass.old) }
-        ensures later { IfOk result (λ done.
-            steps_at (home_of K.word lead.now.key self.now) pass.old < done.step) }
-        ensures step { IfOk result (λ done. IsSomeStep K.eq K.word V.weight V.answers
-            (place_of (home_of K.word lead.now.key self.now) self.now)
-            (call.Land lead.now.id lead.now.key what now) done.reply done.step
-            notices.old notices.new) }
-
-        ensures faults { IfErr result (λ fault. is_step_fault fault ≡ true) }
-        ensures err { OnErr result ((pass.new ≡ pass.old) × (notices.new ≡ notices.old)) }
-        // Whatever is answered.
-        ensures told { HasTold self.now.config.entries notices.old notices.new }
+        ensures made { IsHomeCall K.eq K.word V.weight V.answers self.now lead.now.key
+            (call.Land lead.now.id lead.now.key what now) (λ reply. reply) pass.old pass.new
+            notices.old notices.new result }
     {
         let home = shard_of(lead.key().word(), self.shards);
         at_home!(

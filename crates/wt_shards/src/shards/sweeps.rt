@@ -1,13 +1,13 @@
 // Steps at every shard, one after the other.
-ghost use Rattle.std.specs.Prelude.{◌≡◌, ◌+◌, ◌*◌, ◌<◌, ◌≤◌, ℕ, false, true, IfErr, OnOk, OnErr};
+ghost use Rattle.std.specs.Prelude.{◌≡◌, ◌+◌, ◌*◌, ◌<◌, ◌≤◌, false, true, IfErr, OnOk, OnErr};
 ghost use Rattle.wt_core.specs.declared.calls.Call.TheVariants as call;
-ghost use Rattle.wt_core.specs.declared.calls.Reply.TheVariants as reply;
+ghost use Rattle.wt_shards.specs.Contract.{IsSweepCall};
 ghost use Rattle.wt_shards.specs.Counts.{counted};
 ghost use Rattle.wt_shards.specs.Place.{place_of};
-ghost use Rattle.wt_shards.specs.Passes.{with_step, with_steps};
-ghost use Rattle.wt_shards.specs.Faults.{is_step_fault};
+ghost use Rattle.wt_shards.specs.Passes.{with_step};
+ghost use Rattle.wt_core.specs.Faults.{is_step_fault};
 ghost use Rattle.wt_shards.specs.Told.{HasTold};
-ghost use Rattle.wt_shards.specs.Sweeps.{IsSwept, AreSwept, call_of};
+ghost use Rattle.wt_shards.specs.Sweeps.{IsSwept, call_of};
 
 use crate::at_home::at_home;
 use crate::books::Books;
@@ -103,15 +103,8 @@ impl<K: CacheKey, V: Share + Weighs + Answers<K> + Send + Sync, B: Books> Shards
         notices: &mut Notices<K, V>,
     ) -> Result<(), Fault>
         requires room { self.now.shards * self.now.config.entries ≤ notices.old.room }
-        ensures moved { OnOk result (pass.new ≡ with_steps self.now.shards pass.old) }
-        ensures steps { OnOk result (AreSwept K.eq K.word V.weight V.answers self.now
-            (call_of sweep now) self.now.shards notices.old notices.new) }
-        ensures err { OnErr result ((made : ℕ) × (made < self.now.shards)
-            × (pass.new ≡ with_steps made pass.old)
-            × AreSwept K.eq K.word V.weight V.answers self.now
-            (call_of sweep now) made notices.old notices.new) }
-        ensures told { HasTold (self.now.shards * self.now.config.entries) notices.old notices.new }
-        ensures faults { IfErr result (λ fault. is_step_fault fault ≡ true) }
+        ensures made { IsSweepCall K.eq K.word V.weight V.answers self.now (call_of sweep now)
+            pass.old pass.new notices.old notices.new result }
     {
         for home in 0..self.shards {
             self.sweep_one(rt, pass, home, sweep, now, notices)?;
@@ -135,16 +128,8 @@ impl<K: CacheKey, V: Share + Weighs + Answers<K> + Send + Sync, B: Books> Shards
     ) -> Result<(), Fault>
         requires room { self.now.shards * self.now.config.entries ≤ notices.old.room }
 
-        ensures moved { OnOk result (pass.new ≡ with_steps self.now.shards pass.old) }
-        ensures steps { OnOk result (AreSwept K.eq K.word V.weight V.answers self.now
-            (call.Clear now) self.now.shards notices.old notices.new) }
-        // It stops at the first fault, and the pass shows at how many shards the step was made.
-        ensures err { OnErr result ((made : ℕ) × (made < self.now.shards)
-            × (pass.new ≡ with_steps made pass.old)
-            × AreSwept K.eq K.word V.weight V.answers self.now
-            (call.Clear now) made notices.old notices.new) }
-        ensures told { HasTold (self.now.shards * self.now.config.entries) notices.old notices.new }
-        ensures faults { IfErr result (λ fault. is_step_fault fault ≡ true) }
+        ensures made { IsSweepCall K.eq K.word V.weight V.answers self.now (call.Clear now) pass.old
+            pass.new notices.old notices.new result }
     {
         self.sweep(rt, pass, Sweep::Clear, now, notices)
     }
@@ -163,16 +148,8 @@ impl<K: CacheKey, V: Share + Weighs + Answers<K> + Send + Sync, B: Books> Shards
     ) -> Result<(), Fault>
         requires room { self.now.shards * self.now.config.entries ≤ notices.old.room }
 
-        ensures moved { OnOk result (pass.new ≡ with_steps self.now.shards pass.old) }
-        ensures steps { OnOk result (AreSwept K.eq K.word V.weight V.answers self.now
-            (call.Clean now) self.now.shards notices.old notices.new) }
-        // It stops at the first fault, and the pass shows at how many shards the step was made.
-        ensures err { OnErr result ((made : ℕ) × (made < self.now.shards)
-            × (pass.new ≡ with_steps made pass.old)
-            × AreSwept K.eq K.word V.weight V.answers self.now
-            (call.Clean now) made notices.old notices.new) }
-        ensures told { HasTold (self.now.shards * self.now.config.entries) notices.old notices.new }
-        ensures faults { IfErr result (λ fault. is_step_fault fault ≡ true) }
+        ensures made { IsSweepCall K.eq K.word V.weight V.answers self.now (call.Clean now) pass.old
+            pass.new notices.old notices.new result }
     {
         self.sweep(rt, pass, Sweep::Clean, now, notices)
     }

@@ -8,7 +8,8 @@ pub returns-in-Ok-settled-clause-asked : goal.returns-in-Ok-settled-clause-asked
 returns-in-Ok-settled-clause-asked g c =
     let word = g.K.CacheKey.word in
     let answers = g.G.Gate.answers c.args.gate.now in
-    let done : AreDone word c.in-Ok.cache answers c.args.first c.args.lines.now c.args.threads c.in-Ok-Ok.ran.items = search rules in
+    let deal = c.args.deal.now in
+    let done : AreDone word c.in-Ok.cache answers deal.first deal.lines.now deal.threads c.in-Ok-Ok.ran.items = search rules in
     let none : IsNone c.stop_of.result = subst IsNone (sym (not_there c.stop_of.result c.in_default-stop_of.not-Some)) refl in
-    let ok : (t : ℕ) → t < c.args.threads → IsOk (get_or c.in-Ok-Ok.ran.items t unmade) = λ t within. c.stop_of.ensures.none none t (search rules) in
-    done_asked word c.in-Ok.cache answers c.args.first c.args.lines.now c.args.threads c.in-Ok-Ok.ran.items c.requires.first.0 c.requires.threads.0 done ok
+    let ok : (t : ℕ) → t < deal.threads → IsOk (get_or c.in-Ok-Ok.ran.items t unmade) = λ t within. c.stop_of.ensures.none none t (search rules) in
+    done_asked word c.in-Ok.cache answers deal.first deal.lines.now deal.threads c.in-Ok-Ok.ran.items deal.ready.some_line deal.ready.some done ok

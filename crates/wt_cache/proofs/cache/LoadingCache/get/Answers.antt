@@ -6,24 +6,24 @@ use Rattle.wt_cache.proofs.Seeks.{sought_alone}
 use Rattle.wt_cache.proofs.cache.LoadingCache.get.Goals as goal
 
 pub returns-in_err-value-in-Join-clause-err : goal.returns-in_err-value-in-Join-clause-err
-returns-in_err-value-in-Join-clause-err g c = on_err _ _ (tried_sought _ _ _ (let h = c.in_ok-done.ensures.moved in let v = c.self.view_is in search (rules, h, v)))
+returns-in_err-value-in-Join-clause-err g c = on_err _ _ (tried_sought _ _ _ (let h = c.in_ok-done.ensures.made.moved in let v = c.self.view_is in search (rules, h, v)))
 
 pub returns-in_err-hand_on-in-Lead-clause-told : goal.returns-in_err-hand_on-in-Lead-clause-told
-returns-in_err-hand_on-in-Lead-clause-told g c = told_both _ _ _ _ _ _ c.in_ok-done.ensures.told c.hand_on-in-Lead.ensures.told (omega (arith, ap (λ (s : Cached). s.layout.config.entries) c.self.view_is))
+returns-in_err-hand_on-in-Lead-clause-told g c = told_both _ _ _ _ _ _ c.in_ok-done.ensures.made.told c.hand_on-in-Lead.ensures.told (omega (arith, ap (λ (s : Cached). s.layout.config.entries) c.self.view_is))
 
 pub returns-in_err-value-in-Lead-clause-told : goal.returns-in_err-value-in-Lead-clause-told
-returns-in_err-value-in-Lead-clause-told g c = told_both _ _ _ _ _ _ c.in_ok-done.ensures.told c.hand_on-in-Lead.ensures.told (omega (arith, ap (λ (s : Cached). s.layout.config.entries) c.self.view_is))
+returns-in_err-value-in-Lead-clause-told g c = told_both _ _ _ _ _ _ c.in_ok-done.ensures.made.told c.hand_on-in-Lead.ensures.told (omega (arith, ap (λ (s : Cached). s.layout.config.entries) c.self.view_is))
 
 pub returns-in-HitLead-clause-told : goal.returns-in-HitLead-clause-told
-returns-in-HitLead-clause-told g c = told_both _ _ _ _ _ _ c.in_ok-done.ensures.told c.hand_on.ensures.told (omega (arith, ap (λ (s : Cached). s.layout.config.entries) c.self.view_is))
+returns-in-HitLead-clause-told g c = told_both _ _ _ _ _ _ c.in_ok-done.ensures.made.told c.hand_on.ensures.told (omega (arith, ap (λ (s : Cached). s.layout.config.entries) c.self.view_is))
 
 pub returns-in_ok-value-in-Lead-clause-told : goal.returns-in_ok-value-in-Lead-clause-told
-returns-in_ok-value-in-Lead-clause-told g c = told_both _ _ _ _ _ _ c.in_ok-done.ensures.told c.hand_on-in-Lead.ensures.told (omega (arith, ap (λ (s : Cached). s.layout.config.entries) c.self.view_is))
+returns-in_ok-value-in-Lead-clause-told g c = told_both _ _ _ _ _ _ c.in_ok-done.ensures.made.told c.hand_on-in-Lead.ensures.told (omega (arith, ap (λ (s : Cached). s.layout.config.entries) c.self.view_is))
 
 pub returns-in-Hit-clause-sought : goal.returns-in-Hit-clause-sought
 returns-in-Hit-clause-sought g c =
-    sought_alone _ _ _ _ _ _ _ _ _ _ _ _ _ _ (ap (λ (s : Cached). s.layout) c.self.view_is) c.in_ok-done.ensures.step (let i = c.in-Hit.is in let v = c.in-Hit.value-is in search (rules, i, v))
+    sought_alone _ _ _ _ _ _ _ _ _ _ _ _ _ _ (ap (λ (s : Cached). s.layout) c.self.view_is) c.in_ok-done.ensures.made.step (let i = c.in-Hit.is in let v = c.in-Hit.value-is in search (rules, i, v))
 
 pub returns-in_ok-value-in-Join-clause-sought : goal.returns-in_ok-value-in-Join-clause-sought
 returns-in_ok-value-in-Join-clause-sought g c =
-    sought_alone _ _ _ _ _ _ _ _ _ _ _ _ _ _ (ap (λ (s : Cached). s.layout) c.self.view_is) c.in_ok-done.ensures.step (let i = c.in-Join.is in (c.in-Join.ticket.id, search (rules, i)))
+    sought_alone _ _ _ _ _ _ _ _ _ _ _ _ _ _ (ap (λ (s : Cached). s.layout) c.self.view_is) c.in_ok-done.ensures.made.step (let i = c.in-Join.is in (c.in-Join.ticket.id, search (rules, i)))

@@ -22,7 +22,7 @@ invariant_of-self-in-Hit g c =
     let call : Call g.row.K.Denot g.row.V.Denot = Look c.args.key c.args.now in
     let is = hit-state g.K.PartialEq.eq g.K.CacheKey.word g.V.Weighs.weight s c.args.key c.args.now c.max-now.result c.max-now.ensures c.in-Hit.value c.get.new.self c.count_key.new.sketch
     (sym c.in_ok-missed.ensures.found ∙ c.in-Hit.is) c.in_ok-missed.ensures.state c.count_key.ensures in (
-      counted-after g.K.PartialEq.eq g.K.CacheKey.word g.V.Weighs.weight s call c.self.invariant.0 (unspent-is s c.if-self-ge-MOST_STEPS.false) _ is,
+      counted-after g.K.PartialEq.eq g.K.CacheKey.word g.V.Weighs.weight s call c.self.invariant.0 (unspent-is s c.in_ok-unspent.ensures.ok) _ is,
       c.self.invariant.1 ∙ ap (λ (x : Caps). x.bound) (sym c.in_ok-missed.ensures.same),
       c.self.invariant.2,
     )
@@ -44,7 +44,7 @@ invariant_of-self-in_default g c =
     let is = miss-state g.K.PartialEq.eq g.K.CacheKey.word g.V.Weighs.weight s c.args.key c.args.now c.max-now.result c.max-now.ensures c.in_ok-missed.missed c.expire_missed.new.regions c.count_key-in_default.new.sketch c.evicted_since.result
     c.in_ok-missed.ensures.found miss expire c.count_key-in_default.ensures evicted in
     let call : Call g.row.K.Denot g.row.V.Denot = Look c.args.key c.args.now in
-    let taken = unspent-is s c.if-self-ge-MOST_STEPS.false in (
+    let taken = unspent-is s c.in_ok-unspent.ensures.ok in (
       counted-after g.K.PartialEq.eq g.K.CacheKey.word g.V.Weighs.weight s call c.self.invariant.0 taken _ is,
       bound-after g.K.PartialEq.eq g.K.CacheKey.word g.V.Weighs.weight s call c.self.invariant.0 taken _ is i.bound c.self.invariant.1,
       c.self.invariant.2,
@@ -67,7 +67,7 @@ returns-in_default g c =
     let is = miss-state g.K.PartialEq.eq g.K.CacheKey.word g.V.Weighs.weight s c.args.key c.args.now c.max-now.result c.max-now.ensures c.in_ok-missed.missed c.expire_missed.new.regions c.count_key-in_default.new.sketch c.evicted_since.result
     c.in_ok-missed.ensures.found miss expire c.count_key-in_default.ensures evicted in
     let room : i.regions.caps.entries ≤ c.args.notices.now.room = rw (← c.self.view_is) at c.requires.room in
-    let left = unspent-is s c.if-self-ge-MOST_STEPS.false in
+    let left = unspent-is s c.in_ok-unspent.ensures.ok in
     record {
       state = rw (← c.self.view_is) is;
       answer = rw (← c.self.view_is) (sym (miss-reply g.K.PartialEq.eq g.K.CacheKey.word g.V.Weighs.weight s c.args.key c.args.now c.max-now.result c.max-now.ensures c.in_ok-missed.missed c.in_ok-missed.ensures.found miss));

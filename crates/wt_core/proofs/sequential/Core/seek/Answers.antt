@@ -26,7 +26,7 @@ invariant_of-self-then-refreshes g c =
     let call : Call g.row.K.Denot g.row.V.Denot = Seek c.args.key c.args.now in
     let opens = sym c.refreshes.ensures ∙ c.if-refreshes.true in
     let is = lead-state g.K.PartialEq.eq c.args.key g.K.CacheKey.word g.V.Weighs.weight s c.args.now c.max-now.result c.max-now.ensures c.in_ok-value.value c.in_ok-value.ensures.found opens c.open_beside.new.regions c.count_key.new.sketch c.open_beside.new.flights c.in_ok-value.ensures.regions c.count_key.ensures c.in_ok-value.ensures.flights in (
-      counted-after g.K.PartialEq.eq g.K.CacheKey.word g.V.Weighs.weight s call c.self.invariant.0 (lead-taken g.K.PartialEq.eq c.args.key g.K.CacheKey.word g.V.Weighs.weight s c.args.now c.max-now.result c.max-now.ensures c.in_ok-value.value c.in_ok-value.ensures.found opens c.if-self-ge-MOST_STEPS.false) _ is,
+      counted-after g.K.PartialEq.eq g.K.CacheKey.word g.V.Weighs.weight s call c.self.invariant.0 (lead-taken g.K.PartialEq.eq c.args.key g.K.CacheKey.word g.V.Weighs.weight s c.args.now c.max-now.result c.max-now.ensures c.in_ok-value.value c.in_ok-value.ensures.found opens c.in_ok-unspent.ensures.ok) _ is,
       c.self.invariant.1 ∙ ap (λ (x : Caps). x.bound) (sym c.in_ok-value.ensures.same),
       rw c.in_ok-value.ensures.flights c.self.invariant.2,
     )
@@ -39,7 +39,7 @@ invariant_of-self-in-Hit g c =
     let closed = sym c.refreshes.ensures ∙ c.if-refreshes.false in
     let at = sym c.in_ok-missed.ensures.found ∙ c.in-Hit.is in
     let is = hit-state g.K.PartialEq.eq c.args.key g.K.CacheKey.word g.V.Weighs.weight s c.args.now c.max-now.result c.max-now.ensures c.in-Hit.value at closed c.get.new.self c.count_key-in-Hit.new.sketch c.in_ok-missed.ensures.state c.count_key-in-Hit.ensures in (
-      counted-after g.K.PartialEq.eq g.K.CacheKey.word g.V.Weighs.weight s call c.self.invariant.0 (hit-taken g.K.PartialEq.eq c.args.key g.K.CacheKey.word g.V.Weighs.weight s c.args.now c.max-now.result c.max-now.ensures c.in-Hit.value at closed c.if-self-ge-MOST_STEPS.false) _ is,
+      counted-after g.K.PartialEq.eq g.K.CacheKey.word g.V.Weighs.weight s call c.self.invariant.0 (hit-taken g.K.PartialEq.eq c.args.key g.K.CacheKey.word g.V.Weighs.weight s c.args.now c.max-now.result c.max-now.ensures c.in-Hit.value at closed c.in_ok-unspent.ensures.ok) _ is,
       c.self.invariant.1 ∙ ap (λ (x : Caps). x.bound) (sym c.in_ok-missed.ensures.same),
       c.self.invariant.2,
     )
@@ -67,7 +67,7 @@ invariant_of-self-in_default g c =
     let is = miss-state g.K.PartialEq.eq c.args.key g.K.CacheKey.word g.V.Weighs.weight s c.args.now c.max-now.result c.max-now.ensures c.in_ok-missed.missed c.in_ok-missed.ensures.found miss c.expire_missed.new.regions c.count_key-in_default.new.sketch c.join_or_begin.new.flights c.evicted_since.result
     expire c.count_key-in_default.ensures c.in_ok-reply-in_default.ensures.state evicted in
     let fine : fault_met g.K.PartialEq.eq c.args.key i.flights ≡ None = met-none (fault_met g.K.PartialEq.eq c.args.key i.flights) _ c.in_ok-reply-in_default.reply c.in_ok-reply-in_default.ensures.refusal in
-    let taken = miss-refusal g.K.PartialEq.eq c.args.key g.K.CacheKey.word g.V.Weighs.weight s c.args.now c.max-now.result c.max-now.ensures c.in_ok-missed.missed c.in_ok-missed.ensures.found miss c.if-self-ge-MOST_STEPS.false ∙ fine in (
+    let taken = miss-refusal g.K.PartialEq.eq c.args.key g.K.CacheKey.word g.V.Weighs.weight s c.args.now c.max-now.result c.max-now.ensures c.in_ok-missed.missed c.in_ok-missed.ensures.found miss c.in_ok-unspent.ensures.ok ∙ fine in (
       counted-after g.K.PartialEq.eq g.K.CacheKey.word g.V.Weighs.weight s call c.self.invariant.0 taken _ is,
       bound-after g.K.PartialEq.eq g.K.CacheKey.word g.V.Weighs.weight s call c.self.invariant.0 taken _ is i.bound c.self.invariant.1,
       c.self.invariant.2 ∙ limit-met g.K.PartialEq.eq c.args.key i.flights c.join_or_begin.new.flights c.in_ok-reply-in_default.ensures.state,
@@ -91,7 +91,7 @@ returns-in_ok-reply-in_default g c =
     let is = miss-state g.K.PartialEq.eq c.args.key g.K.CacheKey.word g.V.Weighs.weight s c.args.now c.max-now.result c.max-now.ensures c.in_ok-missed.missed c.in_ok-missed.ensures.found miss c.expire_missed.new.regions c.count_key-in_default.new.sketch c.join_or_begin.new.flights c.evicted_since.result
     expire c.count_key-in_default.ensures c.in_ok-reply-in_default.ensures.state evicted in
     let fine : fault_met g.K.PartialEq.eq c.args.key i.flights ≡ None = met-none (fault_met g.K.PartialEq.eq c.args.key i.flights) _ c.in_ok-reply-in_default.reply c.in_ok-reply-in_default.ensures.refusal in
-    let taken = miss-refusal g.K.PartialEq.eq c.args.key g.K.CacheKey.word g.V.Weighs.weight s c.args.now c.max-now.result c.max-now.ensures c.in_ok-missed.missed c.in_ok-missed.ensures.found miss c.if-self-ge-MOST_STEPS.false ∙ fine in
+    let taken = miss-refusal g.K.PartialEq.eq c.args.key g.K.CacheKey.word g.V.Weighs.weight s c.args.now c.max-now.result c.max-now.ensures c.in_ok-missed.missed c.in_ok-missed.ensures.found miss c.in_ok-unspent.ensures.ok ∙ fine in
     let room : i.regions.caps.entries ≤ c.args.notices.now.room = rw (← c.self.view_is) at c.requires.room in
     record {
       state = rw (← c.self.view_is) is;

@@ -1,0 +1,119 @@
+// What the state refuses, decided in one place for the calls and for whoever asks beforehand.
+ghost use Rattle.std.specs.Prelude.{◌≡◌, ◌<◌, ◌≤◌, ◌^◌, Some, None, IfOk, IfErr, OnOk, length, true};
+ghost use Rattle.wt_keys.specs.declared.fault.Fault.TheVariants as fault;
+ghost use Rattle.wt_core.specs.declared.calls.Call.TheVariants as call;
+ghost use Rattle.wt_core.specs.Faults.{is_fault_of, is_seek_fault};
+
+use crate::calls::{Call, Foreseen};
+use crate::sequential::Core;
+use wt_keys::{CacheKey, Fault, Share};
+use wt_regions::Weighs;
+
+// From this number on no step is made, but the landing of an open load, so that no count can wrap.
+const MAX_STEPS: u64 = 1 << 60;
+
+// `StepsSpent` from the last step on.
+#[inline(always)]
+pub(crate) fn unspent(step: u64) -> Result<(), Fault>
+    ensures ok { OnOk result (step < 2 ^ 60) }
+    ensures refusal { IfErr result (λ f. (f ≡ fault.StepsSpent) × (2 ^ 60 ≤ step)) }
+{
+    if step >= MAX_STEPS {
+        return Err(Fault::StepsSpent);
+    }
+    Ok(())
+}
+
+// `TooHeavy` for a weight above the bound.
+#[inline(always)]
+pub(crate) fn within(weight: u32, bound: u64) -> Result<(), Fault>
+    ensures ok { OnOk result (weight ≤ bound) }
+    ensures refusal { IfErr result (λ f. (f ≡ fault.TooHeavy weight bound) × (bound < weight)) }
+{
+    if weight as u64 > bound {
+        return Err(Fault::TooHeavy { weight, bound });
+    }
+    Ok(())
+}
+
+impl<K: CacheKey, V: Share + Weighs> Core<K, V> {
+    ghost use Rattle.wt_core.specs.Seek.{foreseen_at};
+    ghost use Rattle.wt_core.specs.Step.{refusal_of, spent, step};
+
+    // How many loads are open, if a step is left.
+    #[inline(always)]
+    fn open_unless_spent(&self) -> Result<usize, Fault>
+        ensures allowed { IfOk result (λ rows. (spent self.now ≡ None)
+            × (rows ≡ length self.now.flights.rows)) }
+        ensures refusal { IfErr result (λ f. (f ≡ fault.StepsSpent) × (spent self.now ≡ Some f)) }
+    {
+        unspent(self.step)?;
+        Ok(self.open_flights())
+    }
+
+    /// Returns how many loads are open after a seek that meets `met`, as `foresee` returned it, or
+    /// the fault by which the state refuses that seek: `StepsSpent` before `TooManyFlights`.
+    ///
+    /// Takes no memory. O(1).
+    #[inline]
+    pub fn open_met(&self, key: K, now: u64, met: &Foreseen) -> Result<usize, Fault>
+        requires { met.now ≡ foreseen_at K.eq key now self.now }
+        ensures allowed { IfOk result (λ rows.
+            (refusal_of K.eq K.word V.weight self.now (call.Seek key now) ≡ None)
+            × (rows ≡ length
+            (step K.eq K.word V.weight self.now (call.Seek key now)).state.flights.rows)) }
+        ensures refusal { IfErr result (λ f.
+            refusal_of K.eq K.word V.weight self.now (call.Seek key now) ≡ Some f) }
+        ensures faults { IfErr result (λ f. is_seek_fault f ≡ true) }
+    {
+        // For the prover: shows what holds of the cache, which bounds the open loads.
+        let _stats = self.stats();
+        let open = self.open_unless_spent()?;
+        match met {
+            Foreseen::Lead(_) => {
+                let limit = self.limit;
+                if open >= limit as usize {
+                    Err(Fault::TooManyFlights { limit })
+                } else {
+                    Ok(open + 1)
+                }
+            }
+            Foreseen::HitLead(_) => Ok(open + 1),
+            Foreseen::Join(_) => Ok(open),
+            Foreseen::Hit => Ok(open),
+        }
+    }
+
+    /// Returns how many loads are open after the call's step, or the fault by which the state
+    /// refuses the call. A call that isn't refused so can still be refused memory.
+    ///
+    /// The faults come in the order in which the call has them. Takes no memory. Expected O(1),
+    /// unless an attacker chooses the keys (see `Seeded`).
+    #[inline(always)]
+    pub fn open_after(&self, call: &Call<K, V>) -> Result<usize, Fault>
+        ensures allowed { IfOk result (λ rows.
+            (refusal_of K.eq K.word V.weight self.now call.now ≡ None)
+            × (rows ≡ length (step K.eq K.word V.weight self.now call.now).state.flights.rows)) }
+        ensures refusal { IfErr result (λ f.
+            refusal_of K.eq K.word V.weight self.now call.now ≡ Some f) }
+        ensures faults { IfErr result (λ f. is_fault_of call.now f ≡ true) }
+    {
+        // For the prover: shows what holds of the cache, which bounds the open loads.
+        let _stats = self.stats();
+        match call {
+            Call::Seek(key, now) => {
+                let met = self.foresee(*key, *now);
+                self.open_met(*key, *now, &met)
+            }
+            Call::Land(id, key, _, _) => match self.row_of(*id, *key) {
+                Some(_) => Ok(self.open_flights() - 1),
+                None => self.open_unless_spent(),
+            },
+            Call::Put(_, value, _) => {
+                within(value.weight(), self.bound)?;
+                self.open_unless_spent()
+            }
+            _ => self.open_unless_spent(),
+        }
+    }
+}

@@ -1,0 +1,89 @@
+-- What a call promises that hands on what another one made: one record for each layer.
+use Rattle.std.specs.Prelude.{◌≡◌, ◌+◌, ◌*◌, ◌<◌, ◌≤◌, ℕ, Bool, true, false, List, Result, Err, None, IfOk, IfErr, OnOk, OnErr, IsOkUnless, MatchOption}
+use Rattle.wt_keys.specs.declared.fault.Fault.{Fault}
+use Rattle.wt_keys.specs.declared.fault.Fault.TheVariants.{NoMemory}
+use Rattle.wt_flights.specs.Outcomes.{Leading}
+use Rattle.wt_regions.specs.Notices.{NoticeList, appended}
+use Rattle.wt_core.specs.declared.calls.Call.{Call}
+use Rattle.wt_core.specs.declared.calls.Reply.{Reply}
+use Rattle.wt_core.specs.Faults.{is_fault_of, is_step_fault}
+use Rattle.wt_core.specs.Step.{step, refusal_of}
+use Rattle.wt_shards.specs.Audited.{Audited, IsCaughtUp, shard_step}
+use Rattle.wt_shards.specs.Counts.{Counted, counted, is_hit}
+use Rattle.wt_shards.specs.Outer.{IsSomeStep}
+use Rattle.wt_shards.specs.Passes.{Passed, with_step, with_steps, steps_at}
+use Rattle.wt_shards.specs.Place.{Layout, Place, home_of, place_of}
+use Rattle.wt_shards.specs.Sweeps.{AreSwept}
+use Rattle.wt_shards.specs.Told.{HasTold}
+use Rattle.wt_shards.specs.declared.done.Done.{Done}
+
+-- A call of a shard that its caller owns. `said` makes the cache's reply of what is returned, and `opens` the landings that the call opens.
+pub record IsShardCall {K V R : Type 0} (eq : K → K → Bool) (word : K → ℕ) (weight : V → ℕ) (entries : ℕ) (c : Call K V)
+    (said : R → Reply V) (opens : R → List (Leading K)) (old new : Audited K V) (mine after : Counted) (before list : NoticeList K V)
+    (result : Result R Fault) : Type 0 where
+  -- the shard makes the call's step, and records it
+  pub state : IfOk result (λ r. new ≡ shard_step eq word weight c (opens r) old)
+  -- what is returned is the step's reply
+  pub answer : IfOk result (λ r. said r ≡ (step eq word weight old.core c).reply)
+  -- what left stands behind the notices that were there
+  pub notices : OnOk result (list ≡ appended (step eq word weight old.core c).notices before)
+  -- the caller's shares count the step, and whether it is a hit
+  pub moved : IfOk result (λ r. after ≡ counted (is_hit (said r)) mine)
+  -- the number of this step is above those of all steps that the caller made here
+  pub later : OnOk result ((mine.steps ≤ old.core.step) × (new.core.step ≡ old.core.step + 1))
+  -- a call that succeeds is one that the state doesn't refuse
+  pub allowed : OnOk result (refusal_of eq word weight old.core c ≡ None)
+  -- what the state refuses is refused whatever the memory does, and leaves the whole shard as it is
+  pub refusal : MatchOption (refusal_of eq word weight old.core c) (IsOkUnless result NoMemory) (λ f. (result ≡ Err f) × (new ≡ old))
+  -- no other fault comes than the call's own
+  pub faults : IfErr result (λ f. is_fault_of c f ≡ true)
+  -- whatever is returned: few notices, and no room lost
+  pub told : HasTold entries before list
+  -- a fault leaves the cache, the caller's shares and the notices; some records may have gone over to the lagging copy
+  pub err : OnErr result (IsCaughtUp eq word weight c old new × (after ≡ mine) × (list ≡ before))
+
+-- A call of a shard behind its lock: a step there of some lawful state, and never a word on the state of now.
+pub record IsLockedCall {K V R : Type 0} (eq : K → K → Bool) (word : K → ℕ) (weight : V → ℕ) (answers : V → K → Bool) (p : Place) (c : Call K V)
+    (said : R → Reply V) (mine after : Counted) (before list : NoticeList K V) (result : Result (Done R) Fault) : Type 0 where
+  -- the caller's shares count the step, and whether it is a hit
+  pub moved : IfOk result (λ done. after ≡ counted (is_hit (said done.reply)) mine)
+  -- the number of this step is above those of all steps that the caller made here
+  pub later : IfOk result (λ done. mine.steps < done.step)
+  -- in some lawful state of the shard the call makes this step, with this reply and these notices
+  pub step : IfOk result (λ done. IsSomeStep eq word weight answers p c (said done.reply) done.step before list)
+  -- no other fault comes than the call's own
+  pub faults : IfErr result (λ f. is_fault_of c f ≡ true)
+  -- whatever is returned: few notices, and no room lost
+  pub told : HasTold p.config.entries before list
+  -- a fault leaves the caller's shares and the notices
+  pub err : OnErr result ((after ≡ mine) × (list ≡ before))
+
+-- A call that goes to the shard of a key, with a caller's pass.
+pub record IsHomeCall {K V R : Type 0} (eq : K → K → Bool) (word : K → ℕ) (weight : V → ℕ) (answers : V → K → Bool) (l : Layout) (key : K) (c : Call K V)
+    (said : R → Reply V) (old new : Passed) (before list : NoticeList K V) (result : Result (Done R) Fault) : Type 0 where
+  -- the pass counts the step at that shard, and whether it is a hit
+  pub moved : IfOk result (λ done. new ≡ with_step (home_of word key l) (is_hit (said done.reply)) old)
+  -- the number of this step is above those of all steps that the pass had made there
+  pub later : IfOk result (λ done. steps_at (home_of word key l) old < done.step)
+  -- in some lawful state of that shard the call makes this step, with this reply and these notices
+  pub step : IfOk result (λ done. IsSomeStep eq word weight answers (place_of (home_of word key l) l) c (said done.reply) done.step before list)
+  -- no other fault comes than the call's own
+  pub faults : IfErr result (λ f. is_fault_of c f ≡ true)
+  -- whatever is returned: few notices, and no room lost
+  pub told : HasTold l.config.entries before list
+  -- a fault leaves the pass and the notices
+  pub err : OnErr result ((new ≡ old) × (list ≡ before))
+
+-- A call that goes to every shard in turn, and stops at the first fault.
+pub record IsSweepCall {K V : Type 0} (eq : K → K → Bool) (word : K → ℕ) (weight : V → ℕ) (answers : V → K → Bool) (l : Layout) (c : Call K V)
+    (old new : Passed) (before list : NoticeList K V) (result : Result (Unit {0}) Fault) : Type 0 where
+  -- the pass counts a step at each shard, none of them a hit
+  pub moved : OnOk result (new ≡ with_steps l.shards old)
+  -- in some lawful state of each shard the call makes its step there, with these notices
+  pub steps : OnOk result (AreSwept eq word weight answers l c l.shards before list)
+  -- no other fault comes than a step's
+  pub faults : IfErr result (λ f. is_step_fault f ≡ true)
+  -- whatever is returned: few notices, and no room lost
+  pub told : HasTold (l.shards * l.config.entries) before list
+  -- after a fault the pass shows at how many shards the step was made
+  pub err : OnErr result ((made : ℕ) × (made < l.shards) × (new ≡ with_steps made old) × AreSwept eq word weight answers l c made before list)
