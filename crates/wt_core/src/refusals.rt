@@ -1,4 +1,4 @@
-// What the state refuses, decided in one place for the calls and for whoever asks beforehand.
+// What the state refuses: decided here for the calls, and for a caller that asks beforehand.
 ghost use Rattle.std.specs.Prelude.{◌≡◌, ◌<◌, ◌≤◌, ◌^◌, Some, None, IfOk, IfErr, OnOk, length, true};
 ghost use Rattle.wt_keys.specs.declared.fault.Fault.TheVariants as fault;
 ghost use Rattle.wt_core.specs.declared.calls.Call.TheVariants as call;

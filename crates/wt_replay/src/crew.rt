@@ -37,7 +37,7 @@ fn turns<K: TraceKey, N: Names + Send + Sync, G: Gate, R: Threads + Wait + Sync>
         deal.now.first deal.now.lines.now deal.now.threads ran.items) }
     ensures len { IfOk result (λ ran. vec_len ran ≡ deal.now.threads) }
 {
-    // What a thread's closure captures is taken apart, since a value with a fact of its own can't be.
+    // Taken apart: the prover finds no proof for a thread's closure that captures the deal whole.
     let Deal {
         loader,
         first,
@@ -139,7 +139,7 @@ pub(crate) fn work_all<K: TraceKey, N: Names + Send + Sync, G: Gate, R: Threads 
     ensures len { IfOk result.0 (λ ran. vec_len ran ≡ deal.now.threads) }
 {
     let manned = AtomicBool::new(false);
-    // As above.
+    // Taken apart, as in `turns`.
     let Deal {
         loader,
         first,

@@ -33,8 +33,8 @@ impl TraceLoader {
     }
 }
 
-// A call under a bound that is shared by threads can't be of a function over that bound, so the
-// value is put together here, by the rules' own functions.
+// Loaders are shared by threads, and the prover makes no proof for a generic call in one. So this
+// puts the value together from `fails_by` and `weight_by`, which are not generic.
 impl<K: CacheKey> Loader<K, Version<K>> for TraceLoader {
     fn load(&self, key: &K) -> Result<Version<K>, u32> {
         if fails_by(self.options.fail_mod, key.word()) {
