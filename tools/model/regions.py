@@ -1,0 +1,173 @@
+"""The entries of one cache, over plain lists: which stand where, and which leave."""
+from model.sketch import Sketch
+
+COUNTED = ("lookups", "hits", "misses", "loads", "failed", "evicted")
+REGIONS = ("window", "probation", "protected")
+
+
+class Entry:
+    def __init__(self, key, version, weight, moment):
+        self.key, self.version, self.weight = key, version, weight
+        self.written = self.used = moment
+
+
+class Regions:
+    """Three lists with the most recent entry first, the sketch, and what is told of a step.
+
+    `left` has what left in the step, as the report tells it. `notes` says what was done and by which rule, in order: each is a
+    tuple of a word, the key that it is about, and further numbers, names of regions or keys. No report tells of them.
+    """
+
+    def __init__(self, s):
+        self.s = s
+        self.main = s["entries"] - s["window"]
+        self.protected_most = self.main * 4 // 5
+        self.window, self.probation, self.protected = [], [], []
+        self.sketch = Sketch(s["entries"])
+        self.latest = 0
+        self.counts = dict.fromkeys(COUNTED, 0)
+        self.left, self.notes = [], []
+
+    # What is held.
+
+    def regions(self):
+        return (self.window, self.probation, self.protected)
+
+    def held(self):
+        return self.window + self.probation + self.protected
+
+    def weight(self):
+        return sum(entry.weight for entry in self.held())
+
+    def find(self, key):
+        return next((entry for entry in self.held() if entry.key == key), None)
+
+    def region_of(self, entry):
+        return next(name for name, region in zip(REGIONS, self.regions()) if entry in region)
+
+    def take_out(self, entry):
+        for region in self.regions():
+            if entry in region:
+                region.remove(entry)
+
+    # What is told.
+
+    def note(self, word, key, *more):
+        self.notes.append((word, key) + more)
+
+    def tell(self, entry, cause):
+        self.left.append(" %s:%d:%s" % (entry.key[0], entry.version, cause))
+        self.note("left " + cause, entry.key, entry.version)
+        if cause in ("expired", "size"):
+            self.counts["evicted"] += 1
+
+    # Moments.
+
+    def begin_step(self, moment):
+        if moment < self.latest:
+            self.note("late", None, moment, self.latest)
+        self.latest = max(self.latest, moment)
+
+    def is_past(self, since, duration):
+        return duration is not None and self.latest - since >= duration
+
+    def is_expired(self, entry):
+        return self.is_past(entry.written, self.s["write"]) or self.is_past(entry.used, self.s["access"])
+
+    def expires_at(self, entry):
+        """The moment from which the entry is expired, if nobody uses it; None is never."""
+        ends = [since + self.s[name] for since, name in ((entry.written, "write"), (entry.used, "access")) if self.s[name] is not None]
+        return min(ends, default=None)
+
+    def is_due(self, entry):
+        return self.is_past(entry.written, self.s["refresh"])
+
+    def drop_own_expired(self, key):
+        entry = self.find(key)
+        if entry is not None and self.is_expired(entry):
+            self.note("own expired", key, self.expires_at(entry))
+            self.take_out(entry)
+            self.tell(entry, "expired")
+
+    # The regions.
+
+    def touch(self, entry):
+        if entry in self.probation:
+            self.probation.remove(entry)
+            self.protected.insert(0, entry)
+            self.note("promoted", entry.key)
+            if len(self.protected) > self.protected_most:
+                self.probation.insert(0, self.protected.pop())
+                self.note("demoted", self.probation[0].key, self.protected_most)
+            return
+        for region in (self.window, self.protected):
+            if entry in region:
+                region.remove(entry)
+                region.insert(0, entry)
+                self.note("front", entry.key, self.region_of(entry))
+
+    def wins(self, candidate, victim):
+        return self.sketch.estimate(candidate.key[1]) > self.sketch.estimate(victim.key[1])
+
+    def rule_for(self, candidate, victim):
+        """The first case that fits the candidate."""
+        if self.is_expired(candidate):
+            return "candidate expired"
+        if self.main == 0:
+            return "no main"
+        if len(self.probation) + len(self.protected) < self.main:
+            return "room"
+        if victim is None:
+            return "no victim"
+        if self.is_expired(victim):
+            return "victim expired"
+        return "wins" if self.wins(candidate, victim) else "loses"
+
+    def place_candidate(self, candidate):
+        victim = self.probation[-1] if self.probation else None
+        rule = self.rule_for(candidate, victim)
+        if rule in ("wins", "loses"):
+            self.note(rule, candidate.key, victim.key, *(self.sketch.estimate(entry.key[1]) for entry in (candidate, victim)))
+        else:
+            self.note(rule, candidate.key, *([victim.key] if rule == "victim expired" else []))
+        if rule in ("wins", "victim expired"):
+            self.probation.pop()
+            self.tell(victim, "expired" if rule == "victim expired" else "size")
+        if rule in ("wins", "victim expired", "room"):
+            self.probation.insert(0, candidate)
+        else:
+            self.tell(candidate, "expired" if rule == "candidate expired" else "size")
+
+    def trim_order(self):
+        return (self.probation, self.protected, self.window)
+
+    def trim(self, stored):
+        while self.weight() > self.s["weight"]:
+            region = next((r for r in self.trim_order() if any(e is not stored for e in r)), None)
+            if region is None:
+                break
+            self.note("trimmed", region[-1].key, self.region_of(region[-1]), self.weight(), self.s["weight"])
+            self.tell(region.pop(), "size")
+
+    def store(self, key, version, weight):
+        entry = self.find(key)
+        if entry is not None:
+            self.note("replaces", key, version)
+            self.tell(entry, "replaced")
+            entry.version, entry.weight, entry.written, entry.used = version, weight, self.latest, self.latest
+            self.touch(entry)
+        else:
+            entry = Entry(key, version, weight, self.latest)
+            self.window.insert(0, entry)
+            self.note("enters", key, version)
+            if len(self.window) > self.s["window"]:
+                self.place_candidate(self.window.pop())
+        self.trim(entry)
+
+    # How often a key was counted.
+
+    def count(self, key):
+        before = self.sketch.additions
+        self.sketch.count(key[1])
+        if self.sketch.additions < before:
+            self.note("halved", None, self.sketch.full)
