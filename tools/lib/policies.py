@@ -1,4 +1,4 @@
-"""Caches over the same keys, for tools/hit_curve: how many of the look-ups hit with so many entries."""
+"""Caches over the same keys, for tools/hit_curve: each tells of every look-up whether it hits, with so many entries."""
 import heapq
 from collections import OrderedDict, deque
 
@@ -6,32 +6,31 @@ from model.sketch import Sketch
 from model.trace import word_of_name
 
 
-def lru_hits(keys, entries):
+def lru(keys, entries):
     """The least recently used entry leaves."""
-    held, hits = OrderedDict(), 0
+    held = OrderedDict()
     for key in keys:
-        if key in held:
-            hits += 1
+        hit = key in held
+        if hit:
             held.move_to_end(key)
         else:
             held[key] = None
             if len(held) > entries:
                 held.popitem(last=False)
-    return hits
+        yield hit
 
 
-def fifo_hits(keys, entries):
+def fifo(keys, entries):
     """The oldest entry leaves."""
-    held, order, hits = set(), deque(), 0
+    held, order = set(), deque()
     for key in keys:
-        if key in held:
-            hits += 1
-        else:
+        hit = key in held
+        if not hit:
             held.add(key)
             order.append(key)
             if len(held) > entries:
                 held.discard(order.popleft())
-    return hits
+        yield hit
 
 
 def next_uses(keys):
@@ -43,13 +42,12 @@ def next_uses(keys):
     return nexts
 
 
-def optimum_hits(keys, entries):
+def optimum(keys, entries):
     """Belady's rule: the entry whose next look-up is farthest away leaves. No cache that keeps what it has just loaded does better."""
-    nexts, due, farthest, hits = next_uses(keys), {}, [], 0
+    nexts, due, farthest = next_uses(keys), {}, []
     for at, key in enumerate(keys):
-        if key in due:
-            hits += 1
-        elif len(due) >= entries:
+        hit = key in due
+        if not hit and len(due) >= entries:
             while True:
                 when, other = heapq.heappop(farthest)
                 if due.get(other) == -when:
@@ -57,7 +55,7 @@ def optimum_hits(keys, entries):
                     break
         due[key] = nexts[at]
         heapq.heappush(farthest, (-nexts[at], key))
-    return hits
+        yield hit
 
 
 class Lists:
@@ -101,19 +99,17 @@ class Lists:
         self.probation[candidate] = word
 
 
-def our_hits(keys, entries, window, names=False):
+def ours(keys, entries, window, names=False):
     """A key is counted at each look-up, and one that isn't held is loaded and stored."""
-    lists, hits, words = Lists(entries, window), 0, {}
+    lists, words = Lists(entries, window), {}
     for key in keys:
         if key not in words:
             words[key] = word_of_name(key) if names else int(key)
         hit = lists.touch(key)
         lists.sketch.count(words[key])
-        if hit:
-            hits += 1
-        else:
+        if not hit:
             lists.store(key, words[key])
-    return hits
+        yield hit
 
 
-POLICIES = {"LRU": lru_hits, "FIFO": fifo_hits, "optimum": optimum_hits}
+POLICIES = {"LRU": lru, "FIFO": fifo, "optimum": optimum}
