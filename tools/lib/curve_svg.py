@@ -78,12 +78,16 @@ def width_of(words, size):
     return size * sum(map(of, words))
 
 
-def cut(words, size):
+def printable(words):
+    return "".join(letter if letter.isprintable() else " " for letter in words)
+
+
+def cut(words, size, room=ROOM):
     """The words, or as many letters of them as there is room for, with dots behind."""
-    words = "".join(letter if letter.isprintable() else " " for letter in words)
-    if width_of(words, size) <= ROOM:
+    words = printable(words)
+    if width_of(words, size) <= room:
         return words
-    while words and width_of(words + "\u2026", size) > ROOM:
+    while words and width_of(words + "\u2026", size) > room:
         words = words[:-1]
     return words.rstrip() + "\u2026"
 
@@ -206,7 +210,7 @@ def draw(title, told, curves, sweep_at, sweep):
     main = Panel(MAIN_LEFT, MAIN_RIGHT, sizes[0], sizes[-1], top / 100)
     side = Panel(SWEEP_LEFT, SWEEP_RIGHT, min(sweep), max(sweep), top / 100)
     gain, name = gain_told(curves), cut(title, BOLD * 19)
-    words = "%s. Hit ratio over entries: %s." % ("".join(c if c.isprintable() else " " for c in title), gain)
+    words = "%s. Hit ratio over entries: %s." % (printable(title), gain)
     parts = [
         '<svg xmlns="http://www.w3.org/2000/svg" viewBox="0 0 %d %d" width="%d" height="%d" role="img" aria-label="%s">' % (WIDTH, HEIGHT, WIDTH, HEIGHT, escape(words, True)),
         "<title>%s</title>" % escape(words),

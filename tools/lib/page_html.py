@@ -4,7 +4,7 @@ import re
 from html import escape
 from pathlib import Path
 
-from page_words import JUMPS, SENTENCES
+from page_words import JUMPS, MARKS, SENTENCES, WORDS
 
 PARTS = Path(__file__).resolve().parent / "page"
 SCRIPTS = ("state.js", "draw.js", "moves.js")
@@ -46,7 +46,7 @@ def limits(s):
 def page(title, s, numbers, summary, compared):
     """The page as a text. `compared` says whether the report is the built program's, and which sentence tells it."""
     same, told = compared
-    whole = dict(numbers, limits=limits(s), words=list(SENTENCES), sentences=list(SENTENCES.values()), jumps=list(JUMPS))
+    whole = dict(numbers, limits=limits(s), words=WORDS, sentences=list(SENTENCES.values()), marks=MARKS)
     parts = {
         "title": escape(title), "settings": escape(settings_told(s)), "compared": escape(told), "compared_kind": "same" if same else "alone",
         "end": "At line {:,}: {}".format(numbers["steps"][-1][0], escape(summary)), "numbers": in_script(whole),

@@ -52,9 +52,19 @@ JUMPS = {
     "duel": {"wins", "ties", "loses", "victim expired"},
     "refused": {"full", "heavy", "no load", "stale", "too heavy to keep"},
 }
-NUMBER_OF = {word: number for number, word in enumerate(SENTENCES)}
+# What stands on a key that a line did something with.
+MARKS = {"enters": "+ new", "replaces": "new value", "front": "used", "promoted": "\u2191 up", "demoted": "\u2193 back",
+         "room": "\u2192 in", "wins": "\u2192 won", "victim expired": "\u2192 in"}
+# What a still picture leaves out, if a line has more to tell: what is seen in it, and of a get its load.
+SEEN = {"miss", "front"}
+OF_A_GET = {"lead", "landed", "enters"}
+
+WORDS = list(SENTENCES)
+NUMBER_OF = {word: number for number, word in enumerate(WORDS)}
 
 
-def sentence(word, told):
-    """A note as a sentence. `told` are the key and the rest, as they are read."""
-    return SENTENCES[word].format(*told)
+def picture_notes(words, letter):
+    """Those notes of a line whose sentences stand in a picture."""
+    told = [word for word in words if not word.startswith("left ")]
+    few = [word for word in told if word not in SEEN and not (letter == "G" and word in OF_A_GET)]
+    return set(few or told)

@@ -4,7 +4,6 @@ const calm = matchMedia("(prefers-reduced-motion: reduce)");
 const REGIONS = ["window", "probation", "protected"];
 // A long region shows so many entries from its front, and so many from its end.
 const FRONT = 72, END = 24;
-const MARKS = { enters: "+ new", replaces: "new value", front: "used", promoted: "\u2191 up", demoted: "\u2193 back", room: "\u2192 in", wins: "\u2192 won", "victim expired": "\u2192 in" };
 const places = new Map();
 let shown = 0, sought = null, drawnAt = -1;
 
@@ -36,7 +35,7 @@ function sentence(note, tag = "li") {
 function marksOf(step) {
   const marks = new Map();
   for (const note of step ? step[NOTES] : []) {
-    const mark = MARKS[word(note)];
+    const mark = numbers.marks[word(note)];
     if (mark && note[1] && !(word(note) === "front" && marks.has(note[1][0]))) marks.set(note[1][0], mark);
   }
   return marks;
