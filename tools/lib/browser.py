@@ -119,9 +119,9 @@ class Browser:
     def type(self, text):
         self.ask("Input.insertText", text=text)
 
-    def colours(self, scheme):
-        """Light or dark, and without motion, so that what is seen stands still."""
-        features = [{"name": "prefers-color-scheme", "value": scheme}, {"name": "prefers-reduced-motion", "value": "reduce"}]
+    def colours(self, scheme, motion="reduce"):
+        """Light or dark, and mostly without motion, so that what is seen stands still."""
+        features = [{"name": "prefers-color-scheme", "value": scheme}, {"name": "prefers-reduced-motion", "value": motion}]
         self.ask("Emulation.setEmulatedMedia", features=features)
 
     def size(self, width, height):

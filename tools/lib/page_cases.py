@@ -40,7 +40,7 @@ def wanted(run, keys):
 
 def keys_between(run, lines):
     """The keys that are held or loaded, and those of the lines."""
-    held = {entry.key for shard in run.shards for entry in shard.held()} | {load.key for shard in run.shards for load in shard.loads}
+    held = {key for shard in run.shards for key in shard.entries} | {load.key for shard in run.shards for load in shard.loads}
     return held | {line[3] for line in lines if line[3]}
 
 

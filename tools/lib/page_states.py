@@ -19,40 +19,36 @@ def exact(number):
 
 
 class Keys:
-    """The keys of a page, each with its number, the shard that it belongs to, and its places in that shard's sketch."""
+    """The keys of a page, each with its number, its counters in the sketch of its shard, and the keys that share one with it."""
 
     def __init__(self, run):
-        self.run, self.numbers, self.names, self.words, self.sketches = run, {}, [], [], []
+        self.run, self.numbers, self.names, self.words, self.counters, self.sharing = run, {}, [], [], [], {}
 
     def number(self, key):
         if key not in self.numbers:
-            self.numbers[key] = len(self.names)
+            number = self.numbers[key] = len(self.names)
             self.names.append(key[0])
             self.words.append(key[1])
             sketch = self.run.shards_at((0, 0, "L", key))[0].sketch
-            self.sketches.append((sketch, sketch.places(key[1])))
+            self.counters.append([(sketch, row, place) for row, place in enumerate(sketch.places(key[1]))])
+            for counter in self.counters[number]:
+                self.sharing.setdefault(counter, []).append(number)
         return self.numbers[key]
 
-    def estimates(self):
-        return [min([row[place] for row, place in zip(sketch.rows, places)]) for sketch, places in self.sketches]
+    def beside(self, number):
+        return {other for counter in self.counters[number] for other in self.sharing[counter]}
+
+    def estimate(self, number):
+        return min([sketch.rows[row][place] for sketch, row, place in self.counters[number]])
 
 
-def rows_of(shard, keys):
-    """The four lists of a shard."""
-    lists = [[[keys.number(entry.key), entry.version, exact(entry.written), exact(entry.used), exact(shard.expires_at(entry))]
-              for entry in region] for region in shard.regions()]
-    return lists + [[[load.number, keys.number(load.key), list(load.lines), int(load.current)] for load in shard.loads]]
-
-
-def changes(number, before, after, moved):
-    """What leaves a list, by its places from the last on, and what comes into it, by its places from the first on. Rows that
-    stay have kept their order, but for those of the moved key."""
-    if before == after:
-        return [], []
-    old, new = ({row[0]: row for row in rows} for rows in (before, after))
-    kept = {name for name, row in old.items() if name != moved and row == new.get(name)}
-    outs = [[number, at] for at, row in reversed(list(enumerate(before))) if row[0] not in kept]
-    return outs, [[number, at, row] for at, row in enumerate(after) if row[0] not in kept]
+def changes(number, before, after):
+    """What leaves a list, by its places from the last on, and what comes into it, by its places from the first on. What stays has
+    kept its order: the entry of the line's key, which alone may move within a list, always has a new row."""
+    gone, new = set(map(id, before)), set(map(id, after))
+    gone, new = gone - new, new - gone
+    outs = [[number, at] for at in reversed(range(len(before))) if id(before[at]) in gone] if gone else []
+    return outs, [[number, at, row] for at, row in enumerate(after) if id(row) in new] if new else []
 
 
 def as_told(part, keys):
@@ -77,39 +73,57 @@ class Recorder:
     """Records these lines of a run: how it was before them, and the step of each."""
 
     def __init__(self, run, lines):
-        self.run, self.keys, self.steps = run, Keys(run), []
-        self.lists = [rows for shard in run.shards for rows in rows_of(shard, self.keys)]
+        self.run, self.keys, self.rows, self.steps = run, Keys(run), {}, []
+        for shard in run.shards:
+            for entry in shard.entries.values():
+                self.renew(shard, entry)
+        self.lists = [[]] * 4 * len(run.shards)
+        self.lists = [rows for number, shard in enumerate(run.shards) for rows in self.rows_of(number, shard)]
         for key in [line[3] for line in lines if line[3]]:
             self.keys.number(key)
         self.latest = [shard.latest for shard in run.shards]
-        self.estimates = self.keys.estimates()
-        self.start = {"lists": list(self.lists), "latest": [exact(n) for n in self.latest], "sums": list(run.sums().values()), "estimates": self.estimates}
+        self.estimates = [self.keys.estimate(number) for number in range(len(self.keys.names))]
+        self.start = {"lists": list(self.lists), "latest": [exact(n) for n in self.latest], "sums": list(run.sums().values()), "estimates": list(self.estimates)}
+
+    def renew(self, shard, entry):
+        self.rows[entry] = [self.keys.number(entry.key), entry.version, exact(entry.written), exact(entry.used), exact(shard.expires_at(entry))]
+
+    def rows_of(self, number, shard):
+        """The four lists of a shard. A row that is as it was is the same one."""
+        before = {row[0]: row for row in self.lists[4 * number + 3]}
+        loads = [[load.number, self.keys.number(load.key), list(load.lines), int(load.current)] for load in shard.loads]
+        return [[self.rows[entry] for entry in region] for region in shard.regions()] + [[row if row != before.get(row[0]) else before[row[0]] for row in loads]]
 
     def do(self, line):
         report = self.run.do(line)
+        number, moment, letter, key = line
         shards = self.run.shards_at(line)
-        moved = self.keys.number(line[3]) if line[3] else None
         outs, ins, latest = [], [], []
         for shard in shards:
             at = self.run.shards.index(shard)
-            for number, rows in enumerate(rows_of(shard, self.keys), 4 * at):
-                less, more = changes(number, self.lists[number], rows, moved)
-                outs, ins, self.lists[number] = outs + less, ins + more, rows
+            if key in shard.entries:
+                self.renew(shard, shard.entries[key])
+            for place, rows in enumerate(self.rows_of(at, shard), 4 * at):
+                less, more = changes(place, self.lists[place], rows)
+                outs, ins, self.lists[place] = outs + less, ins + more, rows
             if shard.latest != self.latest[at]:
                 self.latest[at] = shard.latest
                 latest.append([at, exact(shard.latest)])
         notes, jumps = notes_of(shards, self.keys)
-        number, moment, letter, key = line
         text = "%d %s%s" % (moment, letter, " " + key[0] if key else "")
         whose = self.run.shards.index(shards[0]) if key else -1
-        self.steps.append([number, text, report.partition(" ")[2], whose, notes, jumps, outs, ins, latest, list(self.run.sums().values()), self.recount(letter)])
+        self.steps.append([number, text, report.partition(" ")[2], whose, notes, jumps, outs, ins, latest, list(self.run.sums().values()), self.recount(shards, key)])
 
-    def recount(self, letter):
+    def recount(self, shards, key):
         """The keys whose estimate is another one now, with it."""
-        if letter not in "LSGP":
-            return []
-        before, self.estimates = self.estimates, self.keys.estimates()
-        return [[key, now] for key, (now, was) in enumerate(zip(self.estimates, before)) if now != was]
+        if any(note[0] == "halved" for shard in shards for note in shard.notes):
+            counted = range(len(self.estimates))
+        else:
+            counted = sorted(self.keys.beside(self.keys.number(key))) if key else ()
+        changed = [[number, self.keys.estimate(number)] for number in counted if self.keys.estimate(number) != self.estimates[number]]
+        for number, estimate in changed:
+            self.estimates[number] = estimate
+        return changed
 
 
 def record(s, trace, first, last):

@@ -26,7 +26,7 @@ class TrimBeginsAtProtected(Shard):
 
 class TrimStopsAfterOne(Shard):
     def trim(self, stored):
-        over = self.weight() - self.s["weight"]
+        over = self.weight - self.s["weight"]
         regions = [region for region in self.trim_order() if any(entry is not stored for entry in region)]
         if over > 0 and regions:
             self.tell(regions[0].pop(), "size")

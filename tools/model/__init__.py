@@ -40,8 +40,8 @@ class Run:
     def sums(self):
         """The numbers of the summary, as they are now."""
         sums = {name: sum(shard.counts[name] for shard in self.shards) for name in COUNTED}
-        sums["entries"] = sum(len(shard.held()) for shard in self.shards)
-        sums["weight"] = sum(shard.weight() for shard in self.shards)
+        sums["entries"] = sum(len(shard.entries) for shard in self.shards)
+        sums["weight"] = sum(shard.weight for shard in self.shards)
         return sums
 
     def summary(self):

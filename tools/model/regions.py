@@ -12,7 +12,7 @@ class Entry:
 
 
 class Regions:
-    """Three lists with the most recent entry first, the sketch, and what is told of a step.
+    """Three lists with the most recent entry first, the same entries by their keys, the sketch, and what is told of a step.
 
     `left` has what left in the step, as the report tells it. `notes` says what was done and by which rule, in order: each is a
     tuple of a word, the key that it is about, and further numbers, names of regions or keys. No report tells of them.
@@ -23,6 +23,7 @@ class Regions:
         self.main = s["entries"] - s["window"]
         self.protected_most = self.main * 4 // 5
         self.window, self.probation, self.protected = [], [], []
+        self.entries, self.weight = {}, 0
         self.sketch = Sketch(s["entries"])
         self.latest = 0
         self.counts = dict.fromkeys(COUNTED, 0)
@@ -32,15 +33,6 @@ class Regions:
 
     def regions(self):
         return (self.window, self.probation, self.protected)
-
-    def held(self):
-        return self.window + self.probation + self.protected
-
-    def weight(self):
-        return sum(entry.weight for entry in self.held())
-
-    def find(self, key):
-        return next((entry for entry in self.held() if entry.key == key), None)
 
     def region_of(self, entry):
         return next(name for name, region in zip(REGIONS, self.regions()) if entry in region)
@@ -56,7 +48,11 @@ class Regions:
         self.notes.append((word, key) + more)
 
     def tell(self, entry, cause):
+        """An entry has left, or is about to have another value."""
         self.left.append(" %s:%d:%s" % (entry.key[0], entry.version, cause))
+        if cause != "replaced":
+            del self.entries[entry.key]
+            self.weight -= entry.weight
         self.note("left " + cause, entry.key, entry.version)
         if cause in ("expired", "size"):
             self.counts["evicted"] += 1
@@ -83,7 +79,7 @@ class Regions:
         return self.is_past(entry.written, self.s["refresh"])
 
     def drop_own_expired(self, key):
-        entry = self.find(key)
+        entry = self.entries.get(key)
         if entry is not None and self.is_expired(entry):
             self.note("own expired", key, self.expires_at(entry))
             self.take_out(entry)
@@ -142,22 +138,23 @@ class Regions:
         return (self.probation, self.protected, self.window)
 
     def trim(self, stored):
-        while self.weight() > self.s["weight"]:
+        while self.weight > self.s["weight"]:
             region = next((r for r in self.trim_order() if any(e is not stored for e in r)), None)
             if region is None:
                 break
-            self.note("trimmed", region[-1].key, self.region_of(region[-1]), self.weight(), self.s["weight"])
+            self.note("trimmed", region[-1].key, self.region_of(region[-1]), self.weight, self.s["weight"])
             self.tell(region.pop(), "size")
 
     def store(self, key, version, weight):
-        entry = self.find(key)
+        entry = self.entries.get(key)
         if entry is not None:
             self.note("replaces", key, version)
             self.tell(entry, "replaced")
-            entry.version, entry.weight, entry.written, entry.used = version, weight, self.latest, self.latest
+            entry.version, entry.written, entry.used = version, self.latest, self.latest
             self.touch(entry)
         else:
-            entry = Entry(key, version, weight, self.latest)
+            entry = self.entries[key] = Entry(key, version, weight, self.latest)
+            self.weight += weight
             self.window.insert(0, entry)
             self.note("enters", key, version)
             if len(self.window) > self.s["window"]:

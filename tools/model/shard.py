@@ -70,7 +70,7 @@ class Shard(Regions):
         """What a look-up meets, and the load that a seek opened."""
         before = self.latest
         self.begin_step(moment)
-        entry = self.find(key)
+        entry = self.entries.get(key)
         hit = entry is not None and not self.is_expired(entry)
         if seeks and not hit and self.current(key) is None and not self.may_open():
             self.latest, self.notes = before, [("full", key, len(self.loads))]
@@ -144,7 +144,7 @@ class Shard(Regions):
         self.begin_step(moment)
         self.drop_own_expired(key)
         self.forget(key)
-        entry = self.find(key)
+        entry = self.entries.get(key)
         if entry is None:
             self.note("nothing to drop", key)
             return "absent"
@@ -174,7 +174,7 @@ class Shard(Regions):
         self.begin_step(moment)
         for region in self.regions():
             for entry in reversed(list(region)):
-                region.remove(entry)
+                region.pop()
                 self.tell(entry, "expired" if self.is_expired(entry) else "explicit")
         for key in [load.key for load in self.loads if load.current]:
             self.forget(key)

@@ -4,7 +4,9 @@ const calm = matchMedia("(prefers-reduced-motion: reduce)");
 const REGIONS = ["window", "probation", "protected"];
 // A long region shows so many entries from its front, and so many from its end.
 const FRONT = 72, END = 24;
-const places = new Map();
+// Up to so many entries all that shift are seen to move, else those that the line did something with.
+const FEW = 40;
+const places = new Map(), fillers = new Map();
 let shown = 0, sought = null, drawnAt = -1;
 
 function make(tag, kind, text) {
@@ -51,6 +53,10 @@ function placeOf(row, marks, latest) {
     places.set(key, place);
   }
   const place = places.get(key), chip = place.firstChild, old = isPast(end, latest), mark = marks.get(key);
+  const looks = [row, estimate, old, mark, key === sought].join();
+  // A chip that looks as before is left alone, which is most of a step's time.
+  if (place.looks === looks) return place;
+  place.looks = looks;
   chip.children[1].textContent = estimate;
   chip.children[2].style.width = `${(estimate / 15) * 100}%`;
   const told = [`version ${version}`, `estimate ${estimate}`, `stored at ${written}`, `last used at ${used}`];
@@ -63,36 +69,56 @@ function placeOf(row, marks, latest) {
   return place;
 }
 
+// What fills a region beside its keys: free places, and how many keys are left out.
+function filler(name, kind) {
+  const id = `${name} ${kind}`;
+  if (!fillers.has(id)) {
+    fillers.set(id, make("li", kind === "more" ? "more" : "free"));
+    if (kind !== "more") fillers.get(id).setAttribute("aria-hidden", "true");
+  }
+  return fillers.get(id);
+}
+
+// Puts parts into a list, and moves as few as it can.
+function fill(list, parts) {
+  const wanted = new Set(parts);
+  let at = list.firstChild;
+  const drop = () => { while (at && !wanted.has(at)) { const next = at.nextSibling; at.remove(); at = next; } };
+  for (const part of parts) {
+    drop();
+    if (part === at) at = at.nextSibling; else list.insertBefore(part, at);
+  }
+  drop();
+}
+
 function drawRegion(name, number, most, marks) {
   const rows = state.lists[4 * shown + number], list = document.querySelector(`.${name} ol`);
   const drawn = [], cut = rows.length > FRONT + END + 4;
   const add = (part) => drawn.push(...part.map((row) => placeOf(row, marks, state.latest[shown])));
   add(cut ? rows.slice(0, FRONT) : rows);
   if (cut) {
-    drawn.push(make("li", "more", `\u2026 ${(rows.length - FRONT - END).toLocaleString("en")} more \u2026`));
+    drawn.push(filler(name, "more"));
+    filler(name, "more").textContent = `\u2026 ${(rows.length - FRONT - END).toLocaleString("en")} more \u2026`;
     add(rows.slice(-END));
   }
-  for (let n = rows.length; n < most && most <= 40; n += 1) {
-    drawn.push(make("li", "free"));
-    drawn[drawn.length - 1].setAttribute("aria-hidden", "true");
-  }
-  list.replaceChildren(...drawn);
+  for (let n = rows.length; n < most && most <= 40; n += 1) drawn.push(filler(name, n));
+  fill(list, drawn);
   const main = state.lists[4 * shown + 1].length + state.lists[4 * shown + 2].length;
   document.querySelector(`.${name} h2 span`).textContent = most === null ? `${rows.length} (main: ${main} of ${numbers.limits.main})` : `${rows.length} of ${most}`;
 }
 
 function drawRegions(step) {
-  const before = new Map(), moves = !calm.matches && drawnAt >= 0;
-  if (moves) places.forEach((place, key) => { if (place.isConnected) before.set(key, place.getBoundingClientRect()); });
-  const marks = marksOf(step);
+  const marks = marksOf(step), moves = !calm.matches && drawnAt >= 0;
+  const moving = !moves ? [] : numbers.limits.window + numbers.limits.main <= FEW ? [...places.keys()] : [...marks.keys()];
+  const before = new Map(moving.filter((key) => places.get(key)?.isConnected).map((key) => [key, places.get(key).getBoundingClientRect()]));
   drawRegion("window", 0, numbers.limits.window, marks);
   drawRegion("probation", 1, null, marks);
   drawRegion("protected", 2, numbers.limits.protected, marks);
-  if (moves) places.forEach((place, key) => slide(place, before.get(key)));
+  (moves ? new Set([...moving, ...marks.keys()]) : []).forEach((key) => slide(places.get(key), before.get(key)));
 }
 
 function slide(place, from) {
-  if (!place.isConnected || !place.animate) return;
+  if (!place?.isConnected || !place.animate) return;
   const to = place.getBoundingClientRect();
   if (!from) {
     place.animate([{ opacity: 0, transform: "translateY(-.6rem)" }, {}], { duration: 260, easing: "ease-out" });
