@@ -3,7 +3,7 @@ const $ = (id) => document.getElementById(id);
 const calm = matchMedia("(prefers-reduced-motion: reduce)");
 const REGIONS = ["window", "probation", "protected"];
 // A long region shows so many entries from its front, and so many from its end.
-const FRONT = 72, END = 24;
+const FRONT = 40, END = 16;
 // Up to so many entries all that shift are seen to move, else those that the line did something with.
 const FEW = 40;
 const places = new Map(), fillers = new Map();
@@ -15,6 +15,8 @@ function make(tag, kind, text) {
   if (text !== undefined) made.textContent = text;
   return made;
 }
+
+const inWords = (number) => (number === null ? "" : number.toLocaleString("en"));
 
 function keyButton(key) {
   const button = make("button", "key", numbers.keys[key]);
@@ -65,7 +67,7 @@ function placeOf(row, marks, latest) {
   chip.title = told.join(", ");
   chip.setAttribute("aria-label", [`key ${numbers.keys[key]}`, mark ? mark.replace(/^\W+/, "") : "", ...told].filter(Boolean).join(", "));
   place.className = `place${old ? " old" : ""}${key === sought ? " sought" : ""}`;
-  if (mark) place.dataset.mark = mark; else if (old) place.dataset.mark = "expired"; else delete place.dataset.mark;
+  if (mark) place.dataset.mark = mark; else delete place.dataset.mark;
   return place;
 }
 
@@ -98,13 +100,13 @@ function drawRegion(name, number, most, marks) {
   add(cut ? rows.slice(0, FRONT) : rows);
   if (cut) {
     drawn.push(filler(name, "more"));
-    filler(name, "more").textContent = `\u2026 ${(rows.length - FRONT - END).toLocaleString("en")} more \u2026`;
+    filler(name, "more").textContent = `\u2026 ${inWords(rows.length - FRONT - END)} more \u2026`;
     add(rows.slice(-END));
   }
   for (let n = rows.length; n < most && most <= 40; n += 1) drawn.push(filler(name, n));
   fill(list, drawn);
-  const main = state.lists[4 * shown + 1].length + state.lists[4 * shown + 2].length;
-  document.querySelector(`.${name} h2 span`).textContent = most === null ? `${rows.length} (main: ${main} of ${numbers.limits.main})` : `${rows.length} of ${most}`;
+  const main = state.lists[4 * shown + 1].length + state.lists[4 * shown + 2].length, [held, of, all, limit] = [rows.length, most, main, numbers.limits.main].map(inWords);
+  document.querySelector(`.${name} h2 span`).textContent = most === null ? `${held} (main: ${all} of ${limit})` : `${held} of ${of}`;
 }
 
 function drawRegions(step) {
@@ -154,7 +156,7 @@ function drawSums() {
   const told = sums(), [lookups, hits] = told;
   $("ratio").textContent = lookups ? `${((100 * hits) / lookups).toFixed(1)} %` : "\u2013";
   $("of").textContent = lookups ? "of look-ups hit" : "no look-up yet";
-  $("sums").replaceChildren(...numbers.sums.flatMap((name, n) => [make("dt", "", name), make("dd", "", told[n].toLocaleString("en"))]));
+  $("sums").replaceChildren(...numbers.sums.flatMap((name, n) => [make("dt", "", name), make("dd", "", inWords(told[n]))]));
 }
 
 // The two of a duel, each with its estimate as so many of fifteen bars.

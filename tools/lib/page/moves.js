@@ -66,7 +66,7 @@ function drawTracks() {
     track.onclick = (event) => go(1 + Math.floor(((event.clientX - track.getBoundingClientRect().left) / track.getBoundingClientRect().width) * steps.length));
     const one = { hit: "hit", removal: "removal", load: "load", duel: "duel", refused: "refused line" }[name];
     const label = make("span");
-    label.append(make("span", "", words), make("span", "", count.toLocaleString("en")));
+    label.append(make("span", "", words), make("span", "", inWords(count)));
     $("tracks").append(trackButton(kind, -1, `${one} (Shift ${letter})`), label, trackButton(kind, 1, `${one} (${letter})`), track);
   });
 }
@@ -110,9 +110,11 @@ function search(name) {
 
 function press(event) {
   if (event.ctrlKey || event.metaKey || event.altKey) return;
-  const typed = event.target === $("search");
-  if (typed && event.key === "Escape") $("search").blur();
-  if (typed) return;
+  if (event.target === $("search")) {
+    if (event.key !== "Escape") return;
+    $("search").blur();
+    return event.preventDefault();
+  }
   const moves = { ArrowLeft: -1, ArrowRight: 1, PageUp: -10, PageDown: 10, Home: -Infinity, End: Infinity };
   const kind = TRACKS.findIndex(([, , letter]) => letter === event.key.toLowerCase());
   if (event.key in moves) go(state.at + moves[event.key]);
