@@ -36,9 +36,10 @@ class Browser:
         self.folder = tempfile.TemporaryDirectory(ignore_cleanup_errors=True)
         given, self.commands = os.pipe()
         self.answers, taken = os.pipe()
-        words = [path, "--headless", "--remote-debugging-pipe", "--disable-gpu", "--hide-scrollbars", "--no-first-run", "--user-data-dir=" + self.folder.name]
-        words += ["--no-sandbox"] if os.geteuid() == 0 else []
-        self.child = subprocess.Popen([sys.executable, "-c", START, str(given), str(taken), *words], pass_fds=(given, taken), stdout=subprocess.DEVNULL, stderr=subprocess.DEVNULL)
+        words = [path, "--headless", "--remote-debugging-pipe", "--disable-gpu", "--hide-scrollbars", "--no-first-run"]
+        words += ["--user-data-dir=" + self.folder.name, *(["--no-sandbox"] if os.geteuid() == 0 else [])]
+        self.child = subprocess.Popen([sys.executable, "-c", START, str(given), str(taken), *words], pass_fds=(given, taken),
+                                      stdout=subprocess.DEVNULL, stderr=subprocess.DEVNULL)
         os.close(given)
         os.close(taken)
         self.number, self.rest, self.session, self.events = 0, b"", None, []

@@ -65,6 +65,17 @@ def text(x, y, words, kinds):
     return '<text x="%.1f" y="%.1f" class="%s">%s</text>' % (x, y, kinds, escape(words))
 
 
+def svg(height, told, style, parts):
+    """A whole picture. `told` says what it shows to who can't see it."""
+    return "\n".join([
+        '<svg xmlns="http://www.w3.org/2000/svg" viewBox="0 0 %d %d" width="%d" height="%d" role="img" aria-label="%s">' % (WIDTH, height, WIDTH, height, escape(told, True)),
+        "<title>%s</title>" % escape(told),
+        "<style>%s</style>" % style,
+        *parts,
+        "</svg>",
+    ]) + "\n"
+
+
 def line(x1, y1, x2, y2, kind):
     return '<line x1="%.1f" y1="%.1f" x2="%.1f" y2="%.1f" class="%s"/>' % (x1, y1, x2, y2, kind)
 
@@ -212,14 +223,10 @@ def draw(title, told, curves, sweep_at, sweep):
     gain, name = gain_told(curves), cut(title, BOLD * 19)
     words = "%s. Hit ratio over entries: %s." % (printable(title), gain)
     parts = [
-        '<svg xmlns="http://www.w3.org/2000/svg" viewBox="0 0 %d %d" width="%d" height="%d" role="img" aria-label="%s">' % (WIDTH, HEIGHT, WIDTH, HEIGHT, escape(words, True)),
-        "<title>%s</title>" % escape(words),
-        "<style>%s</style>" % STYLE,
         '<rect width="%d" height="%d" rx="8" class="page"/>' % (WIDTH, HEIGHT),
         text(24, 34, name, "ink title"),
         *below_title(told, gain),
         text(MAIN_LEFT - 34, TOP - 14, "hit ratio", "soft small"),
     ]
     parts += bars_panel(main, step, curves, sizes[0]) if len(sizes) == 1 else main_panel(main, step, curves)
-    parts += sweep_panel(side, step, sweep_at, sweep) + ["</svg>"]
-    return "\n".join(parts) + "\n"
+    return svg(HEIGHT, words, STYLE, parts + sweep_panel(side, step, sweep_at, sweep))

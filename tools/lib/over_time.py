@@ -1,8 +1,7 @@
 """Hit ratios by thousand look-ups, for tools/hit_curve --over-time: the numbers, a table and a picture."""
-from html import escape
 from itertools import islice
 
-from curve_svg import HEIGHT, STYLE, TOP, WIDTH, BOTTOM, axes, cut, line, spread, text
+from curve_svg import BOLD, BOTTOM, HEIGHT, STYLE, TOP, WIDTH, axes, cut, line, spread, svg, text
 from policies import POLICIES
 
 PART, MOST_PARTS = 1000, 200
@@ -90,11 +89,8 @@ def draw(title, told, windows, curves, entries, lookups):
     panel, kinds = Panel(lookups, top / 100), dict(zip(curves, KINDS if len(curves) == 4 else ("ours", "lru", "best")))
     whole = "Hit ratio of {} by {:,} look-ups, {:,} entries".format(", ".join(curves), size, entries)
     parts = [
-        '<svg xmlns="http://www.w3.org/2000/svg" viewBox="0 0 %d %d" width="%d" height="%d" role="img" aria-label="%s">' % (WIDTH, HEIGHT, WIDTH, HEIGHT, escape(whole, True)),
-        "<title>%s</title>" % escape(whole),
-        "<style>%s</style>" % STYLE,
         '<rect width="%d" height="%d" rx="8" class="page"/>' % (WIDTH, HEIGHT),
-        text(24, 34, cut(title, 1.2 * 19), "ink title"),
+        text(24, 34, cut(title, BOLD * 19), "ink title"),
         text(24, 57, cut("Hit ratio by {:,} look-ups, with {:,} entries. {}".format(size, entries, told), 13), "soft"),
         text(LEFT - 34, TOP - 14, "hit ratio", "soft small"),
         *axes(panel, step if top > 40 else 5, ticks_of(lookups), "look-ups"),
@@ -106,4 +102,4 @@ def draw(title, told, windows, curves, entries, lookups):
     for at, (name, ratios) in enumerate(curves.items()):
         parts.append(line(panel.x(places[-1]) + 4, panel.y(ratios[-1]), RIGHT + 18, heights[at] - 4, "lead %s-lead" % kinds[name]))
         parts.append(text(RIGHT + 22, heights[at], name, "%s label" % kinds[name]))
-    return "\n".join(parts + ["</svg>"]) + "\n"
+    return svg(HEIGHT, whole, STYLE, parts)

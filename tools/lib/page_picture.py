@@ -2,7 +2,7 @@
 import re
 from html import escape
 
-from curve_svg import cut, line, text, width_of
+from curve_svg import BOLD, cut, line, svg, text, width_of
 from page_html import PARTS, settings_told
 from page_states import LISTS, states
 from page_words import MARKS, SENTENCES, WORDS, picture_notes
@@ -120,7 +120,10 @@ def region(layout, frame, name, y, height):
     places = max(len(rows), most if most is not None and most <= 8 else 0)
     for at in range(places):
         left, top = x + 10 + at % each * (layout.chip + SPACE), y + HEAD + 6 + at // each * ROW
-        parts += chip(layout, frame, left, top, rows[at], name, marks.get(rows[at][0])) if at < len(rows) else [box(left, top, layout.chip, CHIP, "dashed edge-edge")]
+        if at < len(rows):
+            parts += chip(layout, frame, left, top, rows[at], name, marks.get(rows[at][0]))
+        else:
+            parts.append(box(left, top, layout.chip, CHIP, "dashed edge-edge"))
     return parts
 
 
@@ -198,6 +201,4 @@ def picture(title, s, numbers, lines):
         parts += more
     told = "%s. %s" % (title, " ".join("Line %d, %s: %s" % (frame.number, frame.text, " ".join(frame.sentences())) for frame in frames))
     height = y + 20
-    head = ['<svg xmlns="http://www.w3.org/2000/svg" viewBox="0 0 %d %d" width="%d" height="%d" role="img" aria-label="%s">' % (WIDTH, height, WIDTH, height, escape(told, True)),
-            "<title>%s</title>" % escape(told), "<style>%s\n  %s</style>" % (SHAPES, colours()), box(0, 0, WIDTH, height, "page", 8), text(LEFT, 36, cut(title, 1.2 * 19), "ink title")]
-    return "\n".join(head + parts + ["</svg>"]) + "\n"
+    return svg(height, told, "%s\n  %s" % (SHAPES, colours()), [box(0, 0, WIDTH, height, "page", 8), text(LEFT, 36, cut(title, BOLD * 19), "ink title")] + parts)

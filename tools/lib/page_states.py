@@ -92,7 +92,8 @@ class Recorder:
         """The four lists of a shard. A row that is as it was is the same one."""
         before = {row[0]: row for row in self.lists[4 * number + 3]}
         loads = [[load.number, self.keys.number(load.key), list(load.lines), int(load.current)] for load in shard.loads]
-        return [[self.rows[entry] for entry in region] for region in shard.regions()] + [[row if row != before.get(row[0]) else before[row[0]] for row in loads]]
+        loads = [row if row != before.get(row[0]) else before[row[0]] for row in loads]
+        return [[self.rows[entry] for entry in region] for region in shard.regions()] + [loads]
 
     def do(self, line):
         report = self.run.do(line)
@@ -112,7 +113,8 @@ class Recorder:
         notes, jumps = notes_of(shards, self.keys)
         text = "%d %s%s" % (moment, letter, " " + key[0] if key else "")
         whose = self.run.shards.index(shards[0]) if key else -1
-        self.steps.append([number, text, report.partition(" ")[2], whose, notes, jumps, outs, ins, latest, list(self.run.sums().values()), self.recount(shards, key)])
+        words, sums, counted = report.partition(" ")[2], list(self.run.sums().values()), self.recount(shards, key)
+        self.steps.append([number, text, words, whose, notes, jumps, outs, ins, latest, sums, counted])
 
     def recount(self, shards, key):
         """The keys whose estimate is another one now, with it."""
@@ -141,8 +143,10 @@ def record(s, trace, first, last):
         progress.tell("line {:,} of {:,}".format(line[0], last))
     progress.wipe()
     keys = recorder.keys
-    numbers = {"keys": keys.names, "weights": [1 + word % s["mod"] for word in keys.words] if s["mod"] > 1 else None,
-               "names": trace.split(b"\n", 1)[0] == b"wt 2", "shards": s["shards"], "sums": list(COUNTED) + ["entries", "weight"], "start": recorder.start, "steps": recorder.steps}
+    numbers = {
+        "keys": keys.names, "names": trace.split(b"\n", 1)[0] == b"wt 2", "weights": [1 + word % s["mod"] for word in keys.words] if s["mod"] > 1 else None,
+        "shards": s["shards"], "sums": list(COUNTED) + ["entries", "weight"], "start": recorder.start, "steps": recorder.steps,
+    }
     return numbers, report + [run.summary()]
 
 

@@ -105,7 +105,8 @@ function drawRegion(name, number, most, marks) {
   }
   for (let n = rows.length; n < most && most <= 40; n += 1) drawn.push(filler(name, n));
   fill(list, drawn);
-  const main = state.lists[4 * shown + 1].length + state.lists[4 * shown + 2].length, [held, of, all, limit] = [rows.length, most, main, numbers.limits.main].map(inWords);
+  const main = state.lists[4 * shown + 1].length + state.lists[4 * shown + 2].length;
+  const [held, of, all, limit] = [rows.length, most, main, numbers.limits.main].map(inWords);
   document.querySelector(`.${name} h2 span`).textContent = most === null ? `${held} (main: ${all} of ${limit})` : `${held} of ${of}`;
 }
 
@@ -133,8 +134,9 @@ function drawLoads() {
   const rows = state.lists[4 * shown + 3];
   const list = rows.slice(0, FRONT).map(([id, key, lines, current]) => {
     const row = make("li");
-    const joined = lines.length > 1 ? `, shared by ${lines.slice(1, 9).map((n) => `line ${n}`).join(", ")}${lines.length > 9 ? " and more" : ""}` : "";
-    row.append(`load ${id} of `, keyButton(key), make("br"), make("small", "", `opened by line ${lines[0]}${joined}${current ? "" : "; stale: its value won't be stored"}`));
+    const sharers = lines.slice(1, 9).map((n) => `line ${n}`).join(", ") + (lines.length > 9 ? " and more" : "");
+    const told = `opened by line ${lines[0]}${sharers ? `, shared by ${sharers}` : ""}${current ? "" : "; stale: its value won't be stored"}`;
+    row.append(`load ${id} of `, keyButton(key), make("br"), make("small", "", told));
     return row;
   });
   if (rows.length > FRONT) list.push(make("li", "none", `and ${rows.length - FRONT} more`));
