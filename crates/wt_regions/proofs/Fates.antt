@@ -38,6 +38,16 @@ module _ {K V : Type 0} where
     pub ousts_some : (caps : Caps) (c : Entry K V) (ps qs : List (Entry K V)) (why : Cause) → fate estimate now caps c ps qs ≡ Ousts why → is_some (last_entry ps) ≡ true
     ousts_some caps c ps qs why h = ousts_at _ _ _ _ (last_entry ps) why h
 
+    -- the candidate leaves
+    pub overflowed-leaves : (r : Lists K V) (c : Entry K V) (why : Cause) → last_entry r.window ≡ Some c → fate estimate now r.caps c r.probation r.protected ≡ Leaves why
+        → overflowed estimate now r ≡ (record r { window = all_but_last r.window }, notice why c ∷ [])
+    overflowed-leaves r c why at is = rw (at, is)
+
+    -- it enters probation
+    pub overflowed-enters : (r : Lists K V) (c : Entry K V) → last_entry r.window ≡ Some c → fate estimate now r.caps c r.probation r.protected ≡ Enters
+        → overflowed estimate now r ≡ (record r { window = all_but_last r.window; probation = c ∷ r.probation }, [])
+    overflowed-enters r c at is = rw (at, is)
+
     module _ (r : Lists K V) (c : Entry K V) (why : Cause) (at : last_entry r.window ≡ Some c) (is : fate estimate now r.caps c r.probation r.protected ≡ Ousts why) where
       overflowed-ousts : overflowed estimate now r ≡ (record r { window = all_but_last r.window; probation = c ∷ all_but_last r.probation }, option_map_or (λ v. notice why v ∷ []) (last_entry r.probation) [])
       overflowed-ousts = rw (at, is)

@@ -1,8 +1,8 @@
 -- What moves of entries keep.
-use Rattle.std.proofs.Common.{◌≡◌, ℕ, ◌+◌, ◌-◌, ◌<◌, ◌≤◌, Bool, true, false, cond, List, [], ◌∷◌, ◌++◌, length, take, map, Option, Some, None, refl, sym, ap, subst, ◌∙◌, arith}
+use Rattle.std.proofs.Common.{◌≡◌, ℕ, zero, suc, ◌+◌, ◌-◌, ◌<◌, ◌≤◌, Bool, true, false, cond, List, [], ◌∷◌, ◌++◌, length, take, map, Option, Some, None, refl, sym, ap, subst, ◌∙◌, arith}
 use Rattle.std.specs.Option.{option_map_or, option_or}
 use Rattle.std.specs.Map.{keys_of, lookup, lookup_entry, remove_entry, set_value}
-use Rattle.lru.specs.LruCache.{LruCache, put_entries, promoted as brought_first}
+use Rattle.lru.specs.LruCache.{LruCache, displaced, put_entries, promoted as brought_first}
 use Rattle.lru.proofs.CallerLemmas.{Contains-lookup_entry}
 use Rattle.lru.specs.LruCache.{last_entry}
 use Rattle.std.proofs.lemmas.List.{take_all, map-append}
@@ -20,7 +20,7 @@ use Rattle.wt_regions.specs.declared.caps.Caps.{Caps}
 use Rattle.wt_regions.specs.Lists.{Entry, Lists, all_entries, all_but_last, main_cap, protected_cap, weight_of, weights}
 use Rattle.wt_regions.specs.Touch.{promoted}
 use Rattle.wt_regions.specs.Lawful.{IsFit, IsLawful}
-use Rattle.wt_regions.specs.Moves.{IsPlaced}
+use Rattle.wt_regions.specs.Moves.{IsPlaced, places_of}
 
 module _ {K X : Type 0} (test : K → Bool) where
   pub lookup-append : (xs ys : List (K × X)) → lookup test (xs ++ ys) ≡ option_or (lookup test xs) (lookup test ys)
@@ -53,6 +53,34 @@ module _ {K X : Type 0} (test : K → Bool) where
 
 pub put-fresh : {K V : Type 0} (eq : K → K → Bool) (c : LruCache K V) (k : K) (v : V) → lookup (eq k) c.entries ≡ None → length c.entries < c.cap → put_entries eq c k v ≡ (k, v) ∷ c.entries
 put-fresh eq c k v h room = let n = lookup_entry-none (eq k) c.entries h in let all = take_all (c.cap - 1) c.entries (omega arith) in rw n (ap (λ es. (k, v) ∷ es) all)
+
+full_at : {X : Type 0} (x : X) (es : List X) (cap : ℕ) → 0 < cap → length es ≡ cap → x ∷ take (cap - 1) es ≡ take (length (x ∷ es) - 1) (x ∷ es)
+full_at x [] cap some full = absurd (omega (arith, some, full))
+full_at x (e ∷ es) cap some full =
+    let n : length (x ∷ e ∷ es) - 1 ≡ suc (length es) = omega arith in
+    let m : cap - 1 ≡ length es = omega (arith, full) in
+    rw (n, m)
+
+-- a push into a full cache
+pub put-full : {K V : Type 0} (eq : K → K → Bool) (c : LruCache K V) (k : K) (v : V) → lookup (eq k) c.entries ≡ None → 0 < c.cap → length c.entries ≡ c.cap
+    → put_entries eq c k v ≡ take (length ((k, v) ∷ c.entries) - 1) ((k, v) ∷ c.entries)
+put-full eq c k v h some full = let n = lookup_entry-none (eq k) c.entries h in rw n (full_at (k, v) c.entries c.cap some full)
+
+pub displaced-full : {K V : Type 0} (eq : K → K → Bool) (c : LruCache K V) (k : K) (v : V) → lookup (eq k) c.entries ≡ None → length c.entries ≡ c.cap → displaced eq c k v ≡ last_entry c.entries
+displaced-full eq c k v h full = rw (h, full)
+
+-- the places of a cache
+pub places-is : (n : ℕ) → 0 < n → places_of n ≡ n
+places-is zero h = absurd (omega (arith, h))
+places-is (suc n) h = refl
+
+pub places-some : (n : ℕ) → 0 < places_of n
+places-some zero = omega arith
+places-some (suc n) = omega arith
+
+pub places-fit : (n : ℕ) → n ≤ places_of n
+places-fit zero = omega arith
+places-fit (suc n) = omega arith
 
 -- a value that is written through `get_mut`
 module _ {K X : Type 0} (test : K → Bool) (f : X → X) where

@@ -1,6 +1,6 @@
 -- A new entry over an expired one of its key in probation or protected.
 use Rattle.std.proofs.Common.{◌≡◌, ℕ, zero, suc, ◌+◌, ◌-◌, ◌<◌, ◌≤◌, Bool, true, false, cond, List, [], ◌∷◌, ◌++◌, length, Option, Some, None, refl, sym, ap, ◌∙◌, arith, rules, length-append}
-use Rattle.std.specs.Prelude.{nat_le, nat_eq, IsSome, IfSome}
+use Rattle.std.specs.Prelude.{nat_le, nat_eq, IsSome}
 use Rattle.std.specs.Option.{option_map_or}
 use Rattle.std.specs.Map.{lookup, remove_entry}
 use Rattle.std.specs.Cmp.{IsEquivalence}
@@ -11,8 +11,7 @@ use Rattle.wt_regions.specs.declared.caps.Caps.{Caps}
 use Rattle.wt_regions.specs.declared.notices.Notice.{Notice}
 use Rattle.wt_regions.specs.declared.notices.Cause.TheVariants.{Expired}
 use Rattle.wt_regions.proofs.Moves.{lookup-append}
-use Rattle.wt_regions.proofs.Apart.{no_last_none, apart, none_at_last, last_apart, distinct_after, below}
-use Rattle.wt_regions.proofs.Settled.{distinct_turned}
+use Rattle.wt_regions.proofs.Apart.{no_last_none, apart, none_at_last, distinct_after, below}
 use Rattle.wt_regions.proofs.Weights.{weights-cons, weights-last, weights-removed, weight-split}
 use Rattle.wt_regions.proofs.Loop.{appended-twice}
 use Rattle.wt_regions.proofs.Without.{where-is, without-length, remove-none}
@@ -73,16 +72,6 @@ module _ {K V : Type 0} (eq : K → K → Bool) (laws : IsEquivalence eq) (weigh
   module _ (full : c.window < length ((k, h) ∷ ws)) where
     not_own : (l : Entry K V) → last_entry ((k, h) ∷ ws) ≡ Some l → eq k l.0 ≡ false
     not_own l is = let pos = law.fit.some_window in none_at_last (eq k) ws l off (last_under (k, h) ws l (omega (arith, full, pos)) is)
-
-    pub past-apart : (l : Entry K V) → last_entry ((k, h) ∷ ws) ≡ Some l → lookup (eq l.0) ps ≡ None
-    past-apart l is = let pos = law.fit.some_window in last_apart eq laws ps ws l (distinct_turned eq laws ws ps qs law.distinct) (last_under (k, h) ws l (omega (arith, full, pos)) is)
-
-    first_at : (o : Option (Entry K V)) → last_entry ((k, h) ∷ ws) ≡ o → IfSome o (λ l. lookup (eq l.0) ps ≡ None)
-    first_at None is = tt
-    first_at (Some l) is = past-apart l is
-
-    pub past-first : IfSome (last_entry ((k, h) ∷ ws)) (λ l. lookup (eq l.0) ps ≡ None)
-    past-first = first_at (last_entry ((k, h) ∷ ws)) refl
 
     past-full_at : (l : Entry K V) (x : Bool) → last_entry ((k, h) ∷ ws) ≡ Some l → is_expired c now l.1 ≡ x
         → after ≡ (lists_of c (all_but_last ((k, h) ∷ ws)) (remove_entry (eq k) (cond x ps (l ∷ ps))) (remove_entry (eq k) qs), cond x (notice Expired l ∷ []) [])

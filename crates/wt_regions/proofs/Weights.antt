@@ -87,10 +87,6 @@ module _ {K V : Type 0} where
   pub weight-enters : (k : Caps) (c : Entry K V) (ws ps qs : List (Entry K V)) → last_entry ws ≡ Some c → weight_of (lists_of k (all_but_last ws) (c ∷ ps) qs) + 0 ≡ weight_of (lists_of k ws ps qs)
   weight-enters k c ws ps qs h = omega (arith, weight-split k ws ps qs, weight-split k (all_but_last ws) (c ∷ ps) qs, weights-cons c ps, weights-last-is ws c h)
 
-  pub weight-ousts : (k : Caps) (c : Entry K V) (ws ps qs : List (Entry K V)) → last_entry ws ≡ Some c
-      → weight_of (lists_of k (all_but_last ws) (all_but_last (c ∷ ps)) qs) + option_map_or (λ (e : Entry K V). e.1.weight) (last_entry (c ∷ ps)) 0 ≡ weight_of (lists_of k ws ps qs)
-  weight-ousts k c ws ps qs h = omega (arith, weight-split k ws ps qs, weight-split k (all_but_last ws) (all_but_last (c ∷ ps)) qs, weights-cons c ps, weights-last-is ws c h, weights-last (c ∷ ps))
-
   pub weights-moves : (xs ys : List (Entry K V)) → IsPermutation xs ys → weights ys ≡ weights xs
   weights-moves xs ys h = sum_by-IsPermutation (λ (e : Entry K V). e.1.weight) xs ys (h)
 

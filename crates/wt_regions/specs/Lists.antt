@@ -12,7 +12,7 @@ use Rattle.wt_regions.specs.declared.notices.Notice.{Notice}
 use Rattle.wt_regions.specs.declared.caches.Region.{Region}
 use Rattle.wt_regions.specs.declared.caches.Region.TheVariants.{Window, Probation, Protected}
 
--- an entry is a key with what is held for it
+-- a key with what is held for it: value, weight, stamp, the moments of writing and of the latest use
 abbrev pub Entry : Type 0 → Type 0 → Type 0
 Entry K V = K × Held V
 
@@ -27,15 +27,15 @@ pub record Lists (K V : Type 0) : Type 0 where
 abbrev pub Told : Type 0 → Type 0 → Type 0
 Told K V = Lists K V × List (Notice K V)
 
--- how many entries main may hold: probation and protected together
+-- how many entries main, that is probation and protected together, may hold: the entries less window
 abbrev pub main_cap : Caps → ℕ
 main_cap c = c.entries - c.window
 
--- how many of them protected may hold
+-- how many of them protected may hold: four fifths, rounded down
 abbrev pub protected_cap : Caps → ℕ
 protected_cap c = (4 * main_cap c) / 5
 
--- whether a duration that is set has gone by
+-- whether a duration that is set has gone by since a moment; an age that equals it has
 abbrev pub gone_by : Option ℕ → ℕ → ℕ → Bool
 gone_by duration since now = option_map_or (λ d. nat_le d (now - since)) duration false
 
@@ -45,7 +45,7 @@ is_hit (found.Hit v) = true
 is_hit found.Absent = false
 is_hit found.Expired = false
 
--- whether a cause counts as an eviction
+-- whether a cause counts as an eviction: Expired and Size do
 abbrev pub is_eviction : Cause → Bool
 is_eviction Explicit = false
 is_eviction Replaced = false
@@ -61,11 +61,11 @@ module _ {V : Type 0} where
   abbrev pub used : ℕ → Held V → Held V
   used now h = record h { accessed = now }
 
-  -- whether it is too long since it was written, or since it was used
+  -- whether it is too long since an entry was written, or since it was used
   abbrev pub is_expired : Caps → ℕ → Held V → Bool
   is_expired c now h = gone_by c.after_write h.written now || gone_by c.after_access h.accessed now
 
-  -- whether it is time to load it again
+  -- whether it is time to load an entry again
   abbrev pub is_due : Caps → ℕ → Held V → Bool
   is_due c now h = gone_by c.refresh h.written now
 
@@ -90,17 +90,17 @@ module _ {K V : Type 0} where
   abbrev pub weight_of : Lists K V → ℕ
   weight_of r = weights (all_entries r)
 
-  -- one of the three
+  -- one of the three lists
   abbrev pub region_of : Region → Lists K V → List (Entry K V)
   region_of Window r = r.window
   region_of Probation r = r.probation
   region_of Protected r = r.protected
 
-  -- all but the last
+  -- a list without its last
   abbrev pub all_but_last : List (Entry K V) → List (Entry K V)
   all_but_last es = take (length es - 1) es
 
-  -- what is told of an entry that leaves
+  -- what is told of an entry that leaves: key, value, cause
   abbrev pub notice : Cause → Entry K V → Notice K V
   notice cause e = record { key = e.0; value = e.1.value; cause = cause }
 
@@ -113,7 +113,7 @@ module _ {K V : Type 0} where
     abbrev pub without : K → Lists K V → Lists K V
     without k r = record r { window = remove_entry (eq k) r.window; probation = remove_entry (eq k) r.probation; protected = remove_entry (eq k) r.protected }
 
-    -- what a look-up finds
+    -- what a look-up finds: a hit with the value, absent, or expired
     abbrev pub found_at : K → ℕ → Lists K V → Found V
     found_at k now r = option_map_or (λ h. if is_expired r.caps now h then found.Expired else found.Hit h.value) (held_for k r) found.Absent
 

@@ -1,5 +1,5 @@
 -- What the private functions on the three caches promise.
-use Rattle.std.specs.Prelude.{◌≡◌, ℕ, ◌+◌, ◌≤◌, Bool, if◌then◌else◌, List, ◌∷◌, drop, length, Option, Some, None, sum_by, All}
+use Rattle.std.specs.Prelude.{◌≡◌, ℕ, zero, suc, ◌+◌, ◌≤◌, Bool, if◌then◌else◌, List, ◌∷◌, drop, length, Option, Some, None, sum_by, All}
 use Rattle.std.specs.List.{IsDistinct}
 use Rattle.std.specs.Option.{option_map_or}
 use Rattle.std.specs.Map.{keys_of, lookup, lookup_entry, remove_entry}
@@ -16,6 +16,11 @@ use Rattle.wt_regions.specs.Lawful.{IsFit}
 -- how often each key was counted, by a sketch
 abbrev pub estimates : {K : Type 0} → Counters → (K → ℕ) → K → ℕ
 estimates s word = λ k. estimate_of s (word k)
+
+-- how many places the cache of a region has that may hold `most` entries: no cache has none
+abbrev pub places_of : ℕ → ℕ
+places_of zero = 1
+places_of (suc n) = suc n
 
 -- what weighs that was held, if anything was
 abbrev pub heft : {V : Type 0} → Option (Held V) → ℕ

@@ -2,7 +2,7 @@
 use Rattle.std.specs.Prelude.{ℕ, ◌+◌, ◌-◌, List, [], ◌++◌, length}
 use Rattle.wt_regions.specs.declared.notices.Notice.{Notice}
 
--- what is seen of it: the notices, and for how many more there is room
+-- what is seen of a list of notices: the notices, and for how many more there is room
 pub record NoticeList (K V : Type 0) : Type 0 where
   pub list : List (Notice K V)
   pub room : ℕ
@@ -12,7 +12,7 @@ module _ {K V : Type 0} where
   abbrev pub no_notices : ℕ → NoticeList K V
   no_notices room = record { list = []; room = room }
 
-  -- notices at its end
+  -- notices at its end, which take room
   abbrev pub appended : List (Notice K V) → NoticeList K V → NoticeList K V
   appended ns t = record { list = t.list ++ ns; room = t.room - length ns }
 

@@ -40,26 +40,26 @@ impl<K: CacheKey, V> Model for Caches<K, V> {
     ghost use Rattle.std.specs.Prelude.{◌≡◌, ◌+◌};
     ghost use Rattle.wt_regions.specs.Lawful.{IsFit};
     ghost use Rattle.wt_regions.specs.Lists.{Lists, main_cap, protected_cap};
-    ghost use Rattle.wt_regions.specs.Moves.{in_caches};
+    ghost use Rattle.wt_regions.specs.Moves.{in_caches, places_of};
 
     ghost Value = { Lists K V };
 
     ghost view = { λ c. in_caches c.caps c.window c.probation c.protected };
 
     ghost invariant = { λ c. IsFit c.caps
-        × (c.window.cap ≡ c.caps.window + 1)
-        × (c.probation.cap ≡ main_cap c.caps + 1)
-        × (c.protected.cap ≡ protected_cap c.caps + 1) };
+        × (c.window.cap ≡ places_of c.caps.window)
+        × (c.probation.cap ≡ places_of (main_cap c.caps + 1))
+        × (c.protected.cap ≡ places_of (protected_cap c.caps)) };
 }
 
 impl<K: CacheKey, V: Drop> Caches<K, V> {
-    // Three empty caches, each with one place more than its region may hold.
+    // Three empty caches. Probation has one place more than it may hold.
     pub(crate) fn new(alloc: Global, caps: &Caps) -> Result<Self, NoMemory>
         requires { IsFit caps.now }
         ensures { IfOk result (λ caches. caches ≡ no_entries caps.now) }
     {
         let window = empty_cache(alloc, caps.window as usize)?;
-        let probation = empty_cache(alloc, caps.main_cap())?;
+        let probation = empty_cache(alloc, caps.main_cap() + 1)?;
         let protected = empty_cache(alloc, caps.protected_cap())?;
         Ok(Caches {
             caps: *caps,

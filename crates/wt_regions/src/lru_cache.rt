@@ -1,10 +1,11 @@
-// What the regions do with one `LruCache`. Each has one place more than its region may hold, so
-// that no push drops an entry: where one has to leave, it is taken out by name and told of.
+// What the regions do with one `LruCache`. Window and protected have the places that they may hold:
+// a push into a full one hands its last out, and keeps the block of memory that held it. Probation
+// has one more, as its last may only leave once another has come.
 ghost use Rattle.std.specs.Prelude.{◌≡◌, ◌+◌, ◌<◌, ◌≤◌, ◌∷◌, [], length, None, IfOk, OnOk, OnErr, IsSome, is_some, option_copied};
 ghost use Rattle.std.specs.Map.{keys_of, lookup};
-ghost use Rattle.lru.specs.LruCache.{lru_cache};
-ghost use Rattle.wt_regions.specs.Lists.{used};
-ghost use Rattle.wt_regions.specs.Moves.{in_front};
+ghost use Rattle.lru.specs.LruCache.{last_entry, lru_cache};
+ghost use Rattle.wt_regions.specs.Lists.{all_but_last, used};
+ghost use Rattle.wt_regions.specs.Moves.{in_front, places_of};
 
 use crate::held::Held;
 use lru::LruCache;
@@ -12,15 +13,15 @@ use std::alloc::Global;
 use std::num::NonZeroUsize;
 use wt_keys::{CacheKey, NoMemory};
 
-// An empty cache for a region of so many entries, with one place more.
+// An empty cache of `most` places, or of one if `most` is 0.
 pub(crate) fn empty_cache<K: CacheKey, V>(
     alloc: Global,
     most: usize,
 ) -> Result<LruCache<K, Held<V>>, NoMemory>
-    requires { most ≤ 65536 }
-    ensures { IfOk result (λ cache. cache ≡ lru_cache [] (most + 1)) }
+    requires { most ≤ 65537 }
+    ensures { IfOk result (λ cache. cache ≡ lru_cache [] (places_of most)) }
 {
-    match NonZeroUsize::new(most + 1) {
+    match NonZeroUsize::new(most.max(1)) {
         Some(cap) => Ok(LruCache::new(alloc, cap)?),
         None => Err(NoMemory),
     }
@@ -40,6 +41,26 @@ pub(crate) fn push_new<K: CacheKey, V: Drop>(
 {
     match cache.push(key, held) {
         Ok(_) => Ok(()),
+        Err(_) => Err(NoMemory),
+    }
+}
+
+// Puts an entry of a key that isn't there first in a full cache, and returns the last, which leaves.
+pub(crate) fn push_past<K: CacheKey, V: Drop>(
+    cache: &mut LruCache<K, Held<V>>,
+    key: K,
+    held: Held<V>,
+) -> Result<Option<(K, Held<V>)>, NoMemory>
+    requires fresh { lookup (K.eq key) cache.old.entries ≡ None }
+    requires some { 0 < cache.old.cap }
+    requires full { length cache.old.entries ≡ cache.old.cap }
+    ensures left { IfOk result (λ left. left ≡ last_entry cache.old.entries) }
+    ensures state { OnOk result (cache.new
+        ≡ lru_cache (all_but_last ((key, held) ∷ cache.old.entries)) cache.old.cap) }
+    ensures err { OnErr result (cache.new ≡ cache.old) }
+{
+    match cache.push(key, held) {
+        Ok(left) => Ok(left),
         Err(_) => Err(NoMemory),
     }
 }

@@ -21,7 +21,7 @@ ghost use Rattle.wt_regions.specs.Steps.{placed};
 
 use crate::caches::Caches;
 use crate::held::Held;
-use crate::lru_cache::{held_in, push_new, replace_in};
+use crate::lru_cache::{held_in, push_new, push_past, replace_in};
 use crate::notices::{Cause, Notices, tell_held, tell_left};
 use crate::weighs::Weighs;
 use wt_keys::{CacheKey, NoMemory, Share};
@@ -43,32 +43,32 @@ impl<K: CacheKey, V: Share + Weighs> Caches<K, V> {
         second
     }
 
-    // The last entry of window leaves it: an expired one is answered, another goes to probation.
-    fn make_way(&mut self, now: u64) -> Result<Option<(K, Held<V>)>, NoMemory>
-        requires fresh { IfSome (last_entry self.old.window)
-            (λ e. lookup (K.eq e.0) self.old.probation ≡ None) }
-        requires main_part { length self.old.probation ≤ main_cap self.old.caps }
+    // A new entry comes to the front of a full window, whose last leaves it: an expired one is
+    // returned, another goes to probation.
+    fn make_way(&mut self, key: K, held: Held<V>) -> Result<Option<(K, Held<V>)>, NoMemory>
+        requires placed { IsPlaced K.eq V.weight self.old }
+        requires elsewhere { lookup (K.eq key) self.old.window ≡ None }
+        requires full { self.old.caps.window ≤ length self.old.window }
         ensures left { IfOk result (λ left. left ≡ option_map_or
-            (λ e. if is_expired self.old.caps now e.1 then Some e else None)
-            (last_entry self.old.window) None) }
+            (λ e. if is_expired self.old.caps held.written e.1 then Some e else None)
+            (last_entry ((key, held) ∷ self.old.window)) None) }
         ensures state { OnOk result (self.new
-            ≡ lists_of self.old.caps (all_but_last self.old.window)
+            ≡ lists_of self.old.caps (all_but_last ((key, held) ∷ self.old.window))
             (option_map_or
-            (λ e. if is_expired self.old.caps now e.1 then self.old.probation
+            (λ e. if is_expired self.old.caps held.written e.1 then self.old.probation
             else e ∷ self.old.probation)
-            (last_entry self.old.window) self.old.probation)
+            (last_entry ((key, held) ∷ self.old.window)) self.old.probation)
             self.old.protected) }
         ensures err { OnErr result (self.new ≡ self.old) }
     {
-        let Some((key, held)) = self.window.peek_lru() else {
-            return Ok(None);
+        let Some((_, last)) = self.window.peek_lru() else {
+            unreachable!();
         };
-        if self.caps.is_expired(now, held) {
-            return Ok(self.window.pop_lru());
+        if self.caps.is_expired(held.written, last) {
+            let left = push_past(&mut self.window, key, held)?;
+            return Ok(left);
         }
-        let (key, held) = (*key, held.share_held()?);
-        push_new(&mut self.probation, key, held)?;
-        drop(self.window.pop_lru());
+        self.pass_on(key, held)?;
         Ok(None)
     }
 
@@ -97,23 +97,15 @@ impl<K: CacheKey, V: Share + Weighs> Caches<K, V> {
             weight_of self.new + gone ≡ weight_of self.old + held.weight) }
         ensures err { OnErr result ((self.new ≡ self.old) × (notices.new ≡ notices.old)) }
     {
-        let now = held.written;
-        push_new(&mut self.window, key, held)?;
-        if self.window.len() <= self.caps.window as usize {
+        if self.window.len() < self.caps.window as usize {
+            push_new(&mut self.window, key, held)?;
             let own = self.take_below(key);
             return Ok(tell_held(notices, key, own, Cause::Expired));
         }
-        match self.make_way(now) {
-            Ok(left) => {
-                let own = self.take_below(key);
-                let gone = tell_held(notices, key, own, Cause::Expired);
-                Ok(gone + tell_left(notices, left, Cause::Expired))
-            }
-            Err(refused) => {
-                drop(self.window.pop_entry(&key));
-                Err(refused)
-            }
-        }
+        let left = self.make_way(key, held)?;
+        let own = self.take_below(key);
+        let gone = tell_held(notices, key, own, Cause::Expired);
+        Ok(gone + tell_left(notices, left, Cause::Expired))
     }
 
     // The entry takes the place of one of its key, or settles, at the moment when it was written.

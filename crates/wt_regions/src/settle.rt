@@ -9,18 +9,19 @@
 //             was counted as often, or more often ────► stays; the candidate leaves
 //
 // A read-only function decides first, and a mover goes by what it answers.
-ghost use Rattle.std.specs.Prelude.{◌≡◌, ◌+◌, ◌<◌, ◌≤◌, ◌++◌, length, None, IfOk, OnOk, OnErr};
-ghost use Rattle.std.specs.List.{IsDistinct};
-ghost use Rattle.std.specs.Map.{keys_of};
+ghost use Rattle.std.specs.Prelude.{◌≡◌, ◌+◌, ◌<◌, ◌≤◌, ◌∷◌, length, None, IfOk, OnOk, OnErr};
+ghost use Rattle.std.specs.Map.{lookup};
+ghost use Rattle.std.specs.Option.{option_map_or};
+ghost use Rattle.lru.specs.LruCache.{last_entry};
 ghost use Rattle.wt_sketch.specs.Sketch.{estimate_of};
-ghost use Rattle.wt_regions.specs.Lists.{held_for, main_cap, weight_of};
+ghost use Rattle.wt_regions.specs.Lists.{all_but_last, held_for, lists_of, weight_of};
 ghost use Rattle.wt_regions.specs.Moves.{IsPlaced, estimates};
 ghost use Rattle.wt_regions.specs.Notices.{appended};
-ghost use Rattle.wt_regions.specs.Settle.{fate, overflowed, settled};
+ghost use Rattle.wt_regions.specs.Settle.{fate, grown, overflowed, settled};
 
 use crate::caches::Caches;
 use crate::held::Held;
-use crate::lru_cache::push_new;
+use crate::lru_cache::{push_new, push_past};
 use crate::notices::{Cause, Notices, tell_left};
 use crate::weighs::Weighs;
 use wt_keys::{CacheKey, NoMemory, Share, places};
@@ -74,47 +75,74 @@ impl<K: CacheKey, V: Share + Weighs> Caches<K, V> {
         }
     }
 
-    // Window gives up its last entry, which goes where its fate says. Answers the weight that left.
-    fn give_up(
+    // The entry comes to the front of a full window, whose last goes to probation's front. A push
+    // that was made is undone by a pop if the other is refused.
+    pub(crate) fn pass_on(&mut self, key: K, held: Held<V>) -> Result<(), NoMemory>
+        requires placed { IsPlaced K.eq V.weight self.old }
+        requires elsewhere { lookup (K.eq key) self.old.window ≡ None }
+        requires full { self.old.caps.window ≤ length self.old.window }
+        ensures state { OnOk result (self.new ≡ lists_of self.old.caps
+            (all_but_last ((key, held) ∷ self.old.window))
+            (option_map_or (λ e. e ∷ self.old.probation)
+            (last_entry self.old.window) self.old.probation)
+            self.old.protected) }
+        ensures err { OnErr result (self.new ≡ self.old) }
+    {
+        let Some((last_key, last)) = self.window.peek_lru() else {
+            unreachable!();
+        };
+        let (last_key, last) = (*last_key, last.share_held()?);
+        push_new(&mut self.probation, last_key, last)?;
+        if push_past(&mut self.window, key, held).is_err() {
+            drop(self.probation.pop_entry(&last_key));
+            return Err(NoMemory);
+        }
+        Ok(())
+    }
+
+    // A new entry comes to the front of a full window, which gives up its last: that goes where its
+    // fate says. Answers the weight that left.
+    fn settle_full(
         &mut self,
+        key: K,
+        held: Held<V>,
         sketch: &Sketch,
-        now: u64,
         notices: &mut Notices<K, V>,
     ) -> Result<u64, NoMemory>
-        requires distinct { IsDistinct K.eq (keys_of (self.old.probation ++ self.old.window)) }
-        requires main_part { length self.old.probation + length self.old.protected
-            ≤ main_cap self.old.caps }
+        requires placed { IsPlaced K.eq V.weight self.old }
+        requires elsewhere { lookup (K.eq key) self.old.window ≡ None }
+        requires full { self.old.caps.window ≤ length self.old.window }
         requires room { 0 < notices.old.room }
-        ensures state { OnOk result (self.new
-            ≡ (overflowed (estimates sketch.now K.word) now self.old).0) }
-        ensures notices { OnOk result (notices.new
-            ≡ appended (overflowed (estimates sketch.now K.word) now self.old).1 notices.old) }
-        ensures weight { IfOk result (λ gone. weight_of self.new + gone ≡ weight_of self.old) }
+        ensures state { OnOk result (self.new ≡ (overflowed (estimates sketch.now K.word)
+            held.written (grown (key, held) self.old)).0) }
+        ensures notices { OnOk result (notices.new ≡ appended
+            (overflowed (estimates sketch.now K.word) held.written (grown (key, held) self.old)).1
+            notices.old) }
+        ensures weight { IfOk result (λ gone.
+            weight_of self.new + gone ≡ weight_of (grown (key, held) self.old)) }
         ensures err { OnErr result ((self.new ≡ self.old) × (notices.new ≡ notices.old)) }
     {
-        let Some((key, held)) = self.window.peek_lru() else {
-            return Ok(0);
+        let Some((last_key, last)) = self.window.peek_lru() else {
+            unreachable!();
         };
-        match self.fate_of(*key, held, sketch, now) {
-            Fate::Leaves(cause) => { Ok(tell_left(notices, self.window.pop_lru(), cause)) }
+        match self.fate_of(*last_key, last, sketch, held.written) {
+            Fate::Leaves(cause) => {
+                let left = push_past(&mut self.window, key, held)?;
+                Ok(tell_left(notices, left, cause))
+            }
             Fate::Enters => {
-                let (key, held) = (*key, held.share_held()?);
-                push_new(&mut self.probation, key, held)?;
-                drop(self.window.pop_lru());
+                self.pass_on(key, held)?;
                 Ok(0)
             }
             Fate::Ousts(cause) => {
-                let (key, held) = (*key, held.share_held()?);
-                push_new(&mut self.probation, key, held)?;
-                let gone = tell_left(notices, self.probation.pop_lru(), cause);
-                drop(self.window.pop_lru());
-                Ok(gone)
+                self.pass_on(key, held)?;
+                Ok(tell_left(notices, self.probation.pop_lru(), cause))
             }
         }
     }
 
-    // A new entry comes to window's front, at the moment when it was written. Where window is past
-    // its cap, it gives up its last. Answers the weight that left.
+    // A new entry comes to window's front, at the moment when it was written. A full window gives up
+    // its last. Answers the weight that left.
     pub(crate) fn settle(
         &mut self,
         key: K,
@@ -134,17 +162,10 @@ impl<K: CacheKey, V: Share + Weighs> Caches<K, V> {
             weight_of self.new + gone ≡ weight_of self.old + held.weight) }
         ensures err { OnErr result ((self.new ≡ self.old) × (notices.new ≡ notices.old)) }
     {
-        let now = held.written;
-        push_new(&mut self.window, key, held)?;
-        if self.window.len() <= self.caps.window as usize {
+        if self.window.len() < self.caps.window as usize {
+            push_new(&mut self.window, key, held)?;
             return Ok(0);
         }
-        match self.give_up(sketch, now, notices) {
-            Ok(gone) => Ok(gone),
-            Err(refused) => {
-                drop(self.window.pop_entry(&key));
-                Err(refused)
-            }
-        }
+        self.settle_full(key, held, sketch, notices)
     }
 }

@@ -14,7 +14,7 @@ ghost use Rattle.wt_regions.specs.Touch.{looked_at, touched};
 
 use crate::caches::Caches;
 use crate::held::Held;
-use crate::lru_cache::{freshen, held_in, push_new, replace_in};
+use crate::lru_cache::{freshen, held_in, push_new, push_past, replace_in};
 use crate::weighs::Weighs;
 use wt_keys::{CacheKey, NoMemory, Share};
 
@@ -99,8 +99,7 @@ impl<K: CacheKey, V: Share + Weighs> Caches<K, V> {
     // Brings the key's entry from probation to protected's front, with other contents, and answers
     // the old ones. Where protected is then past its cap, its last goes back to probation's front.
     //
-    // The pushes come first, each in the spare place of its cache; a push that was made is undone
-    // by a pop.
+    // The pushes come first; one that was made is undone by a pop if the other is refused.
     pub(crate) fn promote(&mut self, key: K, moved: Held<V>) -> Result<Option<Held<V>>, NoMemory>
         requires placed { IsPlaced K.eq V.weight self.old }
         requires elsewhere { lookup (K.eq key) self.old.window ≡ None }
@@ -119,11 +118,10 @@ impl<K: CacheKey, V: Share + Weighs> Caches<K, V> {
         let back = last.share_held()?;
         let back_key = *last_key;
         push_new(&mut self.probation, back_key, back)?;
-        if push_new(&mut self.protected, key, moved).is_err() {
+        if push_past(&mut self.protected, key, moved).is_err() {
             drop(self.probation.pop_entry(&back_key));
             return Err(NoMemory);
         }
-        drop(self.protected.pop_lru());
         Ok(self.probation.pop(&key))
     }
 }

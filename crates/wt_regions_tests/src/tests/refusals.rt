@@ -1,5 +1,5 @@
 // Refused memory and refused shares: what is refused changes nothing, and goes well when it is
-// tried again.
+// tried again. No step leaks a value.
 use super::{Run, caps};
 use std::alloc::Global;
 use std::cell::Cell;
@@ -138,6 +138,14 @@ fn a_refused_step_changes_nothing(rt: HostRuntime) -> Result<(), Fail> {
         }
         left.set(0);
         assert!(rt; refused >= *shares, "{version}: {refused} of {shares}");
+        // Each value that is held or told of owns the counter once, and nothing else does.
+        let values = run.regions.len().saturating_add(run.notices.list().len());
+        let owners = values.saturating_add(1);
+        assert_eq!(rt;
+            Rc::strong_count(&left),
+            owners,
+            "{version}: {owners} owners"
+        );
     }
     Ok(())
 }

@@ -19,8 +19,8 @@ push_new-requires-2-clause-fresh g c κs within =
     let last : last_entry i.protected.entries ≡ Some (c.in-Some.last_key.now, c.in-Some.last.now) = search rules in
     last_apart g.K.PartialEq.eq (g.met.K.Eq g.world.𝓛 g.world.𝓜 g.world.𝓡 ((λ s x. x), (λ x. x), (λ x. x), λ x. x)).laws i.probation.entries i.protected.entries (c.in-Some.last_key.now, c.in-Some.last.now) (distinct_after g.K.PartialEq.eq i.window.entries _ placed.distinct) last
 
-pub push_new-requires-3-clause-fresh : goal.push_new-requires-3-clause-fresh
-push_new-requires-3-clause-fresh g c κs within =
+pub push_past-requires-clause-fresh : goal.push_past-requires-clause-fresh
+push_past-requires-clause-fresh g c κs within =
     let i = c.self.inside in
     let placed = rw (← c.self.view_is) at c.requires.placed in
     let on = rw (← c.self.view_is) at c.requires.there in
