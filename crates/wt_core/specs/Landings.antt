@@ -21,7 +21,7 @@ abbrev pub IsLanding : {K V : Type 0} → (K → K → Bool) → State K V → C
 IsLanding eq s (call.Land id k what now) = IsTrue (is_some (row_of eq k id s.flights))
 IsLanding eq s c = ⊥
 
--- a call that closes one, without a value to store
+-- a call that closes an open load without a value to store
 abbrev pub IsEmptyLanding : {K V : Type 0} → (K → K → Bool) → State K V → Call K V → Type 0
 IsEmptyLanding eq s (call.Land id k what now) = IsEmpty what × IsTrue (is_some (row_of eq k id s.flights))
 IsEmptyLanding eq s c = ⊥
@@ -31,7 +31,7 @@ abbrev pub is_stored : {K V : Type 0} → (V → ℕ) → State K V → Option (
 is_stored weight s (Some row) (Keep v) = is_kept weight row v s
 is_stored weight s row what = false
 
--- a call that takes no memory in this state
+-- a call that takes no memory in this state: a removal, a look that misses, a landing that stores nothing
 abbrev pub TakesNone : {K V : Type 0} → (K → K → Bool) → (V → ℕ) → State K V → Call K V → Type 0
 TakesNone eq weight s (call.Look k now) = has_at eq k (max s.latest now) s.regions ≡ false
 TakesNone eq weight s (call.Land id k what now) = is_stored weight s (row_of eq k id s.flights) what ≡ false

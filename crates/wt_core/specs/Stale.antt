@@ -19,7 +19,7 @@ abbrev pub IsUnkept : {V : Type 0} → Reply V → Type 0
 IsUnkept (Kept n) = ⊥
 IsUnkept _ = Unit {0}
 
--- a reply that is what was foreseen
+-- a reply that is what was foreseen: a hit, a hit with a load beside it, a join or a new load, with that id
 abbrev pub IsMetBy : {V : Type 0} → Foreseen → Reply V → Type 0
 IsMetBy foreseen.Hit (Hit v) = Unit {0}
 IsMetBy (foreseen.HitLead id) (HitLead v there) = there ≡ id
@@ -28,7 +28,7 @@ IsMetBy (foreseen.Lead id) (Lead there) = there ≡ id
 IsMetBy _ _ = ⊥
 
 module _ {K V : Type 0} (eq : K → K → Bool) where
-  -- whether a call makes what is being loaded for the key stale
+  -- whether a call makes what is being loaded for the key stale: a put, a removal or a forget of the key, or a clear
   abbrev pub makes_stale : K → Call K V → Bool
   makes_stale k (Put j v now) = eq k j
   makes_stale k (DropKey j now) = eq k j

@@ -19,7 +19,7 @@ sums_of a b = record {
   weight = a.weight + b.weight;
 }
 
--- no number is above a bound
+-- each number is below a bound
 pub record AreBelow (bound : ℕ) (t : Stats) : Type 0 where
   pub lookups : t.lookups < bound
   pub hits : t.hits < bound
