@@ -2,7 +2,7 @@
 use Rattle.std.specs.Prelude.{ℕ, zero, suc, ◌+◌, ◌-◌, ◌*◌, ◌/◌, ◌%◌, ◌^◌, nat_le, if◌then◌else◌, List, [], ◌∷◌, map, bit_xor}
 use Rattle.std.specs.List.{fold}
 
--- the product with a factor, in 64 bits
+-- the product of a factor and a word, in 64 bits
 abbrev pub mixed : ℕ → ℕ → ℕ
 mixed factor word = (factor * word) % 2 ^ 64
 
@@ -18,12 +18,12 @@ row_factors = 0x9E3779B97F4A7C15 ∷ 0xBF58476D1CE4E5B9 ∷ 0x94D049BB133111EB �
 abbrev pub places : ℕ → ℕ → List ℕ
 places word bits = map (λ factor. place factor word bits) row_factors
 
--- the first of n numbers, from bits on, that gives a place for each of so many entries
+-- the first of n numbers of bits, from `bits` on, that gives a place for each entry
 unfoldable pub bits_from : ℕ → ℕ → ℕ → ℕ
 bits_from zero bits entries = bits
 bits_from (suc n) bits entries = if nat_le entries (2 ^ bits) then bits else bits_from n (bits + 1) entries
 
--- the width of a row is the least power of two, from 64 on, that is not below the entries
+-- the bits of a place: the width of a row is the least power of two, from 64 on, that is not below the entries
 unfoldable pub bits_for : ℕ → ℕ
 bits_for entries = bits_from 10 6 entries
 
@@ -31,7 +31,7 @@ bits_for entries = bits_from 10 6 entries
 abbrev pub shard_of : ℕ → ℕ → ℕ
 shard_of word shards = mixed 0xC2B2AE3D27D4EB4F word / (2 ^ 64 / shards)
 
--- a byte more, by FNV-1a
+-- an FNV-1a hash with a byte more
 abbrev pub with_byte : ℕ → ℕ → ℕ
 with_byte word byte = mixed 0x100000001B3 (bit_xor word byte)
 

@@ -1,7 +1,7 @@
 -- What the fields of a name keep.
 use Rattle.std.specs.Prelude.{ℕ, ◌≡◌, ◌≤◌, ◌-◌, List, ◌++◌, length, take, replicate}
 
--- a name's bytes, and zeros behind them, in 24 cells
+-- what a name's fields keep: its bytes, and zeros behind them, in 24 cells
 pub record IsName (cells : List ℕ) (len : ℕ) : Type 0 where
   pub fits : len ≤ 24
   pub all : length cells ≡ 24

@@ -7,11 +7,11 @@ use Rattle.std.specs.RandomState.{initial_hasher}
 use Rattle.wt_keys.specs.declared.seeded.Seed.{Seed}
 use Rattle.wt_keys.specs.declared.seeded.Seeded.{Seeded}
 
--- the key itself
+-- the key that a seeded key was made from
 abbrev pub key_of : {K : Type 0} → Seeded K → K
 key_of s = s.key
 
--- its word
+-- the word of a seeded key
 abbrev pub word_of : {K : Type 0} → Seeded K → ℕ
 word_of s = s.word
 

@@ -6,7 +6,7 @@ use Rattle.wt_sketch.specs.Sketch.{Counters, rose, half, places_in, counted_word
 abbrev pub halves : Counters → ℕ → Bool
 halves s word = rose (places_in s word) s && (s.additions + 1 == 10 * s.entries)
 
--- after one word more: raised up to 15 where it is the key's, and halved where the sketch halves
+-- the number after one word more: raised up to 15 if the word is the key's, halved if the sketch halves
 abbrev pub alone_next : ℕ → ℕ → Counters → ℕ → ℕ
 alone_next key n s word =
     let raised : ℕ = if (word == key) && nat_lt n 15 then n + 1 else n in

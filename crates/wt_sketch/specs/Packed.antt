@@ -2,7 +2,8 @@
 use Rattle.std.specs.Prelude.{ℕ, ◌≡◌, ◌*◌, ◌^◌, ◌<◌, ◌≤◌}
 use Rattle.wt_keys.specs.Hash.{bits_for}
 
--- the fields fit: four rows of words 0 to 3
+-- what a sketch's fields keep: the range of the entries, the bits that they need, the additions below the next halving, and four rows of
+-- words that are wide enough
 pub record IsPacked (entries bits additions words_0 words_1 words_2 words_3 : ℕ) : Type 0 where
   pub range : (1 ≤ entries) × (entries ≤ 65536)
   pub wide : bits ≡ bits_for entries

@@ -40,7 +40,7 @@ estimate ps s = min (min (at s.row_0 (at ps 0)) (at s.row_1 (at ps 1))) (min (at
 abbrev pub rises : ℕ → List ℕ → Bool
 rises p row = nat_lt (at row p) 15
 
--- the counter at a place raised, where it can rise
+-- a row with the counter at a place raised, if it can rise
 abbrev pub raised : ℕ → List ℕ → List ℕ
 raised p row = if rises p row then set row p (at row p + 1) else row
 
@@ -48,7 +48,7 @@ raised p row = if rises p row then set row p (at row p + 1) else row
 abbrev pub rose : List ℕ → Counters → Bool
 rose ps s = rises (at ps 0) s.row_0 || (rises (at ps 1) s.row_1 || (rises (at ps 2) s.row_2 || rises (at ps 3) s.row_3))
 
--- each of them raised, and one addition more
+-- each of the four raised, and one addition more
 abbrev pub with_addition : List ℕ → Counters → Counters
 with_addition ps s = record {
   entries = s.entries;
@@ -78,7 +78,7 @@ aged s = if s.additions == 10 * s.entries then halved s else s
 unfoldable pub counted : List ℕ → Counters → Counters
 counted ps s = if rose ps s then aged (with_addition ps s) else s
 
--- the places of a word
+-- the places of a word in this sketch
 abbrev pub places_in : Counters → ℕ → List ℕ
 places_in s word = places word (bits_for s.entries)
 

@@ -217,7 +217,14 @@ fn entries_are_1_to_65536(rt: HostRuntime) -> Result<(), Fail> {
             }
         }
     }
-    for (entries, bits) in [(1, 6), (64, 6), (65, 7), (65_536, 16)] {
+    for (entries, bits) in [
+        (1, 6),
+        (64, 6),
+        (65, 7),
+        (32_769, 16),
+        (65_535, 16),
+        (65_536, 16),
+    ] {
         assert_eq!(rt; Sketch::new(rt.alloc(), entries)?.bits(), bits);
     }
     Ok(())

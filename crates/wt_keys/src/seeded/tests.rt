@@ -1,11 +1,13 @@
 use crate::{CacheKey, FixedBytes, Name, Seed, places, shard_of};
 use std::alloc::Global;
 use std::collections::HashSet;
+use std::fmt::Write;
 use std::hash::{BuildHasher, BuildHasherDefault, FoldHasher};
-use std::io;
 use std::process::Abort;
 use std::random::RandomSource;
+use std::sync::atomic::{AtomicU64, Ordering};
 use std::test::Fail;
+use std::{fmt, io};
 
 const AIMED: usize = 1000;
 
@@ -120,6 +122,10 @@ fn a_seed_prints_no_bit_of_itself_and_a_key_no_word(rt: HostRuntime) -> Result<(
         "7"
     );
     assert_eq!(rt;
+        format!(in rt.alloc(); "{:#?}", seed.key(7u64))?.as_str(),
+        "7"
+    );
+    assert_eq!(rt;
         format!(in rt.alloc(); "{:>3}", seed.key(7u64))?.as_str(),
         "  7"
     );
@@ -127,6 +133,58 @@ fn a_seed_prints_no_bit_of_itself_and_a_key_no_word(rt: HostRuntime) -> Result<(
         format!(in rt.alloc(); "{:?}", seed.key(name(b"foobar")?))?.as_str(),
         "\"foobar\""
     );
+    Ok(())
+}
+
+// Counts the bytes that it is asked for.
+#[derive(Drop)]
+struct Asked(AtomicU64);
+
+impl RandomSource for Asked {
+    fn fill_bytes(&self, buf: &mut [u8]) -> io::Result<()> {
+        self.0.fetch_add(buf.len() as u64, Ordering::SeqCst);
+        FixedBytes([7; 16]).fill_bytes(buf)
+    }
+}
+
+#[test]
+fn a_seed_takes_sixteen_bytes_of_its_source(rt: HostRuntime) -> Result<(), Fail> {
+    let asked = Asked(AtomicU64::new(0));
+    let seed = Seed::new(&asked)?;
+    assert_eq!(rt; asked.0.load(Ordering::SeqCst), 16);
+    assert!(rt; seed.key(1u64) == other()?.key(1u64));
+    Ok(())
+}
+
+#[test]
+fn fixed_bytes_are_given_whole_and_no_byte_past_them(rt: HostRuntime) -> Result<(), Fail> {
+    for byte in [0, 0x7F, 0x80, 0xFF] {
+        let mut buf = [1u8; 20];
+        FixedBytes([byte; 16]).fill_bytes(&mut buf)?;
+        assert!(rt; buf[..16].iter().all(|given| *given == byte));
+        assert!(rt; buf[16..].iter().all(|left| *left == 1));
+    }
+    Ok(())
+}
+
+// Takes nothing.
+#[derive(Drop)]
+struct Full;
+
+impl fmt::Write for Full {
+    fn write_str(&mut self, _text: &str) -> fmt::Result {
+        Err(fmt::Error)
+    }
+}
+
+#[test]
+fn a_write_that_is_refused_is_told(rt: HostRuntime) -> Result<(), Fail> {
+    let seed = counted()?;
+    assert!(rt; write!(Full, "{}", seed.key(7u64)).is_err());
+    assert!(rt; write!(Full, "{:?}", seed.key(7u64)).is_err());
+    assert!(rt; write!(Full, "{}", name(b"foobar")?).is_err());
+    assert!(rt; write!(Full, "{:?}", name(b"foobar")?).is_err());
+    assert!(rt; write!(Full, "{seed:?}").is_err());
     Ok(())
 }
 
