@@ -1,28 +1,24 @@
 -- The open loads after a call, and their landings.
-use Rattle.std.proofs.Common.{◌≡◌, ℕ, suc, ◌+◌, ◌<◌, ◌≤◌, Bool, true, false, cond, not, ◌&&◌, List, [], ◌∷◌, ◌++◌, map, filter, length, get_or, Option, Some, None, refl, sym, ap, subst, ◌∙◌, arith, length-append}
+use Rattle.std.proofs.Common.{◌≡◌, ℕ, suc, ◌+◌, ◌<◌, ◌≤◌, Bool, true, false, cond, not, ◌&&◌, List, [], ◌∷◌, ◌++◌, map, filter, length, get_or, Option, Some, None, refl, sym, ap, subst, ◌∙◌, arith}
 use Rattle.std.specs.Prelude.{◌==◌, ◌-◌, IsTrue, is_some}
 use Rattle.std.specs.List.{find, All, AllPairs}
 use Rattle.std.specs.Option.{option_map_or}
 use Rattle.std.proofs.lemmas.Bool.{eqb-true}
-use Rattle.std.proofs.lemmas.List.{map-append, length-map}
+use Rattle.std.proofs.lemmas.List.{map-append}
 use Rattle.std.proofs.lemmas.List.Elements.{All-head, All-tail, All-append, All-cons, All-nil, All-filter}
-use Rattle.wt_regions.specs.declared.touch.Found.{Found}
-use Rattle.wt_regions.specs.declared.touch.Found.TheVariants as found
 use Rattle.wt_flights.specs.declared.row.Row.{Row}
 use Rattle.wt_flights.specs.Outcomes.{Leading}
-use Rattle.wt_flights.specs.Rows.{Flights, begun, current_of, forgotten, forgotten_all, is_current, joined, landed, not_current, one_more, row_of}
+use Rattle.wt_flights.specs.Rows.{Flights, begun, forgotten, forgotten_all, is_current, joined, landed, not_current, one_more, row_of}
 use Rattle.wt_core.specs.declared.calls.Call.{Call}
 use Rattle.wt_core.specs.declared.calls.Call.TheVariants.{Look, Seek, Land, Put, DropKey, Clear, Forget, Clean}
 use Rattle.wt_core.specs.declared.calls.Land.{Land as Landing}
 use Rattle.wt_core.specs.declared.calls.Land.TheVariants as land
 use Rattle.wt_core.specs.Landings.{IsEmpty, IsLanding, IsEmptyLanding, TakesNone, is_stored}
 use Rattle.wt_core.specs.Step.{refusal_of, spent, step}
-use Rattle.wt_core.specs.declared.calls.Foreseen.{Foreseen}
-use Rattle.wt_core.specs.declared.calls.Foreseen.TheVariants as foreseen
 use Rattle.wt_core.specs.declared.calls.Reply.{Reply}
-use Rattle.wt_core.specs.declared.calls.Reply.TheVariants.{Hit, HitLead, Join, Lead}
-use Rattle.wt_core.specs.State.{State, found as found_in, stepped}
-use Rattle.wt_core.specs.Seek.{foreseen_at, foreseen_of, met, seek_reply, refreshes}
+use Rattle.wt_core.specs.declared.calls.Reply.TheVariants.{Hit, HitLead, Join}
+use Rattle.wt_core.specs.State.{State, stepped}
+use Rattle.wt_core.specs.Seek.{seek_reply}
 use Rattle.wt_core.proofs.Opens.{land-rows}
 use Rattle.wt_shards.specs.Audited.{load_at, load_of, still_open}
 use Rattle.wt_shards.proofs.Numbers.{flights_after, flights_sought, step-to}

@@ -15,7 +15,7 @@ use Rattle.wt_core.specs.Run.{run}
 use Rattle.wt_shards.specs.declared.shade.Shade.{Shade}
 use Rattle.wt_shards.specs.Outline.{shade_weight, outline, outline_call}
 
--- what is seen of a shard: how many shares of its books were given out is the last
+-- what is seen of a shard: configuration, cache, lagging copy, records, landings, and how many shares of its books were given out
 pub record Audited (K V : Type 0) : Type 0 where
   pub config : Config
   pub core : State K V
@@ -24,7 +24,7 @@ pub record Audited (K V : Type 0) : Type 0 where
   pub landings : List (Leading K)
   pub given : ℕ
 
--- what an audit sees of it
+-- what an audit sees of a shard: the lagging copy and the records
 pub record Explanation (K : Type 0) : Type 0 where
   pub lagging : State K Shade
   pub records : List (Call K Shade)
@@ -34,7 +34,7 @@ abbrev pub IsHome : {K : Type 0} → (K → ℕ) → ℕ → ℕ → K → Type 
 IsHome word shards index k = shard_of (word k) shards ≡ index
 
 module _ {K V : Type 0} where
-  -- nothing was done
+  -- a shard that nothing was done to
   abbrev pub new_shard : Config → Audited K V
   new_shard config = record {
     config = config;
@@ -50,25 +50,25 @@ module _ {K V : Type 0} where
   places s = s.config.ring
 
 module _ {K : Type 0} where
-  -- the load of a row
+  -- the load of a row: its id and key
   abbrev pub load_of : Row K → ℕ × K
   load_of r = (r.id, r.key)
 
-  -- the load of a landing
+  -- the load of a landing: its id and key
   abbrev pub load_at : Leading K → ℕ × K
   load_at l = (l.id, l.key)
 
-  -- their ids rise
+  -- each landing's id is above those before it
   abbrev pub AreRising : List (Leading K) → Type 0
   AreRising ls = AllPairs (λ (l m : Leading K). l.id < m.id) ls
 
-  -- the landings that stay open
+  -- the landings that stay open after a call
   abbrev pub still_open : {V : Type 0} → (K → K → Bool) → Call K V
       → List (Leading K) → List (Leading K)
   still_open eq (Land id k what now) ls = filter (λ l. not ((l.id == id) && eq k l.key)) ls
   still_open eq c ls = ls
 
--- a state of one shard of so many: each value answers its key, and each key is the shard's
+-- a lawful state of one shard: each value may stand for its key, each key is the shard's
 pub record IsShardState {K V : Type 0} (eq : K → K → Bool) (word : K → ℕ) (weight : V → ℕ)
     (answers : V → K → Bool) (shards index : ℕ) (s : State K V) : Type 0 where
   pub lawful : IsLawful eq weight s
@@ -118,7 +118,7 @@ module _ {K V : Type 0} (eq : K → K → Bool) (word : K → ℕ) (weight : V �
     landings = still_open eq c s.landings ++ new;
   }
 
-  -- a step of the shard
+  -- a step of the shard: the fewest records go over, and the call is recorded
   abbrev pub shard_step : Call K V → List (Leading K) → Audited K V → Audited K V
   shard_step c new s = recorded c new (moved (excess c s) s)
 

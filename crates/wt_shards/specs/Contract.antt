@@ -1,5 +1,5 @@
 -- What a call promises that hands on what another one made: one record for each layer.
-use Rattle.std.specs.Prelude.{◌≡◌, ◌+◌, ◌*◌, ◌<◌, ◌≤◌, ℕ, Bool, true, false, List, Result, Err, None, IfOk, IfErr, OnOk, OnErr, IsOkUnless, MatchOption}
+use Rattle.std.specs.Prelude.{◌≡◌, ◌+◌, ◌*◌, ◌<◌, ◌≤◌, ℕ, Bool, true, List, Result, Err, None, IfOk, IfErr, OnOk, OnErr, IsOk, IsOkUnless, MatchOption}
 use Rattle.wt_keys.specs.declared.fault.Fault.{Fault}
 use Rattle.wt_keys.specs.declared.fault.Fault.TheVariants.{NoMemory}
 use Rattle.wt_flights.specs.Outcomes.{Leading}
@@ -7,17 +7,19 @@ use Rattle.wt_regions.specs.Notices.{NoticeList, appended}
 use Rattle.wt_core.specs.declared.calls.Call.{Call}
 use Rattle.wt_core.specs.declared.calls.Reply.{Reply}
 use Rattle.wt_core.specs.Faults.{is_fault_of, is_step_fault}
+use Rattle.wt_core.specs.Landings.{TakesNone}
 use Rattle.wt_core.specs.Step.{step, refusal_of}
-use Rattle.wt_shards.specs.Audited.{Audited, IsCaughtUp, shard_step}
+use Rattle.wt_shards.specs.Audited.{Audited, IsCaughtUp, excess, shard_step}
 use Rattle.wt_shards.specs.Counts.{Counted, counted, is_hit}
-use Rattle.wt_shards.specs.Outer.{IsSomeStep}
+use Rattle.wt_shards.specs.Outer.{IsSomeStep, HasCause}
 use Rattle.wt_shards.specs.Passes.{Passed, with_step, with_steps, steps_at}
 use Rattle.wt_shards.specs.Place.{Layout, Place, home_of, place_of}
 use Rattle.wt_shards.specs.Sweeps.{AreSwept}
 use Rattle.wt_shards.specs.Told.{HasTold}
 use Rattle.wt_shards.specs.declared.done.Done.{Done}
 
--- A call of a shard that its caller owns. `said` makes the cache's reply of what is returned, and `opens` the landings that the call opens.
+-- what a call of a shard promises that its caller owns: one recorded step, or a refusal that leaves the cache. `said` makes the cache's
+-- reply of what is returned, and `opens` the landings that the call opens
 pub record IsShardCall {K V R : Type 0} (eq : K → K → Bool) (word : K → ℕ) (weight : V → ℕ) (entries : ℕ) (c : Call K V)
     (said : R → Reply V) (opens : R → List (Leading K)) (old new : Audited K V) (mine after : Counted) (before list : NoticeList K V)
     (result : Result R Fault) : Type 0 where
@@ -37,12 +39,14 @@ pub record IsShardCall {K V R : Type 0} (eq : K → K → Bool) (word : K → �
   pub refusal : MatchOption (refusal_of eq word weight old.core c) (IsOkUnless result NoMemory) (λ f. (result ≡ Err f) × (new ≡ old))
   -- no other fault comes than the call's own
   pub faults : IfErr result (λ f. is_fault_of c f ≡ true)
+  -- no memory is refused to a call that takes none in the cache, if no record has to go over to the lagging copy
+  pub none_succeeds : refusal_of eq word weight old.core c ≡ None → TakesNone eq weight old.core c → excess eq word weight c old ≡ 0 → IsOk result
   -- whatever is returned: few notices, and no room lost
   pub told : HasTold entries before list
   -- a fault leaves the cache, the caller's shares and the notices; some records may have gone over to the lagging copy
   pub err : OnErr result (IsCaughtUp eq word weight c old new × (after ≡ mine) × (list ≡ before))
 
--- A call of a shard behind its lock: a step there of some lawful state, and never a word on the state of now.
+-- what a call of a shard behind its lock promises: a step there of some lawful state, or a refusal that moves nothing
 pub record IsLockedCall {K V R : Type 0} (eq : K → K → Bool) (word : K → ℕ) (weight : V → ℕ) (answers : V → K → Bool) (p : Place) (c : Call K V)
     (said : R → Reply V) (mine after : Counted) (before list : NoticeList K V) (result : Result (Done R) Fault) : Type 0 where
   -- the caller's shares count the step, and whether it is a hit
@@ -53,12 +57,15 @@ pub record IsLockedCall {K V R : Type 0} (eq : K → K → Bool) (word : K → �
   pub step : IfOk result (λ done. IsSomeStep eq word weight answers p c (said done.reply) done.step before list)
   -- no other fault comes than the call's own
   pub faults : IfErr result (λ f. is_fault_of c f ≡ true)
+  -- memory is refused, or some lawful state of the shard refuses the call by this fault, with its numbers
+  pub cause : IfErr result (HasCause eq word weight answers p c)
   -- whatever is returned: few notices, and no room lost
   pub told : HasTold p.config.entries before list
   -- a fault leaves the caller's shares and the notices
   pub err : OnErr result ((after ≡ mine) × (list ≡ before))
 
--- A call that goes to the shard of a key, with a caller's pass.
+-- what a call promises that goes to the shard of a key, with a caller's pass: a step there of some lawful state, or a refusal that moves
+-- nothing
 pub record IsHomeCall {K V R : Type 0} (eq : K → K → Bool) (word : K → ℕ) (weight : V → ℕ) (answers : V → K → Bool) (l : Layout) (key : K) (c : Call K V)
     (said : R → Reply V) (old new : Passed) (before list : NoticeList K V) (result : Result (Done R) Fault) : Type 0 where
   -- the pass counts the step at that shard, and whether it is a hit
@@ -69,12 +76,14 @@ pub record IsHomeCall {K V R : Type 0} (eq : K → K → Bool) (word : K → ℕ
   pub step : IfOk result (λ done. IsSomeStep eq word weight answers (place_of (home_of word key l) l) c (said done.reply) done.step before list)
   -- no other fault comes than the call's own
   pub faults : IfErr result (λ f. is_fault_of c f ≡ true)
+  -- memory is refused, or some lawful state of that shard refuses the call by this fault, with its numbers
+  pub cause : IfErr result (HasCause eq word weight answers (place_of (home_of word key l) l) c)
   -- whatever is returned: few notices, and no room lost
   pub told : HasTold l.config.entries before list
   -- a fault leaves the pass and the notices
   pub err : OnErr result ((new ≡ old) × (list ≡ before))
 
--- A call that goes to every shard in turn, and stops at the first fault.
+-- what a call promises that goes to each shard in turn, and stops at the first fault
 pub record IsSweepCall {K V : Type 0} (eq : K → K → Bool) (word : K → ℕ) (weight : V → ℕ) (answers : V → K → Bool) (l : Layout) (c : Call K V)
     (old new : Passed) (before list : NoticeList K V) (result : Result (Unit {0}) Fault) : Type 0 where
   -- the pass counts a step at each shard, none of them a hit
@@ -85,5 +94,6 @@ pub record IsSweepCall {K V : Type 0} (eq : K → K → Bool) (word : K → ℕ)
   pub faults : IfErr result (λ f. is_step_fault f ≡ true)
   -- whatever is returned: few notices, and no room lost
   pub told : HasTold (l.shards * l.config.entries) before list
-  -- after a fault the pass shows at how many shards the step was made
-  pub err : OnErr result ((made : ℕ) × (made < l.shards) × (new ≡ with_steps made old) × AreSwept eq word weight answers l c made before list)
+  -- after a fault the pass shows at how many shards the step was made, and the fault has its cause at the next one
+  pub err : IfErr result (λ f. (made : ℕ) × (made < l.shards) × (new ≡ with_steps made old) × AreSwept eq word weight answers l c made before list
+      × HasCause eq word weight answers (place_of made l) c f)

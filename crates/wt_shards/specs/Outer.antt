@@ -1,5 +1,7 @@
 -- What a step of the shards shows.
-use Rattle.std.specs.Prelude.{◌≡◌, ℕ, ◌+◌, Bool, None}
+use Rattle.std.specs.Prelude.{◌≡◌, ◌⊎◌, ℕ, ◌+◌, Bool, Some, None}
+use Rattle.wt_keys.specs.declared.fault.Fault.{Fault}
+use Rattle.wt_keys.specs.declared.fault.Fault.TheVariants.{NoMemory}
 use Rattle.wt_regions.specs.Notices.{NoticeList, appended}
 use Rattle.wt_core.specs.declared.calls.Call.{Call}
 use Rattle.wt_core.specs.declared.calls.Reply.{Reply}
@@ -22,6 +24,17 @@ pub record IsSomeStep {K V : Type 0} (eq : K → K → Bool) (word : K → ℕ) 
   pub allowed : refusal_of eq word weight state c ≡ None
   pub replied : reply ≡ (step eq word weight state c).reply
   pub noticed : new ≡ appended (step eq word weight state c).notices old
+
+-- in some lawful state of the shard the call is refused by this fault
+pub record IsSomeRefusal {K V : Type 0} (eq : K → K → Bool) (word : K → ℕ) (weight : V → ℕ)
+    (answers : V → K → Bool) (p : Place) (c : Call K V) (f : Fault) : Type 0 where
+  pub state : State K V
+  pub lawful : IsStateAt eq word weight answers p state
+  pub refused : refusal_of eq word weight state c ≡ Some f
+
+-- why a call is refused: memory, or a lawful state of the shard
+abbrev pub HasCause : {K V : Type 0} → (K → K → Bool) → (K → ℕ) → (V → ℕ) → (V → K → Bool) → Place → Call K V → Fault → Type 0
+HasCause eq word weight answers p c f = (f ≡ NoMemory) ⊎ IsSomeRefusal eq word weight answers p c f
 
 -- leads and tickets are of the asked key, and a lead's ticket is of its landing
 abbrev pub IsOfKey : {K V : Type 0} → K → ℕ → Sought K V → Type 0

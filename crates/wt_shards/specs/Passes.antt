@@ -2,7 +2,7 @@
 use Rattle.std.specs.Prelude.{ℕ, zero, suc, Bool, false, List, [], ◌∷◌, slice_index_or, slice_set, Option, Some, None}
 use Rattle.wt_shards.specs.Counts.{Counted, counted, no_steps}
 
--- how many shards there are, and what was done at each of the numbers 0 to 3
+-- what is seen of a pass: how many shards there are, and what was done at each of the numbers 0 to 3
 pub record Passed : Type 0 where
   pub shards : ℕ
   pub counts : List Counted
@@ -24,7 +24,7 @@ steps_at i p = (counts_at i p).steps
 abbrev pub hits_at : ℕ → Passed → ℕ
 hits_at i p = (counts_at i p).hits
 
--- nothing was done
+-- nothing was done at any shard
 abbrev pub new_pass : ℕ → Passed
 new_pass shards = record {
   shards = shards;

@@ -55,7 +55,7 @@ module _ {K V : Type 0} (eq : K → K → Bool) (word : K → ℕ) (weight : V �
     pub lawful : IsStateAt eq word weight answers p state
     pub differ : AreNotSums p.index passes state.step state.counts.hits
 
-  -- each total is such a one
+  -- each total is that of some lawful state of its shard, and the passes add up to it
   abbrev pub AreTotals : Layout → List Passed → Settled → Type 0
   AreTotals l passes t =
       IfSome t.zero (IsTotal (place_of 0 l) passes)
@@ -69,7 +69,7 @@ module _ {K V : Type 0} (eq : K → K → Bool) (word : K → ℕ) (weight : V �
     pub lawful : IsStateAt eq word weight answers p state
     pub sums : AreSums p.index passes state.step state.counts.hits
 
-  -- so at each of the first shards
+  -- at each of the first shards the passes add up to some lawful state of it
   abbrev pub AddUpBelow : Layout → List Passed → ℕ → Type 0
   AddUpBelow l passes zero = Unit {0}
   AddUpBelow l passes (suc n) = AddUpBelow l passes n × AddUp (place_of n l) passes

@@ -7,6 +7,7 @@ mod books;
 mod closed;
 mod done;
 mod explained;
+mod hold;
 mod kept;
 mod lag;
 mod laws;

@@ -1,5 +1,5 @@
 // What the shards end with.
-ghost use Rattle.std.specs.Prelude.{◌≡◌};
+ghost use Rattle.std.specs.Prelude.{◌≡◌, ◌<◌, IsSome};
 
 use crate::books::Books;
 use crate::closed::Closed;
@@ -18,7 +18,7 @@ pub struct Totals<B: Books> {
 }
 
 impl<B: Books> Model for Totals<B> {
-    ghost use Rattle.std.specs.Prelude.{◌<◌, ◌↔◌, IsSome};
+    ghost use Rattle.std.specs.Prelude.{◌<◌, ◌≤◌, ◌↔◌, IsSome};
     ghost use Rattle.wt_shards.specs.Totals.{Settled};
 
     ghost Value = { Settled };
@@ -32,15 +32,17 @@ impl<B: Books> Model for Totals<B> {
     } };
 
     ghost invariant = { λ t. ((0 < t.shards) ↔ IsSome t.zero) × ((1 < t.shards) ↔ IsSome t.one)
-        × ((2 < t.shards) ↔ IsSome t.two) × ((3 < t.shards) ↔ IsSome t.three) };
+        × ((2 < t.shards) ↔ IsSome t.two) × ((3 < t.shards) ↔ IsSome t.three)
+        × (t.shards ≤ 4) };
 }
 
 impl<B: Books> Totals<B> {
     ghost use Rattle.wt_shards.specs.Totals.{total_at};
 
-    /// What a shard ended with, where there is one of this number.
+    /// Returns what the shard of this number ended with: `Some` for each number below `shards`.
     pub fn of(&self, shard: usize) -> Option<Total>
-        ensures { result ≡ total_at shard self.now }
+        ensures total { result ≡ total_at shard self.now }
+        ensures there { shard < self.now.shards → IsSome result }
     {
         match shard {
             0 => total(&self.zero),

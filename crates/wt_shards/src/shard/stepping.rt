@@ -19,7 +19,7 @@ use wt_core::{Call, Notices, Reply, Weighs, steps_keep_counts, steps_tell_few};
 use wt_keys::{Answers, CacheKey, Fault, NoMemory, Share};
 
 impl<K: CacheKey, V: Share + Weighs + Answers<K>, S: ShardLedger, H: Ledger> Shard<K, V, S, H> {
-    ghost use Rattle.wt_core.specs.Landings.{IsLanding, IsEmptyLanding};
+    ghost use Rattle.wt_core.specs.Landings.{IsLanding, IsEmptyLanding, TakesNone};
     ghost use Rattle.wt_core.specs.Step.{step, refusal_of};
     ghost use Rattle.wt_shards.specs.Asked.{AnswersAsked, IsAsked};
     ghost use Rattle.wt_shards.specs.Audited.{IsAudited, IsCaughtUp, excess, load_at, load_of, moved, need, places, shard_step, still_open};
@@ -60,6 +60,10 @@ impl<K: CacheKey, V: Share + Weighs + Answers<K>, S: ShardLedger, H: Ledger> Sha
         ensures refusal { MatchOption (refusal_of K.eq K.word V.weight self.old.core call)
             (IsOkUnless result fault.NoMemory) (λ f. (result ≡ Err f) × (self.new ≡ self.old)) }
         ensures faults { IfErr result (λ f. is_fault_of call f ≡ true) }
+        // No memory is refused to a call that takes none where no record goes over.
+        ensures none_succeeds { refusal_of K.eq K.word V.weight self.old.core call ≡ None
+            → TakesNone K.eq V.weight self.old.core call
+            → excess K.eq K.word V.weight call self.old ≡ 0 → IsOk result }
         // Whatever is answered.
         ensures told { HasTold S.ShardLedger.place.config.entries notices.old notices.new }
         // A landing of an open load has its place.
@@ -109,6 +113,8 @@ impl<K: CacheKey, V: Share + Weighs + Answers<K>, S: ShardLedger, H: Ledger> Sha
             × (self.new.core.step ≡ self.old.core.step + 1)) }
 
         ensures memory { IsOkUnless result fault.NoMemory }
+        ensures none_succeeds { TakesNone K.eq V.weight self.old.core call
+            → excess K.eq K.word V.weight call self.old ≡ 0 → IsOk result }
         // Whatever is answered.
         ensures told { HasTold S.ShardLedger.place.config.entries notices.old notices.new }
         // A landing of an open load has its place.

@@ -46,9 +46,9 @@ impl<K: CacheKey, V: Share + Weighs + Answers<K>, S: ShardLedger, H: Ledger> Sha
     /// `Failed` with the number of those who shared it, or else `Gone`.
     ///
     /// `now` is in milliseconds. An open load has its place in the ring, and drops no record.
-    /// `StepsSpent` comes only where the answer would be `Gone`. Only a value that is stored takes
-    /// memory. Expected O(log(open loads)) and a move of the landings behind it, O(entries) where
-    /// many leave.
+    /// `StepsSpent` comes only if the answer would be `Gone`. A value that is stored takes memory;
+    /// if the answer would be `Gone`, the lagging copy may. Expected O(log(open loads)) and a move
+    /// of the landings behind it, O(entries) where many leave.
     pub fn land(
         &mut self,
         mine: &mut Shares<S, H>,

@@ -1,5 +1,7 @@
 // One step at one shard, under its lock.
-ghost use Rattle.std.specs.Prelude.{◌≤◌, IsTrue, IfOk};
+ghost use Rattle.std.specs.Prelude.{◌≡◌, ◌<◌, ◌≤◌, Err, IsTrue, IfOk, IfErr, true};
+ghost use Rattle.wt_keys.specs.declared.fault.Fault.TheVariants as fault;
+ghost use Rattle.wt_core.specs.Faults.{is_step_fault};
 ghost use Rattle.wt_core.specs.declared.calls.Call.TheVariants as call;
 ghost use Rattle.wt_core.specs.declared.calls.Reply.TheVariants as reply;
 ghost use Rattle.wt_shards.specs.Contract.{IsLockedCall};
@@ -9,6 +11,7 @@ ghost use Rattle.wt_shards.specs.Outer.{IsOfKey};
 ghost use Rattle.wt_shards.specs.Sought.{reply_of};
 
 use crate::done::Done;
+use crate::hold::hold;
 use crate::shard::Shard;
 use crate::shard_ledger::ShardLedger;
 use crate::shares::Shares;
@@ -40,7 +43,7 @@ pub(crate) fn look_at<
         (call.Look key now) (λ reply. reply) mine.old mine.new notices.old notices.new result }
     ensures answers { IfOk result (λ done. ReplyAnswers V.answers key done.reply) }
 {
-    let mut shard = shard.lock(rt);
+    let mut shard = hold(rt, shard);
     // For the prover: shows what holds of the shard.
     let _before = shard.steps();
     let reply = shard.look(mine, key, now, notices)?;
@@ -72,7 +75,7 @@ pub(crate) fn seek_at<
     ensures answers { IfOk result (λ done. ReplyAnswers V.answers key (reply_of done.reply)) }
     ensures asked { IfOk result (λ done. IsOfKey key now done.reply) }
 {
-    let mut shard = shard.lock(rt);
+    let mut shard = hold(rt, shard);
     // For the prover: shows what holds of the shard.
     let _before = shard.steps();
     let reply = shard.seek(mine, key, now, notices)?;
@@ -106,7 +109,7 @@ pub(crate) fn land_at<
         (call.Land lead.now.id lead.now.key what now) (λ reply. reply) mine.old mine.new
         notices.old notices.new result }
 {
-    let mut shard = shard.lock(rt);
+    let mut shard = hold(rt, shard);
     // For the prover: shows what holds of the shard.
     let _before = shard.steps();
     let reply = shard.land(mine, lead.id(), lead.key(), what, now, notices)?;
@@ -138,8 +141,12 @@ pub(crate) fn put_at<
     ensures made { IsLockedCall K.eq K.word V.weight V.answers S.ShardLedger.place
         (call.Put key value now) (λ _. reply.Stored) mine.old mine.new notices.old notices.new
         result }
+    ensures heavy { S.ShardLedger.place.config.bound < V.weight value
+        → result ≡ Err (fault.TooHeavy (V.weight value) S.ShardLedger.place.config.bound) }
+    ensures light { V.weight value ≤ S.ShardLedger.place.config.bound
+        → IfErr result (λ f. is_step_fault f ≡ true) }
 {
-    let mut shard = shard.lock(rt);
+    let mut shard = hold(rt, shard);
     // For the prover: shows what holds of the shard.
     let _before = shard.steps();
     shard.put(mine, key, value, now, notices)?;
@@ -169,7 +176,7 @@ pub(crate) fn drop_key_at<
     ensures made { IsLockedCall K.eq K.word V.weight V.answers S.ShardLedger.place
         (call.DropKey key now) reply.Dropped mine.old mine.new notices.old notices.new result }
 {
-    let mut shard = shard.lock(rt);
+    let mut shard = hold(rt, shard);
     // For the prover: shows what holds of the shard.
     let _before = shard.steps();
     let reply = shard.drop_key(mine, key, now, notices)?;
@@ -199,7 +206,7 @@ pub(crate) fn forget_at<
     ensures made { IsLockedCall K.eq K.word V.weight V.answers S.ShardLedger.place
         (call.Forget key now) reply.Forgot mine.old mine.new notices.old notices.new result }
 {
-    let mut shard = shard.lock(rt);
+    let mut shard = hold(rt, shard);
     // For the prover: shows what holds of the shard.
     let _before = shard.steps();
     let reply = shard.forget(mine, key, now, notices)?;

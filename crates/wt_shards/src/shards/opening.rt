@@ -8,6 +8,7 @@ ghost use Rattle.wt_shards.specs.Passes.{counts_of, new_pass};
 ghost use Rattle.wt_shards.specs.Place.{place_of};
 
 use crate::books::{Blanks, Books};
+use crate::hold::hold;
 use crate::pass::Pass;
 use crate::shard::Shard;
 use crate::shard_ledger::ShardLedger;
@@ -56,7 +57,7 @@ fn shares_at<
     let Some(shard) = shard else {
         return Ok(None);
     };
-    match shard.lock(rt).shares() {
+    match hold(rt, shard).shares() {
         Ok(shares) => Ok(Some(shares)),
         Err(fault) => Err(fault),
     }

@@ -3,6 +3,7 @@ ghost use Rattle.std.specs.Prelude.{◌≡◌, ◌+◌};
 ghost use Rattle.wt_core.specs.Lawful.{AreSmall};
 
 use crate::books::Books;
+use crate::hold::hold;
 use crate::shard::Shard;
 use crate::shard_ledger::ShardLedger;
 use crate::shards::Shards;
@@ -25,7 +26,7 @@ fn stats_at<
     let Some(shard) = shard else {
         return Stats::NOTHING;
     };
-    let shard = shard.lock(rt);
+    let shard = hold(rt, shard);
     // For the prover: shows what holds of the shard.
     let _steps = shard.steps();
     shard.stats()

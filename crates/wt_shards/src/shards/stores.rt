@@ -1,5 +1,7 @@
 // Stores, by a caller and by the landing of a load, each at the shard of its key.
-ghost use Rattle.std.specs.Prelude.{◌≤◌, IsTrue};
+ghost use Rattle.std.specs.Prelude.{◌≡◌, ◌<◌, ◌≤◌, Err, IsTrue, IfErr, true};
+ghost use Rattle.wt_keys.specs.declared.fault.Fault.TheVariants as fault;
+ghost use Rattle.wt_core.specs.Faults.{is_step_fault};
 ghost use Rattle.wt_core.specs.declared.calls.Call.TheVariants as call;
 ghost use Rattle.wt_core.specs.declared.calls.Reply.TheVariants as reply;
 ghost use Rattle.wt_shards.specs.Contract.{IsHomeCall};
@@ -39,6 +41,11 @@ impl<K: CacheKey, V: Share + Weighs + Answers<K> + Send + Sync, B: Books> Shards
         ensures made { IsHomeCall K.eq K.word V.weight V.answers self.now key
             (call.Put key value now) (λ _. reply.Stored) pass.old pass.new notices.old notices.new
             result }
+        ensures heavy { self.now.config.bound < V.weight value
+            → result ≡ Err (fault.TooHeavy (V.weight value) self.now.config.bound) }
+        // No other value is too heavy.
+        ensures light { V.weight value ≤ self.now.config.bound
+            → IfErr result (λ f. is_step_fault f ≡ true) }
     {
         let home = shard_of(key.word(), self.shards);
         at_home!(
@@ -53,10 +60,10 @@ impl<K: CacheKey, V: Share + Weighs + Answers<K> + Send + Sync, B: Books> Shards
     /// number of those who shared it, or else `Gone`, and the number of the step at the key's
     /// shard.
     ///
-    /// `now` is in milliseconds. `StepsSpent` comes only where the answer would be `Gone`. Only a
-    /// value that is stored takes memory. Takes that shard's lock, for one step. Expected O(open
-    /// loads), O(entries) where many leave. Not promised: that it returns. A lead of other shards
-    /// at most closes a load of its id and key.
+    /// `now` is in milliseconds. `StepsSpent` comes only if the answer would be `Gone`. A value that
+    /// is stored takes memory; if the answer would be `Gone`, the lagging copy may. Takes that
+    /// shard's lock, for one step. Expected O(open loads), O(entries) where many leave. Not
+    /// promised: that it returns. A lead of other shards at most closes a load of its id and key.
     pub fn land<R: Wait>(
         &self,
         rt: &R,

@@ -3,6 +3,7 @@ ghost use Rattle.std.specs.Prelude.{◌≡◌, ◌+◌, ◌*◌, ◌<◌, ◌≤
 ghost use Rattle.wt_core.specs.declared.calls.Call.TheVariants as call;
 ghost use Rattle.wt_shards.specs.Contract.{IsSweepCall};
 ghost use Rattle.wt_shards.specs.Counts.{counted};
+ghost use Rattle.wt_shards.specs.Outer.{HasCause};
 ghost use Rattle.wt_shards.specs.Place.{place_of};
 ghost use Rattle.wt_shards.specs.Passes.{with_step};
 ghost use Rattle.wt_core.specs.Faults.{is_step_fault};
@@ -11,6 +12,7 @@ ghost use Rattle.wt_shards.specs.Sweeps.{IsSwept, call_of};
 
 use crate::at_home::at_home;
 use crate::books::Books;
+use crate::hold::hold;
 use crate::pass::Pass;
 use crate::shard::Shard;
 use crate::shard_ledger::ShardLedger;
@@ -47,8 +49,10 @@ fn sweep_at<
     ensures err { OnErr result ((mine.new ≡ mine.old) × (notices.new ≡ notices.old)) }
     ensures told { HasTold S.ShardLedger.place.config.entries notices.old notices.new }
     ensures faults { IfErr result (λ fault. is_step_fault fault ≡ true) }
+    ensures cause { IfErr result (HasCause K.eq K.word V.weight V.answers
+        S.ShardLedger.place (call_of sweep now)) }
 {
-    let mut shard = shard.lock(rt);
+    let mut shard = hold(rt, shard);
     // For the prover: shows what holds of the shard.
     let _before = shard.steps();
     match sweep {
@@ -84,6 +88,8 @@ impl<K: CacheKey, V: Share + Weighs + Answers<K> + Send + Sync, B: Books> Shards
         ensures err { OnErr result ((pass.new ≡ pass.old) × (notices.new ≡ notices.old)) }
         ensures told { HasTold self.now.config.entries notices.old notices.new }
         ensures faults { IfErr result (λ fault. is_step_fault fault ≡ true) }
+        ensures cause { IfErr result (HasCause K.eq K.word V.weight V.answers
+            (place_of home self.now) (call_of sweep now)) }
     {
         at_home!(
             home,

@@ -1,4 +1,4 @@
-// Shards have locks of their own: while one look holds its shard, a look at another shard goes on.
+// Shards have locks of their own: while one look holds its shard, each call at another shard goes on.
 ghost use Rattle.std.specs.Prelude.{◌≡◌};
 ghost use Rattle.wt_shards.specs.Opening.{AreBlanksOf};
 
@@ -10,9 +10,9 @@ use std::sync::{Arc, Wait};
 use std::test::Fail;
 use std::thread;
 use std::thread::Threads;
-use wt_core::{Config, Notices, Reply, Weighs};
+use wt_core::{Config, Land, Notices, Reply, Weighs};
 use wt_keys::{Answers, Fault, NoMemory, Share};
-use wt_shards::{Blanks, Books, Names, Of, Pass, Shards};
+use wt_shards::{Blanks, Books, Names, Of, Pass, Shards, Sought};
 
 #[derive(Drop)]
 struct Marks {
@@ -112,6 +112,34 @@ fn put<B: Books, R: Wait>(
     }
 }
 
+// Whether each call on a key but a look meets what it is to meet: the key has an entry first.
+fn calls_meet<B: Books, R: Wait>(
+    rt: &R,
+    alloc: Global,
+    shards: &Shards<u64, Gated, B>,
+    pass: &mut Pass<B>,
+    key: u64,
+) -> Result<bool, Fault> {
+    put(rt, alloc, shards, pass, key, Gated { marks: None })?;
+    let room = shards.entries() as usize;
+    let mut notices = Notices::new(alloc, room)?;
+    let dropped = shards.drop_key(rt, pass, key, 0, &mut notices)?.reply;
+    let mut notices = Notices::new(alloc, room)?;
+    let sought = shards.seek(rt, pass, key, 0, &mut notices)?.reply;
+    let Sought::Lead(lead, _ticket) = sought else {
+        return Ok(false);
+    };
+    let mut notices = Notices::new(alloc, room)?;
+    let joined = shards.seek(rt, pass, key, 0, &mut notices)?.reply;
+    let mut notices = Notices::new(alloc, room)?;
+    let forgot = shards.forget(rt, pass, key, 0, &mut notices)?.reply;
+    let mut notices = Notices::new(alloc, room)?;
+    let landed = shards
+        .land(rt, pass, &lead, Land::Failed, 0, &mut notices)?
+        .reply;
+    Ok(dropped && matches!(joined, Sought::Join(_)) && forgot && matches!(landed, Reply::Failed(2)))
+}
+
 // Of four shards key 4 is of number 0, key 3 of number 1.
 fn look_apart<N: Names + Send + Sync, R: Threads + Wait + Sync>(
     rt: &R,
@@ -124,7 +152,7 @@ fn look_apart<N: Names + Send + Sync, R: Threads + Wait + Sync>(
 {
     let shards: Shards<u64, Gated, Of<N>> = Shards::new(rt, alloc, blanks, limits, 4)?;
     let mut a = shards.pass(rt, alloc)?;
-    let b = shards.pass(rt, alloc)?;
+    let mut b = shards.pass(rt, alloc)?;
     let marks = Arc::new(
         alloc,
         Marks {
@@ -143,14 +171,14 @@ fn look_apart<N: Names + Send + Sync, R: Threads + Wait + Sync>(
     let (a, b) = thread::join(
         rt,
         || is_hit(rt, alloc, shared, a, 4),
-        || {
+        || -> Result<bool, Fault> {
             let begun = comes(&marks.begun);
+            let met = calls_meet(rt, alloc, shared, &mut b, 3);
+            let put = put(rt, alloc, shared, &mut b, 3, Gated { marks: None });
             let hit = is_hit(rt, alloc, shared, b, 3);
             marks.open.store(true, Ordering::SeqCst);
-            match hit {
-                Ok(hit) => Ok(begun && hit),
-                Err(fault) => Err(fault),
-            }
+            put?;
+            Ok(begun && met? && hit?)
         },
     );
     Ok((a?, b?))

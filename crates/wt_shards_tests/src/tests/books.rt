@@ -1,4 +1,4 @@
-// The shares of a shard's books.
+// The shares of a shard's books, and the passes of shards.
 ghost use Rattle.std.specs.Prelude.{◌≡◌};
 ghost use Rattle.wt_shards.specs.Opening.{AreBlanksOf};
 
@@ -7,10 +7,11 @@ use super::run::Run;
 use std::alloc::Global;
 use std::marker::Brand;
 use std::process::Abort;
+use std::sync::Wait;
 use std::test::Fail;
 use wt_core::Config;
 use wt_keys::Fault;
-use wt_shards::{Blanks, Names};
+use wt_shards::{Blanks, Names, Of, Shards};
 use wt_tests::{Do, Loaded, call_of, light};
 
 fn take_all<N: Names>(
@@ -39,5 +40,28 @@ fn take_all<N: Names>(
 #[test]
 fn shares_are_spent_after_65535(rt: HostRuntime) -> Result<(), Fail> {
     take_all::<Brand>(&rt, rt.alloc(), Blanks::new(), &config(1000))?;
+    Ok(())
+}
+
+fn take_passes<N: Names, R: Wait + Abort>(
+    rt: &R,
+    alloc: Global,
+    blanks: Blanks,
+    limits: &Config,
+) -> Result<(), Fault>
+    requires layout { N.layout ≡ record { shards = 4; config = limits.now } }
+    requires blanks { AreBlanksOf N.name blanks }
+{
+    let shards: Shards<u64, Loaded, Of<N>> = Shards::new(rt, alloc, blanks, limits, 4)?;
+    for _ in 0..65_535 {
+        assert!(rt; shards.pass(rt, alloc).is_ok());
+    }
+    assert_eq!(rt; shards.pass(rt, alloc).err(), Some(Fault::PassesSpent));
+    Ok(())
+}
+
+#[test]
+fn passes_are_spent_after_65535(rt: HostRuntime) -> Result<(), Fail> {
+    take_passes::<Brand, HostRuntime>(&rt, rt.alloc(), Blanks::new(), &config(1000))?;
     Ok(())
 }

@@ -49,10 +49,10 @@ impl Plains {
                 (said, self.steps(0))
             }
             _ => {
-                let home = if self.shards() == 4 {
-                    shard_of(key, 4)
-                } else {
-                    0
+                let home = match self.caches.len() {
+                    4 => shard_of(key, 4),
+                    2 => shard_of(key, 2),
+                    _ => 0,
                 };
                 let said = match self.caches.get_mut(home) {
                     Some(cache) => answered(cache.make(call_of(act, key, now))),
@@ -60,14 +60,6 @@ impl Plains {
                 };
                 (said, self.steps(home))
             }
-        }
-    }
-
-    fn shards(&self) -> usize {
-        match self.caches.len() {
-            4 => 4,
-            2 => 2,
-            _ => 1,
         }
     }
 
@@ -100,25 +92,23 @@ fn expect_told(rt: &impl Abort, told: &[Notice<u64, Loaded>], plains: &Plains) {
     assert_eq!(rt; told.len(), place);
 }
 
-// The numbers are the sums of those of the caches.
+// All eight numbers are the sums of those of the caches.
 fn expect_stats(rt: &impl Abort, stats: &Stats, plains: &Plains) {
-    let mut lookups: u64 = 0;
-    let mut hits: u64 = 0;
-    let mut ended: u64 = 0;
-    let mut evicted: u64 = 0;
-    let mut held: u64 = 0;
+    let mut wanted = Stats::NOTHING;
     for cache in &plains.caches {
-        let wanted = cache.core.stats();
-        lookups = lookups.wrapping_add(wanted.lookups);
-        hits = hits.wrapping_add(wanted.hits);
-        ended = ended.wrapping_add(wanted.loads).wrapping_add(wanted.failed);
-        evicted = evicted.wrapping_add(wanted.evicted);
-        held = held.wrapping_add(wanted.weight);
+        let one = cache.core.stats();
+        wanted = Stats {
+            lookups: wanted.lookups.wrapping_add(one.lookups),
+            hits: wanted.hits.wrapping_add(one.hits),
+            misses: wanted.misses.wrapping_add(one.misses),
+            loads: wanted.loads.wrapping_add(one.loads),
+            failed: wanted.failed.wrapping_add(one.failed),
+            evicted: wanted.evicted.wrapping_add(one.evicted),
+            entries: wanted.entries.wrapping_add(one.entries),
+            weight: wanted.weight.wrapping_add(one.weight),
+        };
     }
-    assert_eq!(rt; (stats.lookups, stats.hits), (lookups, hits));
-    assert_eq!(rt; stats.misses, lookups.wrapping_sub(hits));
-    assert_eq!(rt; stats.loads.wrapping_add(stats.failed), ended);
-    assert_eq!(rt; (stats.evicted, stats.weight), (evicted, held));
+    assert_eq!(rt; *stats, wanted);
 }
 
 fn play<N: Names, R: Wait + Abort>(
@@ -142,11 +132,11 @@ fn play<N: Names, R: Wait + Abort>(
         assert_eq!(rt; said.0, *answer);
         assert_eq!(rt; caller.told().len(), *removals);
         expect_told(rt, caller.told(), &plains);
+        expect_stats(rt, &cache.stats(rt), &plains);
     }
     for home in 0..4 {
         assert_eq!(rt; caller.made(home), (plains.steps(home), plains.hits(home)));
     }
-    expect_stats(rt, &cache.stats(rt), &plains);
     Ok(())
 }
 
@@ -196,7 +186,13 @@ fn one_shard_does_as_its_cache_does(rt: HostRuntime) -> Result<(), Fail> {
     Ok(())
 }
 
-// Each key is at a shard of its own, whose first load has the id 1.
+// Each of the two keys that are loaded is at a shard of its own, whose first load has the id 1.
+#[test]
+fn two_shards_do_as_their_caches_do(rt: HostRuntime) -> Result<(), Fail> {
+    play::<Brand, HostRuntime>(&rt, rt.alloc(), Blanks::new(), &limits(), 2, &rows(1))?;
+    Ok(())
+}
+
 #[test]
 fn four_shards_do_as_their_caches_do(rt: HostRuntime) -> Result<(), Fail> {
     play::<Brand, HostRuntime>(&rt, rt.alloc(), Blanks::new(), &limits(), 4, &rows(1))?;

@@ -8,6 +8,7 @@ returns-in-Some-Some-4 g c = record {
     later = search rules;
     step = search rules;
     faults = search rules;
+    cause = search rules;
     told = search rules;
     err = search rules;
   };
