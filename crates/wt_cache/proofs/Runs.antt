@@ -1,12 +1,12 @@
 -- Passes that move by landings, one after another.
-use Rattle.std.proofs.Common.{◌≡◌, ℕ, ◌+◌, ◌≤◌, false, [], ◌∷◌, ◌++◌, refl, sym, ap, ◌∙◌, subst, inr, append-nil, append_assoc, length-append, arith}
-use Rattle.std.specs.Prelude.{Result, Ok, Err, OnOk, OnErr}
+use Rattle.std.proofs.Common.{◌≡◌, ℕ, ◌+◌, ◌≤◌, Bool, false, true, [], ◌∷◌, ◌++◌, refl, sym, ap, ◌∙◌, subst, inl, inr, append-nil, append_assoc, length-append, arith}
+use Rattle.std.specs.Prelude.{Result, Ok, Err, IfErr, OnOk, OnErr, IsErrAnd}
 use Rattle.wt_keys.specs.declared.fault.Fault.{Fault}
 use Rattle.wt_regions.specs.Notices.{NoticeList, emptied}
 use Rattle.wt_shards.specs.Told.{HasTold}
 use Rattle.wt_shards.specs.Passes.{Passed, with_step}
 use Rattle.wt_cache.proofs.Moved.{landed_none, landed_one, landed_both}
-use Rattle.wt_cache.specs.Moves.{HasLanded, LandedSome, HasTried, HasTaken}
+use Rattle.wt_cache.specs.Moves.{HasLanded, LandedSome, HasRunIfAny, HasTried, HasTaken, is_late_fault}
 use Rattle.wt_cache.specs.declared.hand.Hand.{Hand}
 use Rattle.wt_cache.specs.Line.{hand}
 
@@ -31,13 +31,17 @@ some_more p q r a b = some_both p q r a (1, b)
 pub room_emptied : {K V : Type 0} (m n : ℕ) (t u v : NoticeList K V) → m ≤ t.room → HasTold n t u → v ≡ emptied u → m ≤ v.room
 room_emptied m n t u v le told is = let w = told.whole in rw is (omega (arith, w, le))
 
--- a get whose seek was no hit, and which ran nothing
-pub tried_sought : (home : ℕ) (p q : Passed) → q ≡ with_step home false p → HasTried home p q
-tried_sought home p q is = let P : Passed → Type 0 = λ u. LandedSome (with_step home false p) u in inr (subst P (sym is) (some_none (with_step home false p)))
+-- nothing was run
+ran_none : (lined : Bool) (home : ℕ) (p : Passed) → HasRunIfAny lined home p p
+ran_none false home p = inl refl
+ran_none true home p = some_none p
 
-pub on_err : {T E : Type 0} (r : Result T E) (P : Type 0) → P → OnErr r P
-on_err (Ok x) P p = tt
-on_err (Err e) P p = p
+-- a get whose seek was no hit and stands, which ran nothing, and whose wait told a fault
+pub tried_late : {T : Type 0} (R : Fault → Type 0) (lined : Bool) (home : ℕ) (f : Fault) (r : Result T Fault) (p q : Passed) → IsErrAnd r (λ g. g ≡ f) → is_late_fault f ≡ true → q ≡ with_step home false p → IfErr r (λ g. HasTried lined home (R g) g p q)
+tried_late R lined home f (Ok x) p q told late is = tt
+tried_late R lined home f (Err g) p q told late is =
+    let P : Passed → Type 0 = λ u. HasRunIfAny lined home u q in
+    inr (subst (λ h. is_late_fault h ≡ true) (sym told) late, subst P is (ran_none lined home q))
 
 pub taken_none : {K : Type 0} (v : Hand K) → HasTaken 0 v v
 taken_none v = record { taken = []; counted = refl; moved = ap (λ t. hand v.puts t) (sym (append-nil v.takes)) }

@@ -6,19 +6,20 @@ use Rattle.wt_cache.specs.declared.hand.Hand.{Hand}
 use Rattle.wt_flights.specs.Outcomes.{Leading}
 
 module _ {K : Type 0} where
-  -- a job's name is its lead's id and key
+  -- a job's name: its lead's id and key
   abbrev pub name : Leading K → ℕ × K
   name l = (l.id, l.key)
 
+  -- what a line pass put and what it took, as pairs of a number and a name
   abbrev pub hand : List (ℕ × (ℕ × K)) → List (ℕ × (ℕ × K)) → Hand K
   hand puts takes = record { puts = puts; takes = takes }
 
-  -- how often a number stands in the pairs
+  -- how often a number stands in pairs
   abbrev pub times : ℕ → List (ℕ × (ℕ × K)) → ℕ
   times i [] = 0
   times i (p ∷ ps) = cond (eqb i p.0) 1 0 + times i ps
 
-  -- f of each view, added up
+  -- a number of each line pass, added up
   abbrev pub total : (Hand K → ℕ) → List (Hand K) → ℕ
   total f [] = 0
   total f (v ∷ vs) = f v + total f vs
@@ -31,8 +32,8 @@ module _ {K : Type 0} where
 abbrev pub once_below : ℕ → ℕ → ℕ
 once_below i n = cond (ltb i n) 1 0
 
--- The names of the puts stand in the log, in the order of their numbers. Those from `taken` on are in the line.
--- Over all passes the numbers of the puts are those below the length of the log, each once, and those of the takes the ones below `taken`
+-- the rule of the line: the names of the puts stand in the log, in the order of their numbers. Those from `taken` on are in the line. Over
+-- all passes the numbers of the puts are those below the length of the log, each once, and those of the takes the ones below `taken`
 pub record Numbered {K : Type 0} (items : List (Leading K)) (views : List (Hand K)) : Type 0 where
   pub log : List (ℕ × K)
   pub taken : ℕ

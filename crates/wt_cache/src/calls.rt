@@ -1,5 +1,7 @@
 // The calls that load nothing: each is the shards' own.
-ghost use Rattle.std.specs.Prelude.{◌*◌, ◌≤◌, IsTrue, IfOk};
+ghost use Rattle.std.specs.Prelude.{◌≡◌, ◌*◌, ◌<◌, ◌≤◌, Err, IsTrue, IfOk, IfErr, true};
+ghost use Rattle.wt_keys.specs.declared.fault.Fault.TheVariants as fault;
+ghost use Rattle.wt_core.specs.Faults.{is_step_fault};
 ghost use Rattle.wt_core.specs.declared.calls.Call.TheVariants as call;
 ghost use Rattle.wt_core.specs.declared.calls.Reply.TheVariants as reply;
 ghost use Rattle.wt_shards.specs.Contract.{IsHomeCall, IsSweepCall};
@@ -21,9 +23,9 @@ impl<
     /// Returns a share of the key's value, `Hit`, or `Absent` where there is none. Loads nothing,
     /// and waits for no load.
     ///
-    /// `now` is in milliseconds. `StepsSpent` comes before `NoMemory`, which only a hit can meet.
-    /// Takes the lock of the key's shard for one step. Expected O(1) for keys that nobody picks
-    /// (see `Seeded`).
+    /// `now` is in milliseconds. `StepsSpent` comes before `NoMemory`, which a hit can meet, and a
+    /// miss if the shard's lagging copy finds none. Takes the lock of the key's shard for one step.
+    /// Expected O(1), unless an attacker chooses the keys (see `Seeded`).
     pub fn get_if_present<R: Wait>(
         &self,
         rt: &R,
@@ -62,6 +64,11 @@ impl<
         ensures made { IsHomeCall K.eq K.word V.weight V.answers self.now.layout key
             (call.Put key value now) (λ _. reply.Stored) pass.old pass.new notices.old notices.new
             result }
+        ensures heavy { self.now.layout.config.bound < V.weight value
+            → result ≡ Err (fault.TooHeavy (V.weight value) self.now.layout.config.bound) }
+        // No other value is too heavy.
+        ensures light { V.weight value ≤ self.now.layout.config.bound
+            → IfErr result (λ f. is_step_fault f ≡ true) }
     {
         self.shards.put(rt, pass, key, value, now, notices)
     }

@@ -1,11 +1,13 @@
 // The get: one seek, and by its answer a hit, a wait, or a load that is run here or in a worker.
-ghost use Rattle.std.specs.Prelude.{◌≡◌, ◌*◌, ◌<◌, ◌≤◌, true, IsTrue, IfOk, IfErr, OnOk, OnErr};
+ghost use Rattle.std.specs.Prelude.{◌≡◌, ◌*◌, ◌<◌, ◌≤◌, true, IsTrue, IfOk, IfErr, OnOk};
 ghost use Rattle.wt_core.specs.Faults.{is_step_fault};
+ghost use Rattle.wt_core.specs.declared.calls.Call.TheVariants as call;
+ghost use Rattle.wt_shards.specs.Outer.{HasCause};
 ghost use Rattle.wt_shards.specs.Passes.{steps_at};
 ghost use Rattle.wt_shards.specs.Place.{home_of, place_of};
 ghost use Rattle.wt_shards.specs.Told.{HasTold};
 ghost use Rattle.wt_cache.specs.Gets.{IsSought, is_get_fault};
-ghost use Rattle.wt_cache.specs.Moves.{LandedSome, HasRun, HasGot, HasTried};
+ghost use Rattle.wt_cache.specs.Moves.{LandedSome, HasRun, HasRunIfAny, HasGot, HasTried};
 
 use crate::cache::LoadingCache;
 use crate::got::{Got, How};
@@ -40,7 +42,7 @@ impl<
     /// told. A hit takes memory for a share, a load for its row and its landing. Takes the lock of
     /// the key's shard for each step, and none while it loads or waits. Not promised: that the
     /// loader, and so the call, returns; that it is woken.
-    #[tactic(auto, using(crate::proofs::Faults::of_seek, crate::proofs::Faults::of_land))]
+    #[tactic(auto, using(crate::proofs::Faults::of_seek, crate::proofs::Faults::of_land, crate::proofs::Faults::late_land, crate::proofs::Faults::of_late))]
     pub fn get<R: Wait>(
         &self,
         rt: &R,
@@ -62,8 +64,13 @@ impl<
 
         ensures told { HasTold (2 * self.now.layout.config.entries) notices.old notices.new }
         ensures faults { IfErr result (λ fault. is_get_fault fault ≡ true) }
-        ensures err { OnErr result
-            (HasTried (home_of K.word key self.now.layout) pass.old pass.new) }
+        // Either the seek was refused, for a cause of its own and with nothing done, or it stands.
+        ensures err { IfErr result (λ fault. HasTried self.now.lined
+            (home_of K.word key self.now.layout)
+            (HasCause K.eq K.word V.weight V.answers
+            (place_of (home_of K.word key self.now.layout) self.now.layout)
+            (call.Seek key now) fault × (notices.new ≡ notices.old))
+            fault pass.old pass.new) }
     {
         let done = self.shards.seek(rt, pass, key, now, notices)?;
         let step = done.step;
@@ -105,7 +112,8 @@ impl<
         requires room { self.now.layout.config.entries ≤ notices.old.room }
         ensures ran { OnOk result
             (HasRun self.now.lined (home_of K.word lead.key self.now.layout) pass.old pass.new) }
-        ensures some { LandedSome pass.old pass.new }
+        ensures some { HasRunIfAny self.now.lined (home_of K.word lead.key self.now.layout)
+            pass.old pass.new }
         ensures told { HasTold self.now.layout.config.entries notices.old notices.new }
         ensures faults { IfErr result (λ fault. is_step_fault fault ≡ true) }
     {

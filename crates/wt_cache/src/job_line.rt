@@ -4,6 +4,13 @@
 // load. The line is open until it is closed, once and for good. Whoever posts reads the closing
 // mark before the push and after it: a mark that is set by then may mean that no worker comes any
 // more, so that poster runs what is in the line itself.
+//
+//   worker   look ── lock the bell ── look again ── sleep, which gives the lock back ──► look
+//   poster   push ── lock the bell ── wake one worker
+//   closer   mark ── lock the bell ── wake all workers
+//
+// A worker looks for the last time under the bell's lock, which a poster takes after its push. A
+// push that this look missed is rung once the worker sleeps, so it isn't slept through.
 ghost use Rattle.std.specs.Prelude.{◌≡◌, ◌<◌, ◌≤◌, ◌⊎◌, ◌++◌, ◌∷◌, [], ℕ, IfOk, IfErr, Err, IsOkUnless, MatchOption, MatchResult};
 ghost use Rattle.wt_keys.specs.declared.fault.Fault.TheVariants as fault;
 ghost use Rattle.wt_keys.specs.declared.fault.Field.TheVariants as field;
@@ -12,7 +19,7 @@ ghost use Rattle.wt_cache.specs.Line.{hand, name};
 use crate::line_pass::{First, LinePass};
 use std::alloc::Global;
 use std::sync::atomic::{AtomicBool, Ordering};
-use std::sync::{Mutex, Wait};
+use std::sync::{Condvar, Mutex, Wait};
 use wt_flights::Lead;
 use wt_keys::{Fault, Field, NoMemory};
 
@@ -44,6 +51,10 @@ pub struct JobLine<K, V> {
     first: Mutex<First<K, V>>,
     // Set by `close`, for good.
     closed: AtomicBool,
+    // The bell's lock. It guards no value.
+    gate: Mutex<()>,
+    // The bell's signal.
+    rung: Condvar,
     // For the lists of those who post.
     alloc: Global,
 }
@@ -67,6 +78,8 @@ impl<K: Copy + Drop, V: Drop> JobLine<K, V> {
         Ok(JobLine {
             first: Mutex::new(first),
             closed: AtomicBool::new(false),
+            gate: Mutex::new(()),
+            rung: Condvar::new(),
             alloc,
         })
     }
@@ -83,9 +96,10 @@ impl<K: Copy + Drop, V: Drop> JobLine<K, V> {
 
     /// Puts a load at the end of the line, or hands its lead back.
     ///
-    /// Answers `Line` where the line was open still after the put, `Late` where it was closed by
-    /// then. `LineClosed` comes before `LineFull`. The pass is to be one of this line: it goes by
-    /// its own queue. Takes no memory and no lock. That anyone takes the load is not promised.
+    /// Answers `Line` where the line was open still after the put, and wakes a worker if one sleeps;
+    /// `Late` where it was closed by then. `LineClosed` comes before `LineFull`. The pass is to be
+    /// one of this line: it goes by its own queue. Takes no memory, and after the put the lock of
+    /// the line's bell. That anyone takes the load is not promised.
     pub fn post<R: Wait>(
         &self,
         rt: &R,
@@ -109,6 +123,9 @@ impl<K: Copy + Drop, V: Drop> JobLine<K, V> {
         if self.is_closed() {
             return Ok(Posted::Late);
         }
+        let gate = self.gate.lock(rt);
+        self.rung.notify_one();
+        drop(gate);
         Ok(Posted::Line)
     }
 
@@ -123,10 +140,38 @@ impl<K: Copy + Drop, V: Drop> JobLine<K, V> {
         pass.pop(rt)
     }
 
-    /// Closes the line, for good: a later post is handed its lead back, a worker ends once it finds
-    /// nothing more. Takes no memory and no lock.
-    pub fn close<R: Wait>(&self, _rt: &R) {
+    // Takes the load that stands first in the line, and sleeps as long as there is none. `None` once
+    // the line was read as closed and a take after that found none.
+    pub(crate) fn next<R: Wait>(&self, rt: &R, pass: &mut LinePass<K, V>) -> Option<Lead<K, V>>
+        ensures moved { MatchOption result (pass.new ≡ pass.old) (λ lead.
+            (n : ℕ) × (pass.new ≡ hand pass.old.puts (pass.old.takes ++ (n, name lead) ∷ []))) }
+    {
+        if let Some(lead) = self.take(rt, pass) {
+            return Some(lead);
+        }
+        let mut gate = self.gate.lock(rt);
+        for _ in rt.forever() {
+            // Read before the take: a load that is posted after the mark is run by its poster.
+            let closed = self.is_closed();
+            if let Some(lead) = self.take(rt, pass) {
+                return Some(lead);
+            }
+            if closed {
+                return None;
+            }
+            gate = self.rung.wait(rt, gate);
+        }
+        unreachable!()
+    }
+
+    /// Closes the line, for good, and wakes the workers that sleep: a later post is handed its lead
+    /// back, a worker ends once it finds nothing more. Takes no memory, and the lock of the line's
+    /// bell.
+    pub fn close<R: Wait>(&self, rt: &R) {
         self.closed.store(true, Ordering::SeqCst);
+        let gate = self.gate.lock(rt);
+        self.rung.notify_all();
+        drop(gate);
     }
 
     /// Returns whether the line is closed. Takes no lock. What it answers may be old at once.

@@ -10,11 +10,13 @@ ghost use Rattle.std.specs.Prelude.{◌≡◌, ◌≤◌, false, true, IsTrue, I
 ghost use Rattle.wt_flights.specs.Outcomes.{outcome_answers};
 ghost use Rattle.wt_shards.specs.Asked.{LandAnswers};
 ghost use Rattle.wt_core.specs.Faults.{is_step_fault};
+ghost use Rattle.wt_core.specs.declared.calls.Land.{Land as Landing};
+ghost use Rattle.wt_core.specs.declared.calls.Land.TheVariants as land;
 ghost use Rattle.wt_shards.specs.Passes.{with_step};
 ghost use Rattle.wt_shards.specs.Place.{home_of};
 ghost use Rattle.wt_shards.specs.Told.{HasTold};
-ghost use Rattle.wt_cache.specs.Gets.{is_get_fault};
-ghost use Rattle.wt_cache.specs.Moves.{HasLanded};
+ghost use Rattle.wt_cache.specs.Gets.{IsSomeLanding, value_in};
+ghost use Rattle.wt_cache.specs.Moves.{HasLanded, is_late_fault};
 
 use crate::cache::LoadingCache;
 use crate::loader::Loader;
@@ -52,10 +54,17 @@ pub(crate) fn value_of<K: CacheKey, V: Share + Answers<K>, R: Wait>(
     ticket: Ticket<K, V>,
 ) -> Result<V, Fault>
     ensures answers { IfOk result (λ value. IsTrue (V.answers value ticket.key)) }
-    ensures faults { IfErr result (λ fault. is_get_fault fault ≡ true) }
+    ensures faults { IfErr result (λ fault. is_late_fault fault ≡ true) }
 {
     let mut ticket = ticket;
-    match ticket.wait(rt)? {
+    value_in(ticket.wait(rt)?)
+}
+
+// The value of an outcome, or the fault that tells it.
+fn value_in<V>(outcome: Outcome<V>) -> Result<V, Fault>
+    ensures { result ≡ value_in outcome }
+{
+    match outcome {
         Outcome::Value(value) => Ok(value),
         Outcome::Failed(code) => Err(Fault::LoadFailed { code }),
         Outcome::Abandoned => Err(Fault::Abandoned),
@@ -81,6 +90,9 @@ impl<
         requires answers { LandAnswers V.answers lead.now.key what }
         ensures moved { OnOk result
             (pass.new ≡ with_step (home_of K.word lead.now.key self.now.layout) false pass.old) }
+        // At the moment of the seek.
+        ensures step { OnOk result (IsSomeLanding K.eq K.word V.weight V.answers self.now.layout
+            lead.now what notices.old notices.new) }
         ensures told { HasTold self.now.layout.config.entries notices.old notices.new }
         ensures faults { IfErr result (λ fault. is_step_fault fault ≡ true) }
         ensures err { OnErr result ((pass.new ≡ pass.old) × (notices.new ≡ notices.old)) }
@@ -103,6 +115,8 @@ impl<
         requires answers { IsTrue (V.answers value.now lead.now.key) }
         ensures moved { OnOk result
             (pass.new ≡ with_step (home_of K.word lead.now.key self.now.layout) false pass.old) }
+        ensures step { OnOk result ((what : Landing V) × IsSomeLanding K.eq K.word V.weight
+            V.answers self.now.layout lead.now what notices.old notices.new) }
         ensures told { HasTold self.now.layout.config.entries notices.old notices.new }
         ensures faults { IfErr result (λ fault. is_step_fault fault ≡ true) }
         ensures err { OnErr result ((pass.new ≡ pass.old) × (notices.new ≡ notices.old)) }
@@ -129,6 +143,8 @@ impl<
         ensures moved { MatchResult result.landed
             (λ _. pass.new ≡ with_step (home_of K.word lead.key self.now.layout) false pass.old)
             (λ _. pass.new ≡ pass.old) }
+        ensures step { OnOk result.landed ((what : Landing V) × IsSomeLanding K.eq K.word V.weight
+            V.answers self.now.layout lead what notices.old notices.new) }
         ensures few { HasLanded 1 pass.old pass.new }
         ensures told { HasTold self.now.layout.config.entries notices.old notices.new }
         ensures faults { IfErr result.landed (λ fault. is_step_fault fault ≡ true) }
@@ -167,6 +183,8 @@ impl<
 
         ensures moved { OnOk result
             (pass.new ≡ with_step (home_of K.word lead.key self.now.layout) false pass.old) }
+        ensures step { OnOk result (IsSomeLanding K.eq K.word V.weight V.answers self.now.layout
+            lead land.Failed notices.old notices.new) }
 
         ensures told { HasTold self.now.layout.config.entries notices.old notices.new }
         ensures faults { IfErr result (λ fault. is_step_fault fault ≡ true) }

@@ -8,7 +8,6 @@ use crate::got::WorkerReport;
 use crate::line_pass::LinePass;
 use crate::loader::Loader;
 use std::sync::Wait;
-use std::thread;
 use wt_core::{Notices, Weighs};
 use wt_flights::Lead;
 use wt_keys::{Answers, CacheKey, Share};
@@ -26,12 +25,13 @@ impl<
     /// Takes loads off the line and runs them, and reports how many there were.
     ///
     /// Ends where it read that the line is closed and a take after that found none; after 2^40
-    /// loads; or at once where the cache has no line. While the line is open and empty it gives way
-    /// to other threads and asks again. A load whose landing is refused is published and rung all
-    /// the same. What leaves the cache is counted and dropped, and so is what the list held before.
-    /// Any number of workers may run at once, each with passes of its own. The pass of the line is
-    /// to be one of this cache's line. Takes the lock of a key's shard for each landing. Not
-    /// promised: that it returns.
+    /// loads; or at once where the cache has no line. While the line is open and empty it sleeps,
+    /// until a post or the close wakes it. A load whose landing is refused is published and rung
+    /// all the same. What leaves the cache is counted and dropped, and so is what the list held
+    /// before. Any number of workers may run at once, each with passes of its own. The pass of the
+    /// line is to be one of this cache's line. Takes the lock of a key's shard for each landing,
+    /// and that of the line's bell before it sleeps. Not promised: that it is woken; that it
+    /// returns.
     pub fn run_worker<R: Wait>(
         &self,
         rt: &R,
@@ -59,14 +59,8 @@ impl<
             if report.jobs >= MOST_JOBS {
                 return report;
             }
-            // Read before the take: a load that is posted after the mark is run by its poster.
-            let closed = line.is_closed();
-            let Some(lead) = line.take(rt, hand) else {
-                if closed {
-                    return report;
-                }
-                thread::yield_now();
-                continue;
+            let Some(lead) = line.next(rt, hand) else {
+                return report;
             };
             self.work(rt, pass, lead, notices, &mut report);
         }

@@ -65,6 +65,51 @@ fn loads_are_taken_in_the_order_of_the_posts(rt: HostRuntime) -> Result<(), Fail
     Ok(())
 }
 
+// Fills a line: each of its places takes a load, one more comes back, and a place that is emptied
+// takes it.
+fn fills<R: Wait + Abort>(rt: &R, alloc: Global, places: u32) -> Result<(), Fault> {
+    let line = Line::new(rt, alloc, places)?;
+    let mut hand = line.pass(rt)?;
+    for id in 1..=u64::from(places) {
+        assert_eq!(rt; post(rt, alloc, &line, &mut hand, id)?, Ok(Posted::Line));
+    }
+    let more = u64::from(places).wrapping_add(1);
+    assert_eq!(rt;
+        post(rt, alloc, &line, &mut hand, more)?,
+        Err((more, Fault::LineFull))
+    );
+    assert_eq!(rt; take(rt, &line, &mut hand), 1);
+    assert_eq!(rt; post(rt, alloc, &line, &mut hand, more)?, Ok(Posted::Line));
+    for id in 2..=more {
+        assert_eq!(rt; take(rt, &line, &mut hand), id);
+    }
+    Ok(())
+}
+
+#[test]
+fn a_line_holds_as_many_loads_as_it_was_made_for(rt: HostRuntime) -> Result<(), Fail> {
+    for places in [1, 2, 3, 64, 4096] {
+        fills(&rt, rt.alloc(), places)?;
+    }
+    Ok(())
+}
+
+#[test]
+fn a_closed_line_stays_closed_and_is_taken_from(rt: HostRuntime) -> Result<(), Fail> {
+    let alloc = rt.alloc();
+    let line = Line::new(&rt, alloc, 2)?;
+    let mut hand = line.pass(&rt)?;
+    assert!(rt; !line.is_closed());
+    assert_eq!(rt; post(&rt, alloc, &line, &mut hand, 1)?, Ok(Posted::Line));
+    for _ in 0..2 {
+        line.close(&rt);
+        assert!(rt; line.is_closed());
+    }
+    assert_eq!(rt; take(&rt, &line, &mut hand), 1);
+    assert_eq!(rt; take(&rt, &line, &mut hand), 0);
+    Ok(())
+}
+
 #[test]
 fn a_line_has_1_to_4096_places(rt: HostRuntime) -> Result<(), Fail> {
     let alloc = rt.alloc();

@@ -43,7 +43,7 @@ pub fn failures<N: Names, R: Wait + Abort>(
     cache: &Cache<N>,
     pass: &mut Pass<Of<N>>,
 ) -> Result<(), Fault> {
-    let fault = Fault::LoadFailed { code: 7 };
+    let fault = Fault::LoadFailed { code: 300 };
     assert_eq!(rt; get(rt, alloc, cache, pass, 1, 0), Err(fault));
     assert_eq!(rt; get(rt, alloc, cache, pass, 1, 0), Err(fault));
     let stats = cache.stats(rt);

@@ -101,7 +101,7 @@ fn plays_at<R: Wait + Abort>(
     played::<Brand, R>(rt, alloc, Blanks::new(), config, count, play)
 }
 
-/// Plays on one shard, and on four.
+/// Plays on one shard, on two and on four.
 pub fn plays<R: Wait + Abort>(
     rt: &R,
     alloc: Global,
@@ -109,5 +109,6 @@ pub fn plays<R: Wait + Abort>(
     play: Play,
 ) -> Result<(), Fault> {
     plays_at(rt, alloc, config, 1, play)?;
+    plays_at(rt, alloc, config, 2, play)?;
     plays_at(rt, alloc, config, 4, play)
 }

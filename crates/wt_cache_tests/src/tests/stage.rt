@@ -53,13 +53,13 @@ pub struct Marks {
 pub enum Way {
     /// Each key at once.
     Plain,
-    /// The key 1 by an error of code 7, the others at once.
+    /// The key 1 by an error of code 300, the others at once.
     FailsOne,
     /// The key 1 once it is released, the others at once.
     HoldsOne,
     /// Each key once two loads have begun.
     InPairs,
-    /// Every fifth load by an error of code 7, the others at once.
+    /// Every fifth load by an error of the greatest code, the others at once.
     FailsFifth,
 }
 
@@ -86,8 +86,8 @@ impl Loader<u64, Version> for Rules {
         let before = self.marks.begun.fetch_add(1, Ordering::SeqCst);
         let ends = match self.way {
             Way::Plain => true,
-            Way::FailsOne if *key == 1 => return Err(7),
-            Way::FailsFifth if before % 5 == 4 => return Err(7),
+            Way::FailsOne if *key == 1 => return Err(300),
+            Way::FailsFifth if before % 5 == 4 => return Err(u32::MAX),
             Way::HoldsOne if *key == 1 => rises(&self.marks.released, 1),
             Way::InPairs => rises(&self.marks.begun, 2),
             _ => true,

@@ -1,5 +1,5 @@
 // Several callers: one load for all of them, and a put while it lasts.
-use crate::tests::calls::{get, put};
+use crate::tests::calls::{Led, abandon, get, put};
 use crate::tests::stage::{Cache, Marks, Version, config, rises};
 use crate::tests::together::{Answer, Scene, gets, plays};
 use std::alloc::Global;
@@ -10,6 +10,7 @@ use std::test::Fail;
 use std::thread;
 use std::thread::Threads;
 use wt_cache::How;
+use wt_flights::Lead;
 use wt_keys::Fault;
 use wt_shards::Names;
 
@@ -71,6 +72,49 @@ pub fn one_load<N: Names + Send + Sync, R: Threads + Wait + Abort + Sync>(
 #[test]
 fn two_callers_share_one_load(rt: HostRuntime) -> Result<(), Fail> {
     plays(&rt, rt.alloc(), &config(4, 8, None), Scene::OneLoad)?;
+    Ok(())
+}
+
+// Gives a load up once a second look-up has missed, within 10,000,000 turns.
+fn gives_up<N: Names, R: Wait>(
+    rt: &R,
+    alloc: Global,
+    cache: &Cache<N>,
+    lead: Lead<u64, Version>,
+) -> Result<(), Fault> {
+    let mut pass = cache.pass(rt, alloc)?;
+    for _ in 0..10_000_000u64 {
+        if cache.stats(rt).misses == 2 {
+            return abandon(rt, alloc, cache, &mut pass, lead);
+        }
+        thread::yield_now();
+    }
+    Err(Fault::Mixed)
+}
+
+/// A caller waits for a load that is given up.
+pub fn given_up<N: Names + Send + Sync, R: Threads + Wait + Abort + Sync>(
+    rt: &R,
+    alloc: Global,
+    cache: &Cache<N>,
+    open: Led,
+) -> Result<(), Fault> {
+    let Some((lead, _ticket)) = open else {
+        return Err(Fault::Mixed);
+    };
+    let (joined, ended) = thread::join(
+        rt,
+        || gets(rt, alloc, cache, 1),
+        || gives_up(rt, alloc, cache, lead),
+    );
+    assert_eq!(rt; joined, Err(Fault::Abandoned));
+    assert_eq!(rt; ended, Ok(()));
+    Ok(())
+}
+
+#[test]
+fn who_waits_for_a_load_that_is_given_up_is_told(rt: HostRuntime) -> Result<(), Fail> {
+    plays(&rt, rt.alloc(), &config(4, 8, None), Scene::GivenUp)?;
     Ok(())
 }
 

@@ -2,10 +2,11 @@
 ghost use Rattle.std.specs.Prelude.{◌≡◌};
 ghost use Rattle.wt_shards.specs.Opening.{AreBlanksOf};
 
+use crate::tests::asleep::sleepers;
 use crate::tests::calls::{Led, get, led};
 use crate::tests::stage::{Cache, Marks, Plain, Rules, Version, Way, new_marks};
-use crate::tests::threads::{one_load, put_beside_load};
-use crate::tests::workers::{full_line, one_worker, two_workers};
+use crate::tests::threads::{given_up, one_load, put_beside_load};
+use crate::tests::workers::{full_line, one_worker, refresh, two_workers};
 use std::alloc::Global;
 use std::marker::Brand;
 use std::process::Abort;
@@ -29,6 +30,12 @@ pub enum Scene {
     OneWorker,
     /// Two workers run two loads, each of which ends only once the other has begun.
     TwoWorkers,
+    /// One worker loads a value that is due.
+    Refresh,
+    /// Two workers sleep while nothing is posted.
+    Sleepers,
+    /// A load is given up for which a caller waits.
+    GivenUp,
 }
 
 impl Scene {
@@ -36,7 +43,7 @@ impl Scene {
     fn way(self) -> Way {
         match self {
             Scene::OneLoad | Scene::PutBesideLoad => Way::HoldsOne,
-            Scene::FullLine => Way::Plain,
+            Scene::FullLine | Scene::Refresh | Scene::GivenUp | Scene::Sleepers => Way::Plain,
             Scene::OneWorker => Way::FailsOne,
             Scene::TwoWorkers => Way::InPairs,
         }
@@ -45,9 +52,9 @@ impl Scene {
     // The places of the line, 0 for none.
     fn places(self) -> u32 {
         match self {
-            Scene::OneLoad | Scene::PutBesideLoad => 0,
-            Scene::FullLine | Scene::OneWorker => 1,
-            Scene::TwoWorkers => 2,
+            Scene::OneLoad | Scene::PutBesideLoad | Scene::GivenUp => 0,
+            Scene::FullLine | Scene::OneWorker | Scene::Refresh => 1,
+            Scene::TwoWorkers | Scene::Sleepers => 2,
         }
     }
 }
@@ -76,7 +83,7 @@ fn led_for<N: Names, R: Wait>(
     scene: Scene,
 ) -> Result<Led, Fault> {
     match scene {
-        Scene::FullLine => led_alone(rt, alloc, shards),
+        Scene::FullLine | Scene::GivenUp => led_alone(rt, alloc, shards),
         _ => Ok(None),
     }
 }
@@ -109,6 +116,9 @@ fn act<N: Names + Send + Sync, R: Threads + Wait + Abort + Sync>(
         Scene::FullLine => full_line(rt, alloc, cache, open),
         Scene::OneWorker => one_worker(rt, alloc, cache),
         Scene::TwoWorkers => two_workers(rt, alloc, cache),
+        Scene::Refresh => refresh(rt, alloc, cache),
+        Scene::Sleepers => sleepers(rt, alloc, cache),
+        Scene::GivenUp => given_up(rt, alloc, cache, open),
     }
 }
 
@@ -146,7 +156,7 @@ fn plays_at<R: Threads + Wait + Abort + Sync>(
     played::<Brand, R>(rt, alloc, Blanks::new(), config, count, scene)
 }
 
-/// Plays on one shard, and on four.
+/// Plays on one shard, on two and on four.
 pub fn plays<R: Threads + Wait + Abort + Sync>(
     rt: &R,
     alloc: Global,
@@ -154,5 +164,6 @@ pub fn plays<R: Threads + Wait + Abort + Sync>(
     scene: Scene,
 ) -> Result<(), Fault> {
     plays_at(rt, alloc, config, 1, scene)?;
+    plays_at(rt, alloc, config, 2, scene)?;
     plays_at(rt, alloc, config, 4, scene)
 }

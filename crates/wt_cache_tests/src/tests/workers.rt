@@ -1,5 +1,5 @@
 // The line and its workers: who runs a load, and what is reported.
-use crate::tests::calls::Led;
+use crate::tests::calls::{Led, get, put};
 use crate::tests::stage::{Cache, Version, config};
 use crate::tests::together::{Answer, Scene, gets, plays};
 use std::alloc::Global;
@@ -14,8 +14,8 @@ use wt_flights::{Lead, Outcome};
 use wt_keys::Fault;
 use wt_shards::Names;
 
-// What a worker reports: its jobs, the failed ones, and what left.
-type Report = Result<(u64, u64, u64), Fault>;
+/// What a worker reports: its jobs, the failed ones, and what left.
+pub type Report = Result<(u64, u64, u64), Fault>;
 
 // A worker with passes of its own runs until the line is closed and empty.
 fn works<N: Names, R: Wait>(rt: &R, alloc: Global, cache: &Cache<N>) -> Report {
@@ -107,7 +107,7 @@ pub fn one_worker<N: Names + Send + Sync, R: Threads + Wait + Abort + Sync>(
         || get_three(rt, alloc, cache),
         || works(rt, alloc, cache),
     );
-    assert_eq!(rt; got.0, Err(Fault::LoadFailed { code: 7 }));
+    assert_eq!(rt; got.0, Err(Fault::LoadFailed { code: 300 }));
     assert_eq!(rt; got.1, Ok((How::Loaded, 0)));
     assert_eq!(rt; got.2, Ok((How::Loaded, 0)));
     assert_eq!(rt; report, Ok((3, 1, 1)));
@@ -117,6 +117,35 @@ pub fn one_worker<N: Names + Send + Sync, R: Threads + Wait + Abort + Sync>(
 #[test]
 fn a_worker_counts_jobs_failures_and_removals(rt: HostRuntime) -> Result<(), Fail> {
     plays(&rt, rt.alloc(), &config(1, 8, None), Scene::OneWorker)?;
+    Ok(())
+}
+
+// A value is put and got once it is due; then the line is closed.
+fn get_due<N: Names, R: Wait>(rt: &R, alloc: Global, cache: &Cache<N>) -> Answer {
+    let mut pass = cache.pass(rt, alloc)?;
+    put(rt, alloc, cache, &mut pass, Version { key: 1, line: 5 }, 0)?;
+    let got = get(rt, alloc, cache, &mut pass, 1, 50);
+    close(rt, cache);
+    let (how, line, _step) = got?;
+    Ok((how, line))
+}
+
+/// One worker beside one caller, whose value is due: the old one is got, the new one is loaded.
+pub fn refresh<N: Names + Send + Sync, R: Threads + Wait + Abort + Sync>(
+    rt: &R,
+    alloc: Global,
+    cache: &Cache<N>,
+) -> Result<(), Fault> {
+    let (got, report) = thread::join(rt, || get_due(rt, alloc, cache), || works(rt, alloc, cache));
+    assert_eq!(rt; got, Ok((How::Refreshed, 5)));
+    assert_eq!(rt; report, Ok((1, 0, 1)));
+    assert_eq!(rt; gets(rt, alloc, cache, 1), Ok((How::Hit, 0)));
+    Ok(())
+}
+
+#[test]
+fn a_worker_loads_a_due_value_anew(rt: HostRuntime) -> Result<(), Fail> {
+    plays(&rt, rt.alloc(), &config(4, 8, None), Scene::Refresh)?;
     Ok(())
 }
 
@@ -135,8 +164,8 @@ fn get_two<N: Names + Send + Sync, R: Threads + Wait + Sync>(
     got
 }
 
-// Two workers beside each other.
-fn work_twice<N: Names + Send + Sync, R: Threads + Wait + Sync>(
+/// Two workers beside each other.
+pub fn work_twice<N: Names + Send + Sync, R: Threads + Wait + Sync>(
     rt: &R,
     alloc: Global,
     cache: &Cache<N>,

@@ -1,12 +1,15 @@
 use Rattle.std.proofs.Common.{ap, arith, rules}
-use Rattle.wt_cache.proofs.Told.{told_both}
+use Rattle.wt_cache.proofs.Told.{told_none, told_both}
 use Rattle.wt_cache.specs.Cached.{Cached}
-use Rattle.wt_cache.proofs.Runs.{tried_sought, on_err}
+use Rattle.wt_cache.proofs.Runs.{tried_late}
 use Rattle.wt_cache.proofs.Seeks.{sought_alone}
 use Rattle.wt_cache.proofs.cache.LoadingCache.get.Goals as goal
 
 pub returns-in_err-value-in-Join-clause-err : goal.returns-in_err-value-in-Join-clause-err
-returns-in_err-value-in-Join-clause-err g c = on_err _ _ (tried_sought _ _ _ (let h = c.in_ok-done.ensures.made.moved in let v = c.self.view_is in search (rules, h, v)))
+returns-in_err-value-in-Join-clause-err g c = tried_late _ _ _ c.in_err-value-in-Join.field-0.0 _ _ _ c.from_residual-in_err-value-in-Join.ensures.1 c.in_err-value-in-Join.ensures.faults (let h = c.in_ok-done.ensures.made.moved in let v = c.self.view_is in search (rules, h, v))
+
+pub returns-in-Hit-clause-told : goal.returns-in-Hit-clause-told
+returns-in-Hit-clause-told g c = told_both _ _ _ _ _ _ c.in_ok-done.ensures.made.told (told_none 0 _) (omega (arith, ap (λ (s : Cached). s.layout.config.entries) c.self.view_is))
 
 pub returns-in_err-hand_on-in-Lead-clause-told : goal.returns-in_err-hand_on-in-Lead-clause-told
 returns-in_err-hand_on-in-Lead-clause-told g c = told_both _ _ _ _ _ _ c.in_ok-done.ensures.made.told c.hand_on-in-Lead.ensures.told (omega (arith, ap (λ (s : Cached). s.layout.config.entries) c.self.view_is))

@@ -21,7 +21,7 @@ pub loop-preserved : goal.loop-preserved
 loop-preserved g c =
     let more = c.work.ensures.jobs in
     let fewer = c.if-report-ge-MOST_JOBS.false in
-    let taken = taken_more _ _ _ _ _ c.loop.invariant.taken c.in-Some-take.ensures.moved in record {
+    let taken = taken_more _ _ _ _ _ c.loop.invariant.taken c.in-Some-next.ensures.moved in record {
       can_next = tt;
       is_finite = tt;
       notices = c.work.ensures.notices ∙ c.loop.invariant.notices;
