@@ -1,3 +1,4 @@
+pub mod Acted
 pub mod Dealt
 pub mod Faulty
 pub mod Passed

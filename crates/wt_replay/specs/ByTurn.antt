@@ -5,10 +5,12 @@ use Rattle.std.specs.Io.KnownBytes.{Keeps, Appends}
 use Rattle.wt_core.specs.Lawful.{AreSmall}
 use Rattle.wt_core.specs.Sums.{no_numbers}
 use Rattle.wt_core.specs.declared.stats.Stats.{Stats}
+use Rattle.wt_shards.specs.Place.{Layout}
 use Rattle.wt_shards.specs.Totals.{Settled}
 use Rattle.wt_shards.specs.declared.total.Total.{Total}
 use Rattle.wt_trace.specs.Keys.{numbers, names}
-use Rattle.wt_trace.specs.Replayed.{Gave, AppendsPrefix}
+use Rattle.wt_trace.specs.Options.{config_of}
+use Rattle.wt_trace.specs.Replayed.{Gave, AppendsPrefix, is_config_fault}
 use Rattle.wt_trace.specs.Report.{summary_of}
 use Rattle.wt_trace.specs.Stops.{AreAsked}
 use Rattle.wt_trace.specs.Trace.{Trace, Verdict, lines_of, is_header, trace_from}
@@ -17,6 +19,7 @@ use Rattle.wt_trace.specs.declared.fault.ReplayFault.TheVariants.{Cache, BadLine
 use Rattle.wt_trace.specs.declared.line.Act.{Act}
 use Rattle.wt_trace.specs.declared.line.Act.TheVariants as act
 use Rattle.wt_trace.specs.declared.line.Line.{Line}
+use Rattle.wt_trace.specs.declared.options.Options.{Options}
 
 -- whether a line leaves a load open or lands one: no turn has such lines, since there the cache lands what it opens
 abbrev pub opens : {K : Type 0} → Act K → Bool
@@ -69,17 +72,17 @@ Turned r s w x (Err (LineTooLong n)) = (bytes : List ℕ) × Gave r s bytes × (
 Turned r s w x (Err TooManyLines) = (bytes : List ℕ) × Gave r s bytes × (turn_fault bytes ≡ Some TooManyLines) × Keeps w x
 Turned r s w x (Err fault) = Keeps w x
 
--- a fault that ends the reading of a trace or a run: one of a line is what is wrong with the trace
-abbrev pub IsTurnFault : Option ReplayFault → ReplayFault → Type 0
-IsTurnFault wrong (BadLine n) = wrong ≡ Some (BadLine n)
-IsTurnFault wrong (LineTooLong n) = wrong ≡ Some (LineTooLong n)
-IsTurnFault wrong TooManyLines = wrong ≡ Some TooManyLines
-IsTurnFault wrong ReadFault = ⊥
-IsTurnFault wrong WriteFault = ⊥
-IsTurnFault wrong (Cache fault) = Unit {0}
-IsTurnFault wrong (GateShut n) = Unit {0}
+-- a fault that ends the reading of a trace or a run: one of a line is what is wrong with the trace, and none is of the options
+abbrev pub IsTurnFault : (ℕ → Type 0) → Option ReplayFault → ReplayFault → Type 0
+IsTurnFault shut wrong (BadLine n) = wrong ≡ Some (BadLine n)
+IsTurnFault shut wrong (LineTooLong n) = wrong ≡ Some (LineTooLong n)
+IsTurnFault shut wrong TooManyLines = wrong ≡ Some TooManyLines
+IsTurnFault shut wrong ReadFault = ⊥
+IsTurnFault shut wrong WriteFault = ⊥
+IsTurnFault shut wrong (Cache fault) = is_config_fault (Cache fault) ≡ false
+IsTurnFault shut wrong (GateShut n) = shut n
 
--- lines that threads may do in turn: their first number is 1 or 2, and there are so many lines and threads as there may be
+-- lines that threads may do in turn: the first number is 1 or 2, and there are at most 1,000,000 lines and 64 threads
 pub record IsReady (first lines threads : ℕ) : Type 0 where
   pub some_line : 1 ≤ first
   pub near : first ≤ 2
@@ -91,6 +94,10 @@ pub record IsReady (first lines threads : ℕ) : Type 0 where
 pub record IsManned (shards first lines threads : ℕ) : Type 0 where
   pub few : shards ≤ 4
   pub ready : IsReady first lines threads
+
+-- how the cache of a replay is laid out
+abbrev pub layout_of : Options → Layout
+layout_of o = record { shards = o.shards; config = config_of o }
 
 -- numbers that hang together and can be added up
 pub record IsGood (t : Total) : Type 0 where

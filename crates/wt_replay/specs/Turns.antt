@@ -1,36 +1,119 @@
 -- What one thread does of a replay turn by turn.
-use Rattle.std.specs.Prelude.{◌≡◌, ◌⊎◌, ℕ, ◌+◌, ◌-◌, ◌<◌, ◌%◌, ◌==◌, Bool, true, false, List, [], ◌∷◌, Result, Err, IfOk, IfErr, get_or}
+use Rattle.std.specs.Prelude.{◌≡◌, ◌⊎◌, ℕ, ◌+◌, ◌-◌, ◌<◌, ◌%◌, ◌==◌, Bool, true, false, if◌then◌else◌, List, [], ◌∷◌, All, Result, Ok, Err, IfOk, IfErr, get_or}
+use Rattle.std.specs.Option.{option_map_or}
+use Rattle.wt_keys.specs.declared.fault.Fault.{Fault}
+use Rattle.wt_keys.specs.declared.fault.Fault.TheVariants.{NoMemory, LoadFailed, TooHeavy, TooManyFlights}
+use Rattle.wt_regions.specs.Notices.{NoticeList}
+use Rattle.wt_core.specs.declared.calls.Call.{Call}
+use Rattle.wt_core.specs.declared.calls.Call.TheVariants as call
+use Rattle.wt_core.specs.declared.calls.Reply.{Reply}
+use Rattle.wt_shards.specs.Counts.{is_hit}
+use Rattle.wt_shards.specs.Outer.{IsSomeStep, HasCause}
+use Rattle.wt_shards.specs.Passes.{Passed, new_pass, with_step, with_steps}
+use Rattle.wt_shards.specs.Place.{Place, home_of, place_of}
+use Rattle.wt_shards.specs.Sweeps.{AreSwept}
 use Rattle.wt_cache.specs.Cached.{Cached}
+use Rattle.wt_cache.specs.Gets.{IsSought}
 use Rattle.wt_cache.specs.Moves.{HasGot, HasTried}
 use Rattle.wt_cache.specs.declared.got.How.{How}
+use Rattle.wt_trace.specs.Answers.{version}
+use Rattle.wt_trace.specs.Keys.{Keys}
+use Rattle.wt_trace.specs.Replayed.{is_config_fault}
+use Rattle.wt_trace.specs.declared.fault.ReplayFault.TheVariants.{Cache}
 use Rattle.wt_trace.specs.declared.line.Act.{Act}
 use Rattle.wt_trace.specs.declared.line.Act.TheVariants as act
 use Rattle.wt_trace.specs.declared.line.Line.{Line}
+use Rattle.wt_trace.specs.declared.options.Options.{Options}
+use Rattle.wt_trace.specs.declared.version.Version.{Version}
 use Rattle.wt_replay.specs.declared.turns.RunFault.{RunFault}
 use Rattle.wt_replay.specs.declared.turns.RunFault.TheVariants as run
-use Rattle.wt_keys.specs.declared.fault.Fault.TheVariants.{NoMemory}
-use Rattle.wt_shards.specs.Passes.{Passed, new_pass, with_step, with_steps}
-use Rattle.wt_shards.specs.Place.{Layout, home_of}
 
 -- whether line n is thread t's: lines are dealt out in turn
 abbrev pub is_turn : ℕ → ℕ → ℕ → Bool
 is_turn threads t n = (n - 1) % threads == t
 
--- what a get did to a pass, whether it answered or was refused
-abbrev pub HasAsked : Bool → ℕ → Passed → Passed → Type 0
-HasAsked lined home old new = ((how : How) × HasGot lined home how old new) ⊎ HasTried home old new
+-- a fault of a line that doesn't end the run: a load that failed, a value too heavy, no place for a load
+abbrev pub is_passed_over : Fault → Bool
+is_passed_over (LoadFailed code) = true
+is_passed_over (TooHeavy weight bound) = true
+is_passed_over (TooManyFlights limit) = true
+is_passed_over fault = false
 
--- what a line does to the pass of its thread, once: the steps of its call, or none where that is passed over
-abbrev pub HasActed : {K : Type 0} → (K → ℕ) → Layout → Bool → Act K → Passed → Passed → Type 0
-HasActed word l lined (act.Look key) old new = (hit : Bool) × (new ≡ with_step (home_of word key l) hit old)
-HasActed word l lined (act.Put key) old new = (new ≡ with_step (home_of word key l) false old) ⊎ (new ≡ old)
-HasActed word l lined (act.Seek key) old new = new ≡ old
-HasActed word l lined (act.Get key) old new = HasAsked lined (home_of word key l) old new
-HasActed word l lined (act.Land key) old new = new ≡ old
-HasActed word l lined (act.Drop key) old new = new ≡ with_step (home_of word key l) false old
-HasActed word l lined (act.Forget key) old new = new ≡ with_step (home_of word key l) false old
-HasActed word l lined act.Clean old new = new ≡ with_steps l.shards old
-HasActed word l lined act.Clear old new = new ≡ with_steps l.shards old
+-- how a load of the key ends: with the value of a line 0, or by the code 7
+abbrev pub loaded : {K : Type 0} → (K → ℕ) → Options → K → Result (Version K) ℕ
+loaded word o k = if option_map_or (λ f. word k % f == 0) o.fail_mod false then Err 7 else Ok (record { key = k; line = 0; weight = 1 + word k % o.modulus })
+
+module _ {K : Type 0} (keys : Keys K) where
+  -- a value weighs as it says
+  abbrev pub weight_of : Version K → ℕ
+  weight_of v = v.weight
+
+  -- a value answers the key that it was made for
+  abbrev pub answers_for : Version K → K → Bool
+  answers_for v k = keys.eq v.key k
+
+  module _ (o : Options) (c : Cached) (old new : Passed) where
+    -- the number of a key's shard
+    abbrev pub home : K → ℕ
+    home k = home_of keys.word k c.layout
+
+    -- where a key's shard stands
+    abbrev pub place : K → Place
+    place k = place_of (home k) c.layout
+
+    -- the pass made one step at the key's shard, which in some lawful state of it is this call's
+    pub record HasMade (k : K) (call : Call K (Version K)) : Type 0 where
+      pub reply : Reply (Version K)
+      pub number : ℕ
+      pub before : NoticeList K (Version K)
+      pub after : NoticeList K (Version K)
+      pub step : IsSomeStep keys.eq keys.word weight_of answers_for (place k) call reply number before after
+      pub moved : new ≡ with_step (home k) (is_hit reply) old
+
+    -- the pass made one step at each shard, which in some lawful state of it is this call's
+    pub record HasSwept (call : Call K (Version K)) : Type 0 where
+      pub before : NoticeList K (Version K)
+      pub after : NoticeList K (Version K)
+      pub steps : AreSwept keys.eq keys.word weight_of answers_for c.layout call c.layout.shards before after
+      pub moved : new ≡ with_steps c.layout.shards old
+
+    -- a get gave a value
+    pub record HasGiven (k : K) (now : ℕ) : Type 0 where
+      pub how : How
+      pub value : Version K
+      pub number : ℕ
+      pub before : NoticeList K (Version K)
+      pub after : NoticeList K (Version K)
+      pub sought : IsSought keys.eq keys.word weight_of answers_for (place k) k now how value number before after
+      pub moved : HasGot c.lined (home k) how old new
+
+    -- a get ended by a fault that is passed over
+    pub record HasFailed (k : K) (now : ℕ) : Type 0 where
+      pub fault : Fault
+      pub passed_over : is_passed_over fault ≡ true
+      pub before : NoticeList K (Version K)
+      pub after : NoticeList K (Version K)
+      pub tried : HasTried c.lined (home k) (HasCause keys.eq keys.word weight_of answers_for (place k) (call.Seek k now) fault × (after ≡ before)) fault old new
+
+    -- a value is stored, unless it is too heavy
+    abbrev pub HasPut : K → Version K → ℕ → Type 0
+    HasPut k v now = HasMade k (call.Put k v now) ⊎ ((c.layout.config.bound < v.weight) × (new ≡ old))
+
+    -- what line n does, at this moment, with the pass of its thread: its call and no other
+    abbrev pub HasDone : ℕ → ℕ → Act K → Type 0
+    HasDone n now (act.Look k) = HasMade k (call.Look k now)
+    HasDone n now (act.Put k) = HasPut k (version keys o n k) now
+    HasDone n now (act.Seek k) = new ≡ old
+    HasDone n now (act.Get k) = HasGiven k now ⊎ HasFailed k now
+    HasDone n now (act.Land k) = new ≡ old
+    HasDone n now (act.Drop k) = HasMade k (call.DropKey k now)
+    HasDone n now (act.Forget k) = HasMade k (call.Forget k now)
+    HasDone n now act.Clean = HasSwept (call.Clean now)
+    HasDone n now act.Clear = HasSwept (call.Clear now)
+
+  -- what line n does
+  abbrev pub HasActed : Options → Cached → ℕ → Line K → Passed → Passed → Type 0
+  HasActed o c n l old new = HasDone o c old new n l.moment l.act
 
 -- a line of the thread's own was let through and done, once; another thread's line is left alone
 abbrev pub IsTurn : Bool → Type 0 → (Passed → Passed → Type 0) → Passed → Passed → Type 0
@@ -38,27 +121,31 @@ IsTurn true passed acted old new = passed × acted old new
 IsTurn false passed acted old new = new ≡ old
 
 -- a thread's turns with the lines from line n on, in their order
-abbrev pub AreTurns : {K : Type 0} → (ℕ → Bool) → (ℕ → Type 0) → (Act K → Passed → Passed → Type 0) → ℕ → List (Line K) → Passed → Passed → Type 0
+abbrev pub AreTurns : {K : Type 0} → (ℕ → Bool) → (ℕ → Type 0) → (ℕ → Line K → Passed → Passed → Type 0) → ℕ → List (Line K) → Passed → Passed → Type 0
 AreTurns own passed acted n [] old new = new ≡ old
-AreTurns own passed acted n (l ∷ ls) old new = (next : Passed) × IsTurn (own n) (passed n) (acted l.act) old next × AreTurns own passed acted (n + 1) ls next new
+AreTurns own passed acted n (l ∷ ls) old new = (next : Passed) × IsTurn (own n) (passed n) (acted n l) old next × AreTurns own passed acted (n + 1) ls next new
 
--- a fault of the cache, or of a line before which the gate was shut
+-- a fault of the cache, none of its options, or of a line before which the gate was shut
 abbrev pub IsRunStop : (ℕ → Type 0) → RunFault → Type 0
-IsRunStop shut (run.Cache fault) = Unit {0}
+IsRunStop shut (run.Cache fault) = is_config_fault (Cache fault) ≡ false
 IsRunStop shut (run.GateShut n) = shut n
+
+-- what workers hand back: no fault of it is one of the options
+abbrev pub AreWorked : {P : Type 0} → List (Result P Fault) → Type 0
+AreWorked worked = All (λ one. IfErr one (λ f. is_config_fault (Cache f) ≡ false)) worked
 
 -- what stands for a thread that isn't there
 abbrev pub unmade : {P : Type 0} → Result P RunFault
 unmade = Err (run.Cache NoMemory)
 
--- a thread did so with its pass, or it stopped
-abbrev pub IsShare : (Passed → Type 0) → (ℕ → Type 0) → Result Passed RunFault → Type 0
-IsShare did shut share = IfOk share did × IfErr share (IsRunStop shut)
-
--- what thread t hands back: the pass with which it did its turns, or why it stopped
-abbrev pub IsDone : {K : Type 0} → (K → ℕ) → Cached → (ℕ → Bool → Type 0) → ℕ → List (Line K) → ℕ → ℕ → Result Passed RunFault → Type 0
-IsDone word c answers first lines threads t = IsShare (AreTurns (is_turn threads t) (λ n. answers n true) (HasActed word c.layout c.lined) first lines (new_pass c.layout.shards)) (λ n. answers n false)
+-- what thread t hands back
+pub record IsDone {K : Type 0} (keys : Keys K) (o : Options) (c : Cached) (answers : ℕ → Bool → Type 0) (first : ℕ) (lines : List (Line K)) (threads t : ℕ)
+    (share : Result Passed RunFault) : Type 0 where
+  -- the pass with which it did its turns
+  pub turns : IfOk share (AreTurns (is_turn threads t) (λ n. answers n true) (HasActed keys o c) first lines (new_pass c.layout.shards))
+  -- or why it stopped
+  pub err : IfErr share (IsRunStop (λ n. answers n false))
 
 -- what all threads hand back
-abbrev pub AreDone : {K : Type 0} → (K → ℕ) → Cached → (ℕ → Bool → Type 0) → ℕ → List (Line K) → ℕ → List (Result Passed RunFault) → Type 0
-AreDone word c answers first lines threads ran = (t : ℕ) → t < threads → IsDone word c answers first lines threads t (get_or ran t unmade)
+abbrev pub AreDone : {K : Type 0} → Keys K → Options → Cached → (ℕ → Bool → Type 0) → ℕ → List (Line K) → ℕ → List (Result Passed RunFault) → Type 0
+AreDone keys o c answers first lines threads ran = (t : ℕ) → t < threads → IsDone keys o c answers first lines threads t (get_or ran t unmade)

@@ -5,15 +5,16 @@
 //     workers, each with a pass ◄── a line of 64 loads ◄─┘
 //
 // When all threads have ended the line is closed, the workers end, and all passes are settled.
-ghost use Rattle.std.specs.Prelude.{◌≡◌, ◌+◌, ◌≤◌, length, IfOk, IfErr, OnOk, IfSome, None, true};
+ghost use Rattle.std.specs.Prelude.{◌≡◌, ◌+◌, ◌≤◌, length, IfOk, IfErr, IfSome, None, false, true};
 ghost use Rattle.wt_core.specs.Lawful.{AreSmall};
-ghost use Rattle.wt_shards.specs.Opening.{AreBlanksOf};
-ghost use Rattle.wt_trace.specs.Options.{config_of, option_fault};
-ghost use Rattle.wt_trace.specs.Stops.{AreAsked};
+ghost use Rattle.wt_trace.specs.Options.{option_fault};
 ghost use Rattle.wt_trace.specs.Trace.{lines_of, trace_from, line_end};
 ghost use Rattle.wt_core.specs.Sums.{AreSums};
 ghost use Rattle.wt_replay.specs.ByTurn.{AreLooked, IsGood};
 ghost use Rattle.wt_replay.specs.ByTurn as spec;
+ghost use Rattle.wt_replay.specs.Contract.{AreLedgersOf, AreSumsOf, AreTraceSums, IsSession};
+ghost use Rattle.wt_trace.specs.Replayed.{is_config_fault};
+ghost use Rattle.wt_trace.specs.declared.fault.ReplayFault.TheVariants as fault;
 
 use crate::crew::{gather, stop_of, work_all};
 use crate::loader::TraceLoader;
@@ -67,23 +68,21 @@ fn opened<K: TraceKey, N: Names + Send + Sync, R: Wait>(
     blanks: Blanks,
     options: &Options,
 ) -> Result<LoadingCache<K, Version<K>, TraceLoader, Of<N>>, Fault>
-    requires layout { N.layout ≡ record
-        { shards = options.now.shards; config = config_of options.now } }
-    requires blanks { AreBlanksOf N.name blanks }
-    requires options { option_fault options.now ≡ None }
-    ensures shards { IfOk result (λ cache. cache.layout.shards ≤ 4) }
-    ensures entries { IfOk result (λ cache. cache.layout.config.entries ≡ options.now.entries) }
+    requires { AreLedgersOf N.layout N.name blanks options.now }
+    ensures layout { IfOk result (λ cache. cache.layout ≡ spec.layout_of options.now) }
+    ensures few { IfOk result (λ cache. cache.layout.shards ≤ 4) }
+    ensures faults { IfErr result (λ f. is_config_fault (fault.Cache f) ≡ false) }
 {
     let config = options.config();
-    let shards: Shards<K, Version<K>, Of<N>> = match Shards::new(
+    // The options are in their ranges, so only memory can be refused.
+    let Ok(shards) = Shards::<K, Version<K>, Of<N>>::new(
         rt,
         alloc,
         blanks,
         &config,
         options.shards(),
-    ) {
-        Ok(shards) => shards,
-        Err(fault) => return Err(fault),
+    ) else {
+        return Err(Fault::NoMemory);
     };
     let loader = TraceLoader::of(options);
     if options.workers == 0 {
@@ -102,7 +101,8 @@ fn settled<K: TraceKey, N: Names + Send + Sync, R: Wait>(
     cache: LoadingCache<K, Version<K>, TraceLoader, Of<N>>,
     passes: Vec<Pass<Of<N>>>,
 ) -> Result<Stats, Fault>
-    ensures { IfOk result AreLooked }
+    ensures looked { IfOk result AreLooked }
+    ensures faults { IfErr result (λ f. is_config_fault (fault.Cache f) ≡ false) }
 {
     match cache.finish().settle(rt, alloc, passes) {
         Ok(totals) => Ok(sum_of(&totals)),
@@ -119,13 +119,8 @@ fn session<K: TraceKey, N: Names + Send + Sync, G: Gate, R: Threads + Wait + Syn
     deal: &Deal<'_, K>,
     gate: &G,
 ) -> Result<Stats, RunFault>
-    requires layout { N.layout ≡ record
-        { shards = options.now.shards; config = config_of options.now } }
-    requires blanks { AreBlanksOf N.name blanks }
-    requires options { option_fault options.now ≡ None }
-    ensures asked { OnOk result (AreAsked (λ _. true) (λ n. G.answers gate.now n true)
-        deal.now.first deal.now.lines.now) }
-    ensures looked { IfOk result AreLooked }
+    requires { AreLedgersOf N.layout N.name blanks options.now }
+    ensures { IsSession (G.answers gate.now) deal.now.first deal.now.lines.now result }
 {
     let cache: LoadingCache<K, Version<K>, TraceLoader, Of<N>> = match opened(
         rt, alloc, blanks, options,
@@ -159,10 +154,8 @@ fn totals_by_turn<K: TraceKey, G: Gate, R: Threads + Wait + Sync>(
     deal: &Deal<'_, K>,
     gate: &G,
 ) -> Result<Stats, RunFault>
-    requires options { option_fault options.now ≡ None }
-    ensures asked { OnOk result (AreAsked (λ _. true) (λ n. G.answers gate.now n true)
-        deal.now.first deal.now.lines.now) }
-    ensures looked { IfOk result AreLooked }
+    requires { option_fault options.now ≡ None }
+    ensures { IsSession (G.answers gate.now) deal.now.first deal.now.lines.now result }
 {
     session::<K, Brand, G, R>(rt, alloc, Blanks::new(), options, deal, gate)
 }
@@ -197,13 +190,8 @@ fn sums_of_trace<K: TraceKey, G: Gate, R: Threads + Wait + Sync>(
     requires options { option_fault options.now ≡ None }
     requires first { (1 ≤ first) × (first ≤ 2) }
     requires threads { (1 ≤ threads) × (threads ≤ 64) }
-    ensures asked { OnOk result (AreAsked (λ _. true) (λ n. G.answers gate.now n true) first
-        (trace_from K.read first (lines_of bytes.now)).lines) }
-    ensures looked { IfOk result AreLooked }
-    ensures sound { OnOk result (spec.faulty first (trace_from K.read first (lines_of bytes.now))
-        ≡ None) }
-    ensures faults { IfErr result (spec.IsTurnFault
-        (spec.faulty first (trace_from K.read first (lines_of bytes.now)))) }
+    ensures { AreTraceSums (G.answers gate.now) first (trace_from K.read first (lines_of bytes.now))
+        result }
 {
     let Ok(read) = read_lines::<K>(alloc, first, bytes) else {
         return Err(ReplayFault::Cache(Fault::NoMemory));
@@ -245,10 +233,8 @@ pub fn sums_by_turn<G: Gate, R: Threads + Wait + Sync>(
 ) -> Result<Stats, ReplayFault>
     requires options { option_fault options.now ≡ None }
     requires threads { (1 ≤ threads) × (threads ≤ 64) }
-    ensures asked { OnOk result (spec.IsLetThrough (λ n. G.answers gate.now n true) bytes.now) }
-    ensures looked { IfOk result AreLooked }
-    ensures sound { OnOk result (spec.turn_fault bytes.now ≡ None) }
-    ensures faults { IfErr result (spec.IsTurnFault (spec.turn_fault bytes.now)) }
+    ensures made { AreSumsOf (spec.IsLetThrough (λ n. G.answers gate.now n true) bytes.now)
+        (spec.turn_fault bytes.now) (λ n. G.answers gate.now n false) result }
 {
     let Some(rest) = behind_header(bytes) else {
         return sums_of_trace::<u64, G, R>(rt, alloc, options, 1, bytes, threads, gate);

@@ -1,7 +1,11 @@
 // The threads of a replay turn by turn, and its workers.
-ghost use Rattle.std.specs.Prelude.{◌≡◌, ◌<◌, ◌≤◌, ℕ, length, vec_len, get_or, IfOk, IfSome, IsOk, IsNone, Err};
+ghost use Rattle.std.specs.Prelude.{◌≡◌, ◌<◌, ◌≤◌, ℕ, length, vec_len, get_or, IfOk, IfErr, IfSome, IsOk, IsNone, Err, false};
 ghost use Rattle.wt_replay.specs.ByTurn.{IsManned};
-ghost use Rattle.wt_replay.specs.Turns.{AreDone, IsDone, unmade};
+ghost use Rattle.wt_replay.specs.Contract.{HaveRan};
+ghost use Rattle.wt_replay.specs.Turns.{AreDone, AreWorked, IsDone, unmade};
+ghost use Rattle.wt_trace.specs.Keys.{keys_by};
+ghost use Rattle.wt_trace.specs.Replayed.{is_config_fault};
+ghost use Rattle.wt_trace.specs.declared.fault.ReplayFault.TheVariants as fault;
 
 use crate::loader::TraceLoader;
 use crate::turns::{Deal, RunFault, run_loads, run_thread};
@@ -33,9 +37,8 @@ fn turns<K: TraceKey, N: Names + Send + Sync, G: Gate, R: Threads + Wait + Sync>
     gate: &G,
 ) -> Result<Ran<Of<N>>, AllocError>
     requires { cache.now.layout.shards ≤ 4 }
-    ensures each { IfOk result (λ ran. AreDone K.word cache.now (G.answers gate.now)
-        deal.now.first deal.now.lines.now deal.now.threads ran.items) }
-    ensures len { IfOk result (λ ran. vec_len ran ≡ deal.now.threads) }
+    ensures { HaveRan (keys_by K.eq K.word K.read K.shown) deal.now.loader.now.options cache.now
+        (G.answers gate.now) deal.now.first deal.now.lines.now deal.now.threads result }
 {
     // Taken apart: the prover finds no proof for a thread's closure that captures the deal whole.
     let Deal {
@@ -51,8 +54,8 @@ fn turns<K: TraceKey, N: Names + Send + Sync, G: Gate, R: Threads + Wait + Sync>
         &|t: usize| -> Result<Pass<Of<N>>, RunFault>
             requires { IsManned cache.now.layout.shards first (length lines.now) threads
                 × (t < threads) }
-            ensures { IsDone K.word cache.entry.now (G.answers gate.entry.now) first lines.entry.now
-                threads t result }
+            ensures { IsDone (keys_by K.eq K.word K.read K.shown) loader.entry.now.options
+                cache.entry.now (G.answers gate.entry.now) first lines.entry.now threads t result }
         {
             let deal = Deal {
                 loader,
@@ -93,9 +96,8 @@ fn handle_all<K: TraceKey, N: Names + Send + Sync, G: Gate, R: Threads + Wait + 
     manned: &AtomicBool,
 ) -> Result<Ran<Of<N>>, AllocError>
     requires { cache.now.layout.shards ≤ 4 }
-    ensures each { IfOk result (λ ran. AreDone K.word cache.now (G.answers gate.now)
-        deal.now.first deal.now.lines.now deal.now.threads ran.items) }
-    ensures len { IfOk result (λ ran. vec_len ran ≡ deal.now.threads) }
+    ensures { HaveRan (keys_by K.eq K.word K.read K.shown) deal.now.loader.now.options cache.now
+        (G.answers gate.now) deal.now.first deal.now.lines.now deal.now.threads result }
 {
     await_worker(rt, cache, manned);
     let ran = turns(rt, alloc, cache, deal, gate);
@@ -112,12 +114,16 @@ fn load_all<K: TraceKey, N: Names + Send + Sync, R: Threads + Wait + Sync>(
     cache: &LoadingCache<K, Version<K>, TraceLoader, Of<N>>,
     workers: usize,
     manned: &AtomicBool,
-) -> Result<Worked<Of<N>>, AllocError> {
+) -> Result<Worked<Of<N>>, AllocError>
+    ensures { IfOk result (λ worked. AreWorked worked.items) }
+{
     thread::map_indices(
         rt,
         alloc,
         workers,
-        &|_worker: usize| -> Result<Pass<Of<N>>, Fault> { run_loads(rt, alloc, cache, manned) },
+        &|_worker: usize| -> Result<Pass<Of<N>>, Fault>
+            ensures { IfErr result (λ f. is_config_fault (fault.Cache f) ≡ false) }
+        { run_loads(rt, alloc, cache, manned) },
     )
 }
 
@@ -134,9 +140,9 @@ pub(crate) fn work_all<K: TraceKey, N: Names + Send + Sync, G: Gate, R: Threads 
     Result<Worked<Of<N>>, AllocError>,
 )
     requires { cache.now.layout.shards ≤ 4 }
-    ensures each { IfOk result.0 (λ ran. AreDone K.word cache.now (G.answers gate.now)
-        deal.now.first deal.now.lines.now deal.now.threads ran.items) }
-    ensures len { IfOk result.0 (λ ran. vec_len ran ≡ deal.now.threads) }
+    ensures each { HaveRan (keys_by K.eq K.word K.read K.shown) deal.now.loader.now.options
+        cache.now (G.answers gate.now) deal.now.first deal.now.lines.now deal.now.threads result.0 }
+    ensures faults { IfOk result.1 (λ worked. AreWorked worked.items) }
 {
     let manned = AtomicBool::new(false);
     // Taken apart, as in `turns`.
@@ -151,8 +157,9 @@ pub(crate) fn work_all<K: TraceKey, N: Names + Send + Sync, G: Gate, R: Threads 
         || -> Result<Ran<Of<N>>, AllocError>
             requires { IsManned cache.now.layout.shards first (length lines.now) threads }
             ensures { IfOk result (λ ran. (vec_len ran ≡ threads)
-                × AreDone K.word cache.entry.now (G.answers gate.entry.now) first lines.entry.now
-                threads ran.items) }
+                × AreDone (keys_by K.eq K.word K.read K.shown) loader.entry.now.options
+                cache.entry.now (G.answers gate.entry.now) first lines.entry.now threads
+                ran.items) }
         {
             let deal = Deal {
                 loader,
@@ -162,7 +169,9 @@ pub(crate) fn work_all<K: TraceKey, N: Names + Send + Sync, G: Gate, R: Threads 
             };
             handle_all(rt, alloc, cache, &deal, gate, &manned)
         },
-        || -> Result<Worked<Of<N>>, AllocError> { load_all(rt, alloc, cache, workers, &manned) },
+        || -> Result<Worked<Of<N>>, AllocError>
+            ensures { IfOk result (λ worked. AreWorked worked.items) }
+        { load_all(rt, alloc, cache, workers, &manned) },
     )
 }
 
@@ -171,7 +180,8 @@ pub(crate) fn stop_of<P>(ran: &Vec<Result<P, RunFault>>) -> Option<RunFault>
     ensures none { IsNone result → (t : ℕ) → t < vec_len ran.now
         → IsOk (get_or ran.now.items t unmade) }
     ensures some { IfSome result (λ fault. (t : ℕ) × (t < vec_len ran.now)
-        × (get_or ran.now.items t unmade ≡ Err fault)) }
+        × (get_or ran.now.items t unmade ≡ Err fault)
+        × ((u : ℕ) → u < t → IsOk (get_or ran.now.items u unmade))) }
 {
     for t in 0..ran.len() {
         if let Err(fault) = &ran[t] {
@@ -187,7 +197,10 @@ pub(crate) fn gather<P: Drop>(
     alloc: Global,
     ran: Vec<Result<P, RunFault>>,
     worked: Vec<Result<P, Fault>>,
-) -> Result<Vec<P>, Fault> {
+) -> Result<Vec<P>, Fault>
+    requires { AreWorked worked.items }
+    ensures { IfErr result (λ f. is_config_fault (fault.Cache f) ≡ false) }
+{
     let mut passes = Vec::new(alloc);
     for one in ran {
         if let Ok(pass) = one {

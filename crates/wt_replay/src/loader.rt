@@ -1,5 +1,8 @@
 // The loader of a trace.
-ghost use Rattle.std.specs.Prelude.{◌≡◌, ◌<◌, ◌≤◌, None, false};
+ghost use Rattle.std.specs.Prelude.{◌≡◌, ◌<◌, ◌≤◌, None, false, IfOk, IsTrue};
+ghost use Rattle.wt_replay.specs.Turns.{loaded};
+ghost use Rattle.wt_trace.specs.Answers.{version};
+ghost use Rattle.wt_trace.specs.Keys.{keys_by};
 ghost use Rattle.wt_regions.specs.Lawful.{is_zero};
 ghost use Rattle.wt_trace.specs.Options.{option_fault};
 
@@ -21,13 +24,14 @@ impl TraceLoader {
     // Makes the loader of these options.
     pub(crate) fn of(options: &Options) -> TraceLoader
         requires { option_fault options.now ≡ None }
+        ensures { result.options ≡ options.now }
     {
         TraceLoader { options: *options }
     }
 
     // The value that line n makes of a key.
     pub(crate) fn version<K: TraceKey>(&self, n: u64, key: K) -> Version<K>
-        ensures { result.key ≡ key }
+        ensures { result ≡ version (keys_by K.eq K.word K.read K.shown) self.now.options n key }
     {
         version_by(&self.options, n, key)
     }
@@ -36,7 +40,10 @@ impl TraceLoader {
 // Loaders are shared by threads, and the prover makes no proof for a generic call in one. So this
 // puts the value together from `fails_by` and `weight_by`, which are not generic.
 impl<K: CacheKey> Loader<K, Version<K>> for TraceLoader {
-    fn load(&self, key: &K) -> Result<Version<K>, u32> {
+    fn load(&self, key: &K) -> Result<Version<K>, u32>
+        ensures answers { IfOk result (λ value. IsTrue (K.eq value.key key.now)) }
+        ensures value { result ≡ loaded K.word self.now.options key.now }
+    {
         if fails_by(self.options.fail_mod, key.word()) {
             return Err(FAILED_LOAD);
         }

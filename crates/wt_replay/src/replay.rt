@@ -1,11 +1,8 @@
 // A replay turn by turn, from a reader to a writer.
-ghost use Rattle.std.specs.Prelude.{◌≡◌, ◌+◌, ◌<◌, ◌≤◌, ℕ, List, MatchOption, OnOk, Err, true};
-ghost use Rattle.wt_keys.specs.declared.fault.Fault.TheVariants as cache;
+ghost use Rattle.std.specs.Prelude.{◌<◌, ◌≤◌, ℕ, List, OnOk, false, true};
 ghost use Rattle.wt_replay.specs.ByTurn.{IsLetThrough, Turned};
-ghost use Rattle.wt_trace.specs.Options.{option_fault};
-ghost use Rattle.wt_trace.specs.Replayed.{Gave, Rises};
-ghost use Rattle.wt_trace.specs.declared.fault.ReplayFault.TheVariants as fault;
-ghost use Rattle.wt_trace.specs.Trace.{read_end};
+ghost use Rattle.wt_trace.specs.Contract.{IsRun};
+ghost use Rattle.wt_trace.specs.Replayed.{Gave};
 
 use crate::by_turn::sums_by_turn;
 use std::alloc::Global;
@@ -41,17 +38,11 @@ pub fn replay_by_turn<H: Threads + Wait + Sync, R: Read, W: Write, G: Gate>(
     gate: &G,
 ) -> Result<(), ReplayFault>
     requires { (0 < threads) × (threads ≤ 64) }
-    ensures config { MatchOption (option_fault options.now) Unit
-        (λ field. (result ≡ Err (fault.Cache (cache.BadConfig field))) × (reader.new ≡ reader.old)
-        × (writer.new ≡ writer.old)) }
-    ensures turned { Turned (R.remaining reader.old.inner) (R.remaining reader.new.inner)
-        (W.contents writer.old.inner) (W.contents writer.new.inner) result }
-    ensures reads { Rises reader.old.failures reader.new.failures result fault.ReadFault }
-    ensures turns { reader.new.reads ≤ reader.old.reads + read_end + 1 }
+    ensures made { IsRun Turned options.now (λ n. G.answers gate.now n false) R.remaining W.contents
+        reader.old reader.new writer.old writer.new result }
     ensures asked { OnOk result ((bytes : List ℕ)
         × Gave (R.remaining reader.old.inner) (R.remaining reader.new.inner) bytes
         × IsLetThrough (λ n. G.answers gate.now n true) bytes) }
-    ensures writes { Rises writer.old.failures writer.new.failures result fault.WriteFault }
 {
     if let Some(field) = options.fault() {
         return Err(ReplayFault::Cache(Fault::BadConfig { field }));

@@ -1,8 +1,10 @@
 // What one thread of a replay turn by turn does.
-ghost use Rattle.std.specs.Prelude.{◌≡◌, ◌*◌, ◌+◌, ◌≤◌, false, true, length, IfOk, OnOk, IfErr};
+ghost use Rattle.std.specs.Prelude.{◌≡◌, ◌*◌, ◌+◌, ◌≤◌, false, true, length, OnOk, IfErr};
 ghost use Rattle.wt_replay.specs.ByTurn.{IsReady};
-ghost use Rattle.wt_replay.specs.Turns.{HasActed, AreTurns, IsTurn, IsRunStop, is_turn};
-ghost use Rattle.wt_shards.specs.Passes.{new_pass};
+ghost use Rattle.wt_replay.specs.Turns.{HasActed, AreTurns, IsDone, IsTurn, IsRunStop, is_passed_over, is_turn};
+ghost use Rattle.wt_trace.specs.Keys.{keys_by};
+ghost use Rattle.wt_trace.specs.Replayed.{is_config_fault};
+ghost use Rattle.wt_trace.specs.declared.fault.ReplayFault.TheVariants as fault;
 
 use crate::loader::TraceLoader;
 use std::alloc::Global;
@@ -49,7 +51,10 @@ struct Turns<'a, K: TraceKey, B: Books> {
 
 // A fault of a line that doesn't end the run: a load that failed, a value too heavy, no place for a
 // load.
-fn passed_over(fault: Fault) -> Result<(), Fault> {
+fn passed_over(fault: Fault) -> Result<(), Fault>
+    ensures ok { OnOk result (is_passed_over fault ≡ true) }
+    ensures err { IfErr result (λ f. (f ≡ fault) × (is_passed_over fault ≡ false)) }
+{
     match fault {
         Fault::LoadFailed { .. } | Fault::TooHeavy { .. } | Fault::TooManyFlights { .. } => Ok(()),
         _ => Err(fault),
@@ -68,8 +73,9 @@ fn act<K: TraceKey, B: Books, R: Wait>(
 ) -> Result<(), Fault>
     requires few { cache.now.layout.shards ≤ 4 }
     requires room { 4 * cache.now.layout.config.entries ≤ notices.old.room }
-    ensures moved { OnOk result (HasActed K.word cache.now.layout cache.now.lined line.now.act
-        pass.old pass.new) }
+    ensures step { OnOk result (HasActed (keys_by K.eq K.word K.read K.shown)
+        loader.now.options cache.now n line.now pass.old pass.new) }
+    ensures faults { IfErr result (λ f. is_config_fault (fault.Cache f) ≡ false) }
     ensures whole { notices.new.room + length notices.new.list ≡ notices.old.room
         + length notices.old.list }
 {
@@ -123,8 +129,8 @@ impl<'a, K: TraceKey, B: Books> Turns<'a, K, B> {
     ) -> Result<(), RunFault>
         requires room { 4 * self.now.cache.now.layout.config.entries ≤ notices.old.room }
         ensures asked { OnOk result (G.answers gate.now n true) }
-        ensures moved { OnOk result (HasActed K.word self.now.cache.now.layout
-            self.now.cache.now.lined line.now.act pass.old pass.new) }
+        ensures step { OnOk result (HasActed (keys_by K.eq K.word K.read K.shown)
+            self.now.deal.now.loader.now.options self.now.cache.now n line.now pass.old pass.new) }
         ensures err { IfErr result (IsRunStop (λ m. G.answers gate.now m false)) }
         ensures room { 4 * self.now.cache.now.layout.config.entries ≤ notices.new.room }
     {
@@ -154,8 +160,8 @@ impl<'a, K: TraceKey, B: Books> Turns<'a, K, B> {
         requires n { 1 ≤ n }
         ensures turn { OnOk result (IsTurn (is_turn self.now.deal.now.threads self.now.t n)
             (G.answers gate.now n true)
-            (HasActed K.word self.now.cache.now.layout self.now.cache.now.lined line.now.act)
-            pass.old pass.new) }
+            (HasActed (keys_by K.eq K.word K.read K.shown) self.now.deal.now.loader.now.options
+            self.now.cache.now n line.now) pass.old pass.new) }
         ensures err { IfErr result (IsRunStop (λ m. G.answers gate.now m false)) }
         ensures room { 4 * self.now.cache.now.layout.config.entries ≤ notices.new.room }
     {
@@ -176,8 +182,8 @@ impl<'a, K: TraceKey, B: Books> Turns<'a, K, B> {
         requires room { 4 * self.now.cache.now.layout.config.entries ≤ notices.old.room }
         ensures turns { OnOk result (AreTurns (is_turn self.now.deal.now.threads self.now.t)
             (λ n. G.answers gate.now n true)
-            (HasActed K.word self.now.cache.now.layout self.now.cache.now.lined)
-            self.now.deal.now.first self.now.deal.now.lines.now pass.old pass.new) }
+            (HasActed (keys_by K.eq K.word K.read K.shown) self.now.deal.now.loader.now.options
+            self.now.cache.now) self.now.deal.now.first self.now.deal.now.lines.now pass.old pass.new) }
         ensures err { IfErr result (IsRunStop (λ n. G.answers gate.now n false)) }
     {
         let mut rest = self.deal.lines;
@@ -203,10 +209,8 @@ pub(crate) fn run_thread<K: TraceKey, B: Books, G: Gate, R: Wait>(
     gate: &G,
 ) -> Result<Pass<B>, RunFault>
     requires few { cache.now.layout.shards ≤ 4 }
-    ensures turns { IfOk result (λ pass. AreTurns (is_turn deal.now.threads t)
-        (λ n. G.answers gate.now n true) (HasActed K.word cache.now.layout cache.now.lined)
-        deal.now.first deal.now.lines.now (new_pass cache.now.layout.shards) pass) }
-    ensures err { IfErr result (IsRunStop (λ n. G.answers gate.now n false)) }
+    ensures made { IsDone (keys_by K.eq K.word K.read K.shown) deal.now.loader.now.options cache.now
+        (G.answers gate.now) deal.now.first deal.now.lines.now deal.now.threads t result }
 {
     let mut pass = match cache.pass(rt, alloc) {
         Ok(pass) => pass,
@@ -232,7 +236,9 @@ pub(crate) fn run_loads<K: TraceKey, B: Books, R: Wait>(
     alloc: Global,
     cache: &LoadingCache<K, Version<K>, TraceLoader, B>,
     manned: &AtomicBool,
-) -> Result<Pass<B>, Fault> {
+) -> Result<Pass<B>, Fault>
+    ensures faults { IfErr result (λ f. is_config_fault (fault.Cache f) ≡ false) }
+{
     let mut pass = match cache.pass(rt, alloc) {
         Ok(pass) => pass,
         Err(fault) => return Err(fault),

@@ -46,15 +46,15 @@ module _ (answers : ℕ → Answers) (stops asked : ℕ → Type 0) (shards : �
 
   -- so it is for each shard in the part of its thread
   pub placed : (threads shard : ℕ) (part : Result (List (Option Answers)) ReplayFault) → shard < shards → IsPart answers stops asked shards threads (shard % threads) part → IsPlaced answers stops asked shards shard part
-  placed threads shard (Err fault) within is = (tt, is.1, tt)
+  placed threads shard (Err fault) within is = (tt, is.err, tt)
   placed threads shard (Ok places) within is =
       let f = part_at answers threads (shard % threads) in (
         (
-          ap length is.0 ∙ length-map-range_with_len f 0 shards,
-          ap (λ (ps : List (Option Answers)). get_or ps shard None) is.0 ∙ get_or-map-range_with_len f 0 shards shard shard None within (omega arith) ∙ own_place threads shard,
+          ap length is.answers ∙ length-map-range_with_len f 0 shards,
+          ap (λ (ps : List (Option Answers)). get_or ps shard None) is.answers ∙ get_or-map-range_with_len f 0 shards shard shard None within (omega arith) ∙ own_place threads shard,
         ),
         tt,
-        is.2 shard within refl,
+        is.asked shard within refl,
       )
 
   -- and so it stays when another place is emptied

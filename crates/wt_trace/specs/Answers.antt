@@ -114,3 +114,12 @@ module _ {K : Type 0} (keys : Keys K) (o : Options) where
   -- all of them, at a shard that is new
   unfoldable pub answers : ℕ → List (Line K) → ℕ → Answers
   answers n ls shard = answers_from shard n ls (opening (config_of o))
+
+module _ {K : Type 0} (keys : Keys K) (w : Work K) where
+  -- what line n's act makes of a shard at work
+  abbrev pub done_by : ℕ → ℕ → Act K → Shown K
+  done_by n moment a = act_step keys w.options w.shard n moment a w.state
+
+  -- and what a flight's landing does, by line n behind the seek that its latest call was
+  abbrev pub landed_by : ℕ → ℕ → K → ℕ → Shown K
+  landed_by id n k moment = landed_at_once keys [] w.told (take keys w.state (landing_of keys w.options id n k moment))

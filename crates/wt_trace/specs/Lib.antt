@@ -12,3 +12,4 @@ pub mod Report
 pub mod Stops
 pub mod Parts
 pub mod Replayed
+pub mod Contract

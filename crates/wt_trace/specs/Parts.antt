@@ -19,8 +19,11 @@ abbrev pub without : ℕ → Result (List (Option Answers)) ReplayFault → Resu
 without shard (Ok places) = Ok (slice_set places shard None)
 without shard (Err fault) = Err fault
 
--- thread t made what its shards answer, of whose lines each was let through, or it stopped
-abbrev pub IsPart : (ℕ → Answers) → (ℕ → Type 0) → (ℕ → Type 0) → ℕ → ℕ → ℕ → Result (List (Option Answers)) ReplayFault → Type 0
-IsPart answers stops asked shards threads t part =
-    IfOk part (λ places. places ≡ map (part_at answers threads t) (range_with_len 0 shards)) × IfErr part (IsStop stops)
-    × OnOk part ((shard : ℕ) → shard < shards → shard % threads ≡ t → asked shard)
+-- what thread t promises of its part
+pub record IsPart (answer : ℕ → Answers) (stops passed : ℕ → Type 0) (shards threads t : ℕ) (part : Result (List (Option Answers)) ReplayFault) : Type 0 where
+  -- it made what its shards answer
+  pub answers : IfOk part (λ places. places ≡ map (part_at answer threads t) (range_with_len 0 shards))
+  -- or it stopped, and why
+  pub err : IfErr part (IsStop stops)
+  -- of the lines of its shards each was let through
+  pub asked : OnOk part ((shard : ℕ) → shard < shards → shard % threads ≡ t → passed shard)

@@ -10,11 +10,18 @@ use Rattle.wt_trace.specs.declared.fault.ReplayFault.{ReplayFault}
 use Rattle.wt_keys.specs.declared.fault.Fault.TheVariants.{NoMemory, BadConfig}
 use Rattle.wt_trace.specs.declared.fault.ReplayFault.TheVariants.{Cache, ReadFault, WriteFault, GateShut}
 
--- A reader gave these bytes: all that it had, or the first 65,000,001.
-pub record Gave (old new : Option (List ℕ)) (bytes : List ℕ) : Type 0 where
+-- a reader gave these bytes: all that it had, or the first up to a limit
+pub record GaveUpTo (most : ℕ) (old new : Option (List ℕ)) (bytes : List ℕ) : Type 0 where
+  -- they are what it had in front
   pub given : Consumes old new bytes
-  pub few : length bytes ≤ read_end
-  pub all : (length bytes ≡ read_end) ⊎ IsAtEnd new
+  -- no more than the limit
+  pub few : length bytes ≤ most
+  -- and no fewer, unless nothing is left
+  pub all : (length bytes ≡ most) ⊎ IsAtEnd new
+
+-- all that it had, or the first 65,000,001
+abbrev pub Gave : Option (List ℕ) → Option (List ℕ) → List ℕ → Type 0
+Gave old new bytes = GaveUpTo read_end old new bytes
 
 -- what was known to be written grew by a prefix of the bytes
 abbrev pub AppendsPrefix : Option (List ℕ) → Option (List ℕ) → List ℕ → Type 0

@@ -61,6 +61,10 @@ module _ {K : Type 0} (keys : Keys K) (o : Options) where
     verdict = t.verdict;
   }
 
+  -- of lines that the bytes spell
+  abbrev pub report_from : ℕ → List ℕ → Report
+  report_from n bytes = report_of n (trace_from keys.read n (lines_of bytes))
+
 -- by whether the first line is a header, which stands for line 1 and prints nothing
 abbrev pub report_by : Bool → Options → List (List ℕ) → Report
 report_by true o lines = report_of names o 2 (trace_from names.read 2 (drop 1 lines))

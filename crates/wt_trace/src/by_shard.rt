@@ -1,13 +1,12 @@
 // The shards on threads: thread t runs those whose number modulo the threads is t, each shard's
 // lines in order.
-ghost use Rattle.std.specs.Prelude.{◌≡◌, ◌+◌, ◌≤◌, ◌<◌, ℕ, ◌%◌, [], Ok, IfOk, OnOk, IfErr, None, map, length, vec_len, get_or, slice_set, true, false};
-ghost use Rattle.std.specs.List.{range_with_len};
-ghost use Rattle.wt_trace.specs.Answers as spec;
+ghost use Rattle.std.specs.Prelude.{◌≡◌, ◌≤◌, ◌<◌, ℕ, [], Ok, IfOk, OnOk, None, length, vec_len, get_or, slice_set, true, false};
+ghost use Rattle.wt_trace.specs.Contract.{AreOfShards, IsPartOf, IsReadyOn, IsReported};
 ghost use Rattle.wt_trace.specs.Keys.{keys_by};
 ghost use Rattle.wt_trace.specs.Options.{option_fault};
-ghost use Rattle.wt_trace.specs.Parts.{IsPart, part_at, place_at, without};
-ghost use Rattle.wt_trace.specs.Report as report;
-ghost use Rattle.wt_trace.specs.Stops.{IsStop, AreAsked, AllAsked, Asked};
+ghost use Rattle.wt_trace.specs.Parts.{place_at, without};
+ghost use Rattle.wt_trace.specs.Report.{report, report_from};
+ghost use Rattle.wt_trace.specs.Stops.{AllAsked, Asked};
 ghost use Rattle.wt_trace.specs.Trace.{lines_of, trace_from, line_end};
 
 use crate::answers::Answers;
@@ -52,16 +51,9 @@ fn part_of<K: TraceKey, G: Gate>(
     threads: usize,
     t: usize,
 ) -> Result<Part, ReplayFault>
-    requires options { option_fault options.now ≡ None }
-    requires few { first + length read.now.lines ≤ line_end }
-    requires threads { 0 < threads }
-    ensures asked { OnOk result ((s : ℕ) → s < options.now.shards → s % threads ≡ t
-        → AreAsked (spec.belongs (keys_by K.eq K.word K.read K.shown) options.now s)
-        (λ n. G.answers gate.now n true) first read.now.lines) }
-    ensures answers { IfOk result (λ part. part
-        ≡ map (part_at (spec.answers (keys_by K.eq K.word K.read K.shown) options.now first
-        read.now.lines) threads t) (range_with_len 0 options.now.shards)) }
-    ensures err { IfErr result (IsStop (λ n. G.answers gate.now n false)) }
+    requires { IsReadyOn threads options.now first (length read.now.lines) }
+    ensures { IsPartOf (keys_by K.eq K.word K.read K.shown) options.now (G.answers gate.now)
+        first read.now.lines threads t result }
 {
     let mut places = Vec::new(alloc);
     for shard in 0..options.shards() {
@@ -112,29 +104,20 @@ fn parts<H: Threads + Sync, K: TraceKey, G: Gate>(
     gate: &G,
     threads: usize,
 ) -> Result<Vec<Result<Part, ReplayFault>>, AllocError>
-    requires options { option_fault options.now ≡ None }
-    requires few { first + length read.now.lines ≤ line_end }
-    requires threads { 0 < threads }
+    requires { IsReadyOn threads options.now first (length read.now.lines) }
     ensures len { IfOk result (λ parts. vec_len parts ≡ threads) }
     ensures each { IfOk result (λ parts. (t : ℕ) → t < threads
-        → IsPart (spec.answers (keys_by K.eq K.word K.read K.shown) options.now first
-        read.now.lines) (λ n. G.answers gate.now n false)
-        (λ s. AreAsked (spec.belongs (keys_by K.eq K.word K.read K.shown) options.now s)
-        (λ n. G.answers gate.now n true) first read.now.lines) options.now.shards threads t
-        (get_or parts.items t (Ok []))) }
+        → IsPartOf (keys_by K.eq K.word K.read K.shown) options.now (G.answers gate.now) first
+        read.now.lines threads t (get_or parts.items t (Ok []))) }
 {
     thread::map_indices(
         rt,
         alloc,
         threads,
         &|t: usize| -> Result<Part, ReplayFault>
-            requires { (option_fault options.now ≡ None) × (first + length read.now.lines ≤ line_end)
-                × (0 < threads) }
-            ensures { IsPart (spec.answers (keys_by K.eq K.word K.read K.shown) options.entry.now
-                first read.entry.now.lines) (λ n. G.answers gate.entry.now n false)
-                (λ s. AreAsked (spec.belongs (keys_by K.eq K.word K.read K.shown) options.entry.now
-                s) (λ n. G.answers gate.entry.now n true) first read.entry.now.lines)
-                options.entry.now.shards threads t result }
+            requires { IsReadyOn threads options.now first (length read.now.lines) }
+            ensures { IsPartOf (keys_by K.eq K.word K.read K.shown) options.entry.now
+                (G.answers gate.entry.now) first read.entry.now.lines threads t result }
         { part_of(alloc, options, first, read, gate, threads, t) },
     )
 }
@@ -150,15 +133,9 @@ fn answers_by_shard<H: Threads + Sync, K: TraceKey, G: Gate>(
     gate: &G,
     threads: usize,
 ) -> Result<Vec<Answers>, ReplayFault>
-    requires options { option_fault options.now ≡ None }
-    requires few { first + length read.now.lines ≤ line_end }
-    requires threads { 0 < threads }
-    ensures asked { OnOk result (AllAsked (keys_by K.eq K.word K.read K.shown) options.now
-        (λ n. G.answers gate.now n true) first read.now.lines) }
-    ensures answers { IfOk result (λ all. all.items
-        ≡ map (spec.answers (keys_by K.eq K.word K.read K.shown) options.now first read.now.lines)
-        (range_with_len 0 options.now.shards)) }
-    ensures err { IfErr result (IsStop (λ n. G.answers gate.now n false)) }
+    requires { IsReadyOn threads options.now first (length read.now.lines) }
+    ensures { AreOfShards (keys_by K.eq K.word K.read K.shown) options.now
+        (G.answers gate.now) first read.now.lines result }
 {
     let mut parts = parts(rt, alloc, options, first, read, gate, threads)?;
     let mut all = Vec::new(alloc);
@@ -185,13 +162,11 @@ fn report_of<H: Threads + Sync, K: TraceKey, G: Gate>(
     requires options { option_fault options.now ≡ None }
     requires first { first ≤ line_end }
     requires threads { (0 < threads) × (threads ≤ 64) }
+    ensures made { IsReported (report_from (keys_by K.eq K.word K.read K.shown) options.now first
+        bytes.now) (λ n. G.answers gate.now n false) result }
     ensures asked { OnOk result (AllAsked (keys_by K.eq K.word K.read K.shown) options.now
         (λ n. G.answers gate.now n true) first
         (trace_from K.read first (lines_of bytes.now)).lines) }
-    ensures report { IfOk result (λ r. report.IsReport
-        (report.report_of (keys_by K.eq K.word K.read K.shown) options.now first
-        (trace_from K.read first (lines_of bytes.now))) r.0.items r.1) }
-    ensures err { IfErr result (IsStop (λ n. G.answers gate.now n false)) }
 {
     let read = read_on_threads::<H, K>(rt, alloc, first, bytes, threads)?;
     let all = answers_by_shard(rt, alloc, options, first, &read, gate, threads)?;
@@ -213,10 +188,9 @@ pub fn report_by_shard<H: Threads + Sync, G: Gate>(
 ) -> Result<(Vec<u8>, Result<(), ReplayFault>), ReplayFault>
     requires options { option_fault options.now ≡ None }
     requires threads { (0 < threads) × (threads ≤ 64) }
+    ensures made { IsReported (report options.now bytes.now) (λ n. G.answers gate.now n false)
+        result }
     ensures asked { OnOk result (Asked options.now (λ n. G.answers gate.now n true) bytes.now) }
-    ensures report { IfOk result (λ r. report.IsReport (report.report options.now bytes.now)
-        r.0.items r.1) }
-    ensures err { IfErr result (IsStop (λ n. G.answers gate.now n false)) }
 {
     let Some(rest) = behind_header(bytes) else {
         return report_of::<H, u64, G>(rt, alloc, options, 1, bytes, gate, threads);

@@ -2,6 +2,7 @@
 // the pieces are put together in their order. A thread doesn't know how many lines there are before
 // its piece, so a piece with a fault is read again, by the numbers of its lines.
 ghost use Rattle.std.specs.Prelude.{◌≡◌, ◌==◌, ◌+◌, ◌<◌, ◌≤◌, ℕ, [], ◌++◌, IfOk, IfSome, None, position, get_or, slice_set, drop, length, vec_len};
+ghost use Rattle.wt_trace.specs.Contract.{AreRead};
 ghost use Rattle.wt_trace.specs.Trace.{IsFaultless, lines_of, lines_of_all, trace_from, line_end};
 
 use crate::bytes::place_of;
@@ -126,11 +127,7 @@ fn numbered<K: TraceKey>(
 ) -> Result<Lines<K>, NoMemory>
     requires n { n ≤ line_end }
     requires sound { IfSome read (IsFaultless (trace_from K.read first (lines_of bytes.now))) }
-    ensures few { IfOk result (λ lines. n + length lines.lines.items ≤ line_end) }
-    ensures lines { IfOk result (λ lines. lines.lines.items
-        ≡ (trace_from K.read n (lines_of bytes.now)).lines) }
-    ensures verdict { IfOk result (λ lines. lines.verdict
-        ≡ (trace_from K.read n (lines_of bytes.now)).verdict) }
+    ensures { AreRead K.read n bytes.now result }
 {
     if let Some(piece) = read {
         let lines = piece.into_lines();

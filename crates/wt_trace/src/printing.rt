@@ -1,10 +1,10 @@
 // Lines of a report printed on threads: each prints a piece, and the pieces are put together in
 // their order.
-ghost use Rattle.std.specs.Prelude.{◌≡◌, ◌+◌, ◌<◌, ◌≤◌, ◌^◌, ℕ, All, IfOk, Err, alloc_error, get_or, length, vec_len, map, None};
+ghost use Rattle.std.specs.Prelude.{◌≡◌, ◌+◌, ◌<◌, ◌≤◌, ℕ, All, IfOk, Err, alloc_error, get_or, length, vec_len, map};
 ghost use Rattle.std.specs.List.{range_with_len};
 ghost use Rattle.wt_trace.specs.Answers.{answers};
+ghost use Rattle.wt_trace.specs.Contract.{IsCut, IsReadyOn};
 ghost use Rattle.wt_trace.specs.Keys.{keys_by};
-ghost use Rattle.wt_trace.specs.Options.{option_fault};
 ghost use Rattle.wt_trace.specs.Report.{lines_text, piece_text};
 ghost use Rattle.wt_trace.specs.Report as spec;
 ghost use Rattle.wt_trace.specs.Trace.{line_end};
@@ -32,9 +32,7 @@ fn piece(
     most: usize,
     t: usize,
 ) -> Result<Vec<u8>, AllocError>
-    requires whole { All (λ a. length a.texts ≡ count) all.now }
-    requires fits { first + count < 2 ^ 64 }
-    requires most { most ≤ line_end + 1 }
+    requires cut { IsCut first all.now count most }
     requires t { t < 64 }
     ensures { IfOk result (λ out. out.items ≡ piece_text first all.now count most t) }
 {
@@ -54,9 +52,7 @@ fn pieces<H: Threads + Sync>(
     most: usize,
     threads: usize,
 ) -> Result<Vec<Result<Vec<u8>, AllocError>>, AllocError>
-    requires whole { All (λ a. length a.texts ≡ count) all.now }
-    requires fits { first + count < 2 ^ 64 }
-    requires most { most ≤ line_end + 1 }
+    requires cut { IsCut first all.now count most }
     requires threads { threads ≤ 64 }
     ensures len { IfOk result (λ pieces. vec_len pieces ≡ threads) }
     ensures each { IfOk result (λ pieces. (t : ℕ) → t < threads
@@ -68,8 +64,7 @@ fn pieces<H: Threads + Sync>(
         alloc,
         threads,
         &|t: usize| -> Result<Vec<u8>, AllocError>
-            requires { All (λ a. length a.texts ≡ count) all.now × (first + count < 2 ^ 64)
-                × (most ≤ line_end + 1) × (t < 64) }
+            requires { IsCut first all.now count most × (t < 64) }
             ensures { IfOk result (λ out. out.items ≡ piece_text first all.entry.now count most t) }
         { piece(alloc, first, all, count, most, t) },
     )
@@ -125,9 +120,8 @@ pub fn text_on_threads<H: Threads + Sync, K: TraceKey>(
     all: &[Answers],
     threads: usize,
 ) -> Result<Vec<u8>, NoMemory>
-    requires options { option_fault options.now ≡ None }
-    requires few { first + length read.now.lines ≤ line_end }
-    requires threads { (0 < threads) × (threads ≤ 64) }
+    requires ready { IsReadyOn threads options.now first (length read.now.lines) }
+    requires most { threads ≤ 64 }
     requires all { all.now ≡ map (answers (keys_by K.eq K.word K.read K.shown) options.now first
         read.now.lines) (range_with_len 0 options.now.shards) }
     ensures { IfOk result (λ out. out.items

@@ -2,11 +2,12 @@
 ghost use Rattle.std.specs.Prelude.{◌≡◌, ◌++◌, ◌+◌, ◌<◌, ◌≤◌, ◌^◌, All, IfOk, IfErr, OnOk, length, None, map};
 ghost use Rattle.std.specs.List.{range_with_len};
 ghost use Rattle.wt_trace.specs.Answers.{answers};
+ghost use Rattle.wt_trace.specs.Contract.{IsReady, IsReported};
 ghost use Rattle.wt_trace.specs.Keys.{keys_by};
 ghost use Rattle.wt_trace.specs.Options.{option_fault};
 ghost use Rattle.wt_trace.specs.Report as spec;
 ghost use Rattle.wt_trace.specs.Stops.{IsStop};
-ghost use Rattle.wt_trace.specs.Trace.{lines_of, trace_from, line_end};
+ghost use Rattle.wt_trace.specs.Trace.{line_end};
 
 use crate::answers::Answers;
 use crate::digits::show_number;
@@ -109,8 +110,7 @@ fn answers_in_order<K: TraceKey>(
     first: u64,
     lines: &[Line<K>],
 ) -> Result<Vec<Answers>, ReplayFault>
-    requires options { option_fault options.now ≡ None }
-    requires few { first + length lines.now ≤ line_end }
+    requires { IsReady options.now first (length lines.now) }
     ensures answers { IfOk result (λ all. all.items
         ≡ map (answers (keys_by K.eq K.word K.read K.shown) options.now first lines.now)
         (range_with_len 0 options.now.shards)) }
@@ -133,10 +133,8 @@ fn report_of<K: TraceKey>(
 ) -> Result<(Vec<u8>, Result<(), ReplayFault>), ReplayFault>
     requires options { option_fault options.now ≡ None }
     requires first { first ≤ line_end }
-    ensures report { IfOk result (λ r. spec.IsReport
-        (spec.report_of (keys_by K.eq K.word K.read K.shown) options.now first
-        (trace_from K.read first (lines_of bytes.now))) r.0.items r.1) }
-    ensures err { IfErr result (IsStop (λ _. ⊥)) }
+    ensures { IsReported (spec.report_from (keys_by K.eq K.word K.read K.shown) options.now first
+        bytes.now) (λ _. ⊥) result }
 {
     let read = read_lines::<K>(alloc, first, bytes)?;
     let all = answers_in_order(alloc, options, first, &read.lines)?;
@@ -151,9 +149,7 @@ pub fn report(
     options: &Options,
 ) -> Result<(Vec<u8>, Result<(), ReplayFault>), ReplayFault>
     requires { option_fault options.now ≡ None }
-    ensures report { IfOk result (λ r. spec.IsReport (spec.report options.now bytes.now) r.0.items
-        r.1) }
-    ensures err { IfErr result (IsStop (λ _. ⊥)) }
+    ensures made { IsReported (spec.report options.now bytes.now) (λ _. ⊥) result }
 {
     let Some(rest) = behind_header(bytes) else {
         return report_of::<u64>(alloc, options, 1, bytes);

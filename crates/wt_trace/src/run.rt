@@ -1,11 +1,10 @@
 // From a reader to a writer.
-ghost use Rattle.std.specs.Prelude.{◌≡◌, ◌+◌, ◌-◌, ◌<◌, ◌≤◌, ◌^◌, ◌⊎◌, ◌↔◌, length, vec_len, MatchResult, MatchOption, IfOk, OnOk, OnErr, IfErr, Ok, Err, true, false};
-ghost use Rattle.std.specs.Io.KnownBytes.{Keeps, Appends, Consumes, IsAtEnd};
-ghost use Rattle.wt_trace.specs.Replayed.{Replayed, AppendsPrefix, Rises, ShutsOnly, LetThrough, is_config_fault};
-ghost use Rattle.wt_trace.specs.Options.{option_fault};
+ghost use Rattle.std.specs.Prelude.{◌≡◌, ◌+◌, ◌<◌, ◌≤◌, ◌⊎◌, IfOk, OnOk, IfErr, true, false};
+ghost use Rattle.std.specs.Io.KnownBytes.{Appends};
+ghost use Rattle.wt_trace.specs.Contract.{IsRun};
+ghost use Rattle.wt_trace.specs.Replayed.{Replayed, AppendsPrefix, GaveUpTo, Rises, LetThrough, is_config_fault};
 ghost use Rattle.wt_keys.specs.declared.fault.Fault.TheVariants as cache;
 ghost use Rattle.wt_trace.specs.declared.fault.ReplayFault.TheVariants as fault;
-ghost use Rattle.wt_trace.specs.Trace.{read_end};
 
 use crate::by_shard::report_by_shard;
 use crate::fault::ReplayFault;
@@ -32,11 +31,8 @@ pub fn read_up_to<R: Read>(
     reader: &mut Tallied<R>,
     most: usize,
 ) -> Result<Vec<u8>, ReplayFault>
-    ensures given { IfOk result (λ bytes. Consumes (R.remaining reader.old.inner)
+    ensures given { IfOk result (λ bytes. GaveUpTo most (R.remaining reader.old.inner)
         (R.remaining reader.new.inner) bytes.items) }
-    ensures few { IfOk result (λ bytes. vec_len bytes ≤ most) }
-    ensures all { IfOk result (λ bytes. (vec_len bytes ≡ most)
-        ⊎ IsAtEnd (R.remaining reader.new.inner)) }
     ensures turns { reader.new.reads ≤ reader.old.reads + most + 1 }
     ensures faults { IfErr result (λ e. (e ≡ fault.Cache cache.NoMemory) ⊎ (e ≡ fault.ReadFault)) }
     ensures kind { IfErr result (λ e. is_config_fault e ≡ false) }
@@ -94,17 +90,8 @@ pub fn replay<R: Read, W: Write>(
     writer: &mut Tallied<W>,
     options: &Options,
 ) -> Result<(), ReplayFault>
-    ensures config { MatchOption (option_fault options.now)
-        (IfErr result (λ e. is_config_fault e ≡ false))
-        (λ field. (result ≡ Err (fault.Cache (cache.BadConfig field))) × (reader.new ≡ reader.old)
-        × (writer.new ≡ writer.old)) }
-    ensures replayed { Replayed options.now (R.remaining reader.old.inner)
-        (R.remaining reader.new.inner) (W.contents writer.old.inner) (W.contents writer.new.inner)
-        result }
-    ensures reads { Rises reader.old.failures reader.new.failures result fault.ReadFault }
-    ensures turns { reader.new.reads ≤ reader.old.reads + read_end + 1 }
-    ensures writes { Rises writer.old.failures writer.new.failures result fault.WriteFault }
-    ensures shut { ShutsOnly (λ _. ⊥) result }
+    ensures made { IsRun (Replayed options.now) options.now (λ _. ⊥)
+        R.remaining W.contents reader.old reader.new writer.old writer.new result }
 {
     if let Some(field) = options.fault() {
         return Err(ReplayFault::Cache(Fault::BadConfig { field }));
@@ -133,17 +120,8 @@ pub fn replay_by_shard<H: Threads + Sync, R: Read, W: Write, G: Gate>(
     gate: &G,
 ) -> Result<(), ReplayFault>
     requires { (0 < threads) × (threads ≤ 64) }
-    ensures config { MatchOption (option_fault options.now)
-        (IfErr result (λ e. is_config_fault e ≡ false))
-        (λ field. (result ≡ Err (fault.Cache (cache.BadConfig field))) × (reader.new ≡ reader.old)
-        × (writer.new ≡ writer.old)) }
-    ensures replayed { Replayed options.now (R.remaining reader.old.inner)
-        (R.remaining reader.new.inner) (W.contents writer.old.inner) (W.contents writer.new.inner)
-        result }
-    ensures reads { Rises reader.old.failures reader.new.failures result fault.ReadFault }
-    ensures turns { reader.new.reads ≤ reader.old.reads + read_end + 1 }
-    ensures writes { Rises writer.old.failures writer.new.failures result fault.WriteFault }
-    ensures shut { ShutsOnly (λ n. G.answers gate.now n false) result }
+    ensures made { IsRun (Replayed options.now) options.now (λ n. G.answers gate.now n false)
+        R.remaining W.contents reader.old reader.new writer.old writer.new result }
     ensures asked { LetThrough options.now (λ n. G.answers gate.now n true)
         (R.remaining reader.old.inner) (R.remaining reader.new.inner) result }
 {

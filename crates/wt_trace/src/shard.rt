@@ -1,11 +1,11 @@
 // A shard at work on the lines of a trace.
-ghost use Rattle.std.specs.Prelude.{◌≡◌, ◌++◌, ◌+◌, ◌≤◌, IfOk, OnOk, IfErr, length, None, [], true, false};
+ghost use Rattle.std.specs.Prelude.{◌≡◌, OnOk, IfErr, length, None, true, false};
 ghost use Rattle.wt_trace.specs.Keys.{keys_by};
 ghost use Rattle.wt_trace.specs.Options.{option_fault};
 ghost use Rattle.wt_trace.specs.Answers as spec;
-ghost use Rattle.wt_trace.specs.Stops.{IsStop, AreAsked};
+ghost use Rattle.wt_trace.specs.Contract.{Adds, IsOfShard, IsReady};
+ghost use Rattle.wt_trace.specs.Stops.{IsStop};
 ghost use Rattle.wt_trace.specs.declared.line.Act.TheVariants as act;
-ghost use Rattle.wt_trace.specs.Trace.{line_end};
 
 use crate::answers::Answers;
 use crate::fault::ReplayFault;
@@ -57,13 +57,8 @@ impl<K: TraceKey> Model for Shard<K> {
 impl<K: TraceKey> Shard<K> {
     // Makes one call, and appends its words and its notices.
     fn one_call(&mut self, call: Call<K, Version<K>>) -> Result<(), NoMemory>
-        ensures state { OnOk result (self.new.state
-            ≡ (spec.one_call (keys_by K.eq K.word K.read K.shown) self.old.shard self.old.state
-            call).state) }
-        ensures text { OnOk result (self.new.text ≡ self.old.text
-            ++ (spec.one_call (keys_by K.eq K.word K.read K.shown) self.old.shard self.old.state
-            call).text) }
-        ensures same { (self.new.options ≡ self.old.options) × (self.new.shard ≡ self.old.shard) }
+        ensures { Adds (spec.one_call (keys_by K.eq K.word K.read K.shown) self.old.shard
+            self.old.state call) self.old self.new result }
     {
         self.told.empty();
         let reply = self.core.take(call, &mut self.told)?;
@@ -75,16 +70,8 @@ impl<K: TraceKey> Shard<K> {
     // Lands a flight that a seek has just opened, and appends the words of the load and the notices
     // of both.
     fn land_now(&mut self, id: u64, n: u64, key: K, moment: u64) -> Result<(), NoMemory>
-        ensures state { OnOk result (self.new.state
-            ≡ (spec.take (keys_by K.eq K.word K.read K.shown) self.old.state
-            (spec.landing_of (keys_by K.eq K.word K.read K.shown) self.old.options id n key
-            moment)).state) }
-        ensures text { OnOk result (self.new.text ≡ self.old.text
-            ++ (spec.landed_at_once (keys_by K.eq K.word K.read K.shown) [] self.old.told
-            (spec.take (keys_by K.eq K.word K.read K.shown) self.old.state
-            (spec.landing_of (keys_by K.eq K.word K.read K.shown) self.old.options id n key
-            moment))).text) }
-        ensures same { (self.new.options ≡ self.old.options) × (self.new.shard ≡ self.old.shard) }
+        ensures { Adds (spec.landed_by (keys_by K.eq K.word K.read K.shown) self.old id n key
+            moment) self.old self.new result }
     {
         self.later.empty();
         let call = Call::Land(id, key, load_by(&self.options, n, key), moment);
@@ -97,13 +84,8 @@ impl<K: TraceKey> Shard<K> {
 
     // Does a line of letter G: a seek, and the landing of the flight that it opens.
     fn fetch(&mut self, n: u64, key: K, moment: u64) -> Result<(), NoMemory>
-        ensures state { OnOk result (self.new.state
-            ≡ (spec.act_step (keys_by K.eq K.word K.read K.shown) self.old.options self.old.shard n
-            moment (act.Get key) self.old.state).state) }
-        ensures text { OnOk result (self.new.text ≡ self.old.text
-            ++ (spec.act_step (keys_by K.eq K.word K.read K.shown) self.old.options self.old.shard n
-            moment (act.Get key) self.old.state).text) }
-        ensures same { (self.new.options ≡ self.old.options) × (self.new.shard ≡ self.old.shard) }
+        ensures { Adds (spec.done_by (keys_by K.eq K.word K.read K.shown) self.old n moment
+            (act.Get key)) self.old self.new result }
     {
         self.told.empty();
         let reply = self.core.take(Call::Seek(key, moment), &mut self.told)?;
@@ -123,13 +105,8 @@ impl<K: TraceKey> Shard<K> {
 
     // Does a line of letter E: the landing of the key's oldest open flight, if there is one.
     fn land_oldest(&mut self, n: u64, key: K, moment: u64) -> Result<(), NoMemory>
-        ensures state { OnOk result (self.new.state
-            ≡ (spec.act_step (keys_by K.eq K.word K.read K.shown) self.old.options self.old.shard n
-            moment (act.Land key) self.old.state).state) }
-        ensures text { OnOk result (self.new.text ≡ self.old.text
-            ++ (spec.act_step (keys_by K.eq K.word K.read K.shown) self.old.options self.old.shard n
-            moment (act.Land key) self.old.state).text) }
-        ensures same { (self.new.options ≡ self.old.options) × (self.new.shard ≡ self.old.shard) }
+        ensures { Adds (spec.done_by (keys_by K.eq K.word K.read K.shown) self.old n moment
+            (act.Land key)) self.old self.new result }
     {
         match self.core.first_of(key) {
             Some(id) => {
@@ -145,13 +122,8 @@ impl<K: TraceKey> Shard<K> {
 
     // Does what line n asks for, and appends what the shard adds to it.
     fn act(&mut self, n: u64, line: &Line<K>) -> Result<(), NoMemory>
-        ensures state { OnOk result (self.new.state
-            ≡ (spec.act_step (keys_by K.eq K.word K.read K.shown) self.old.options self.old.shard n
-            line.now.moment line.now.act self.old.state).state) }
-        ensures text { OnOk result (self.new.text ≡ self.old.text
-            ++ (spec.act_step (keys_by K.eq K.word K.read K.shown) self.old.options self.old.shard n
-            line.now.moment line.now.act self.old.state).text) }
-        ensures same { (self.new.options ≡ self.old.options) × (self.new.shard ≡ self.old.shard) }
+        ensures { Adds (spec.done_by (keys_by K.eq K.word K.read K.shown) self.old n
+            line.now.moment line.now.act) self.old self.new result }
     {
         let now = line.moment;
         match line.act {
@@ -174,13 +146,8 @@ impl<K: TraceKey> Shard<K> {
     // shard adds to it.
     #[tactic(auto, unfolding(crate::specs::Answers::line_step))]
     fn do_line<G: Gate>(&mut self, gate: &G, n: u64, line: &Line<K>) -> Result<(), ReplayFault>
-        ensures state { OnOk result (self.new.state
-            ≡ (spec.line_step (keys_by K.eq K.word K.read K.shown) self.old.options self.old.shard n
-            line.now self.old.state).state) }
-        ensures text { OnOk result (self.new.text ≡ self.old.text
-            ++ (spec.line_step (keys_by K.eq K.word K.read K.shown) self.old.options self.old.shard
-            n line.now self.old.state).text) }
-        ensures same { (self.new.options ≡ self.old.options) × (self.new.shard ≡ self.old.shard) }
+        ensures made { Adds (spec.line_step (keys_by K.eq K.word K.read K.shown) self.old.options
+            self.old.shard n line.now self.old.state) self.old self.new result }
         ensures asked { OnOk result (spec.belongs (keys_by K.eq K.word K.read K.shown)
             self.old.options self.old.shard line.now.act ≡ true → G.answers gate.now n true) }
         ensures err { IfErr result (IsStop (λ m. G.answers gate.now m false)) }
@@ -221,14 +188,9 @@ pub fn shard_answers<K: TraceKey, G: Gate>(
     lines: Walk<'_, K>,
     gate: &G,
 ) -> Result<Answers, ReplayFault>
-    requires options { option_fault options.now ≡ None }
-    requires few { first + length lines ≤ line_end }
-    ensures answers { IfOk result (λ a. a
-        ≡ spec.answers (keys_by K.eq K.word K.read K.shown) options.now first lines.entry number) }
-    ensures asked { OnOk result (AreAsked
-        (spec.belongs (keys_by K.eq K.word K.read K.shown) options.now number)
-        (λ n. G.answers gate.now n true) first lines.entry) }
-    ensures err { IfErr result (IsStop (λ n. G.answers gate.now n false)) }
+    requires { IsReady options.now first (length lines) }
+    ensures made { IsOfShard (keys_by K.eq K.word K.read K.shown) options.now (G.answers gate.now)
+        first lines.entry number result }
 {
     let Ok(core) = Core::new(alloc, &options.config()) else {
         return Err(ReplayFault::Cache(Fault::NoMemory));

@@ -1,6 +1,7 @@
 // A trace, read line by line up to the first fault.
-ghost use Rattle.std.specs.Prelude.{◌≡◌, ◌+◌, ◌≤◌, IfOk, length};
-ghost use Rattle.wt_trace.specs.Trace.{lines_of, trace_from, line_end};
+ghost use Rattle.std.specs.Prelude.{◌≡◌, ◌≤◌};
+ghost use Rattle.wt_trace.specs.Contract.{AreRead};
+ghost use Rattle.wt_trace.specs.Trace.{line_end};
 ghost use Rattle.wt_trace.specs.Trace as spec;
 
 use crate::bytes::cut;
@@ -47,11 +48,7 @@ pub fn read_lines<K: TraceKey>(
     bytes: &[u8],
 ) -> Result<Lines<K>, NoMemory>
     requires { first ≤ line_end }
-    ensures few { IfOk result (λ read. first + length read.lines.items ≤ line_end) }
-    ensures lines { IfOk result (λ read. read.lines.items
-        ≡ (trace_from K.read first (lines_of bytes.now)).lines) }
-    ensures verdict { IfOk result (λ read. read.verdict
-        ≡ (trace_from K.read first (lines_of bytes.now)).verdict) }
+    ensures made { AreRead K.read first bytes.now result }
 {
     let mut lines = Vec::new(alloc);
     let mut rest = bytes;

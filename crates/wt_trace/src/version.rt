@@ -1,4 +1,6 @@
 // What a trace stores: the key, and the line that made it.
+ghost use Rattle.std.specs.Prelude.{◌≡◌, IfOk, IsOk};
+
 use wt_core::Weighs;
 use wt_keys::{Answers, CacheKey, NoMemory, Share};
 
@@ -13,8 +15,12 @@ pub struct Version<K> {
     pub weight: u32,
 }
 
+/// The share of a version is the version. Never refused.
 impl<K: CacheKey> Share for Version<K> {
-    fn share(&self) -> Result<Version<K>, NoMemory> {
+    fn share(&self) -> Result<Version<K>, NoMemory>
+        ensures answer { IfOk result (λ second. second ≡ self.now) }
+        ensures succeeds { IsOk result }
+    {
         Ok(*self)
     }
 }

@@ -93,6 +93,39 @@ fn a_shut_gate_is_told_and_nothing_is_written(rt: HostRuntime) {
     assert_eq!(rt; outcome, Ok(()));
 }
 
+// Lets each line below 64 through once, and shuts where a line is asked for again.
+#[derive(Drop)]
+pub(super) struct Once(AtomicU64);
+
+impl Once {
+    // With no line asked for.
+    pub(super) fn new() -> Once {
+        Once(AtomicU64::new(0))
+    }
+}
+
+impl Gate for Once {
+    ghost use Rattle.std.specs.Prelude.{◌≡◌};
+
+    ghost answers = { λ _ _ answer. answer ≡ answer };
+
+    fn pass(&self, line: u64) -> bool {
+        let bit = 1u64.wrapping_shl((line % 64) as u32);
+        self.0.fetch_or(bit, Ordering::SeqCst) & bit == 0
+    }
+}
+
+#[test]
+fn a_gate_is_asked_once_for_each_line_and_for_none_behind_the_last(rt: HostRuntime) {
+    let input = b"0 P 1\n0 P 2\n0 G 3\n0 D 4\n";
+    for threads in [1, 2, 4] {
+        let (_, outcome) = by_shard(&rt, input, &of_four(4), threads, &Once::new());
+        assert_eq!(rt; outcome, Ok(()));
+        let (_, outcome) = by_shard(&rt, input, &of_four(4), threads, &Before(5));
+        assert_eq!(rt; outcome, Ok(()));
+    }
+}
+
 // Holds each of lines 1 and 2 until the other one was asked for.
 #[derive(Drop)]
 pub(super) struct Pair {

@@ -147,6 +147,38 @@ fn the_millionth_line_is_the_last(rt: HostRuntime) -> Result<(), Fail> {
 }
 
 #[test]
+fn a_fault_is_a_sentence(rt: HostRuntime) -> Result<(), Fail> {
+    let rows = [
+        (
+            ReplayFault::Cache(Fault::TooManyFlights { limit: 5 }),
+            "5 loads are open already, which is the limit",
+        ),
+        (
+            ReplayFault::BadLine { n: 4 },
+            "line 4 is no line of a trace",
+        ),
+        (
+            ReplayFault::LineTooLong { n: 5 },
+            "line 5 has more than 64 bytes",
+        ),
+        (
+            ReplayFault::TooManyLines,
+            "the trace has more than 1000000 lines",
+        ),
+        (ReplayFault::ReadFault, "the trace could not be read"),
+        (ReplayFault::WriteFault, "the report could not be written"),
+        (
+            ReplayFault::GateShut { n: 6 },
+            "the run was stopped before line 6",
+        ),
+    ];
+    for (fault, sentence) in rows {
+        assert_eq!(rt; format!(in rt.alloc(); "{fault}")?.as_str(), sentence);
+    }
+    Ok(())
+}
+
+#[test]
 fn a_fault_has_a_line_and_a_status(rt: HostRuntime) -> Result<(), Fail> {
     let field = Field::Entries;
     let rows = [

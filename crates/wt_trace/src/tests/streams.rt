@@ -73,6 +73,30 @@ fn a_reader_that_gives_a_byte_a_call_is_read_whole(rt: HostRuntime) {
     assert_eq!(rt; writer.into_inner().as_slice(), FIRST_REPORT);
 }
 
+// Each of its bytes is a read of its own.
+#[test]
+fn a_hundred_thousand_reads_are_read_whole(rt: HostRuntime) -> Result<(), Fail> {
+    let mut input = Vec::new(rt.alloc());
+    for _ in 0..20_000 {
+        input.extend_from_slice(b"0 L 1\n")?;
+    }
+    let mut reader = Tallied::new(Slow {
+        bytes: input.as_slice(),
+        fails: false,
+    });
+    let mut writer = Tallied::new(Vec::new(rt.alloc()));
+    assert_eq!(rt;
+        replay(rt.alloc(), &mut reader, &mut writer, &of(4)),
+        Ok(())
+    );
+    assert_eq!(rt; (reader.reads(), reader.failures()), (120_001, 0));
+    let text = writer.into_inner();
+    let summary =
+        b"lookups 20000 hits 0 misses 20000 loads 0 failed 0 evicted 0 entries 0 weight 0\n";
+    assert!(rt; text.as_slice().ends_with(summary));
+    Ok(())
+}
+
 #[test]
 fn a_reader_that_fails_leaves_nothing_written(rt: HostRuntime) {
     let mut reader = Tallied::new(Slow {

@@ -1,4 +1,4 @@
-use Rattle.std.proofs.Common.{rules, ◌≡◌, ◌∙◌, ap, sym, subst, List, None, Err, true}
+use Rattle.std.proofs.Common.{rules, ◌≡◌, ◌∙◌, ap, sym, subst, List, None, Err, false, true}
 use Rattle.wt_trace.specs.Stops.{AreAsked}
 use Rattle.wt_trace.specs.declared.line.Line.{Line}
 use Rattle.wt_replay.specs.ByTurn.{first_open}
@@ -7,14 +7,24 @@ use Rattle.wt_replay.proofs.Faulty.{faulty_verdict, not_there}
 use Rattle.wt_trace.proofs.Traces.{verdict_of-trace}
 use Rattle.wt_replay.proofs.by_turn.sums_of_trace.Goals as goal
 
-pub returns-in-Err-clause-faults : goal.returns-in-Err-clause-faults
-returns-in-Err-clause-faults g c =
+pub returns-in-Err : goal.returns-in-Err
+returns-in-Err g c =
     let t = trace_from g.K.TraceKey.read c.args.first (lines_of c.args.bytes.now) in
     let none : first_open c.args.first t.lines ≡ None =
-    ap (first_open c.args.first) (sym (c.deref.ensures.value ∙ c.in-Ok.ensures.lines)) ∙ sym c.first_open.ensures ∙ not_there c.first_open.result c.in_default-first_open.not-Some in
+    ap (first_open c.args.first) (sym (c.deref.ensures.value ∙ c.in-Ok.ensures.made.lines)) ∙ sym c.first_open.ensures ∙ not_there c.first_open.result c.in_default-first_open.not-Some in
     let err : t.verdict ≡ Err c.in-Err.fault = search rules in
-    faulty_verdict c.args.first t c.in-Err.fault none err (verdict_of-trace g.K.TraceKey.read c.args.first (lines_of c.args.bytes.now))
+    record {
+      asked = tt;
+      looked = tt;
+      sound = tt;
+      faults = faulty_verdict (λ n. g.G.Gate.answers c.args.gate.now n false) c.args.first t c.in-Err.fault none err (verdict_of-trace g.K.TraceKey.read c.args.first (lines_of c.args.bytes.now));
+    }
 
-pub returns-in-Ok-totals_by_turn-clause-asked : goal.returns-in-Ok-totals_by_turn-clause-asked
-returns-in-Ok-totals_by_turn-clause-asked g c =
-    subst (λ (ls : List (Line g.row.K.Denot)). AreAsked (λ _. true) (λ n. g.G.Gate.answers c.args.gate.now n true) c.args.first ls) (c.deref-2.ensures.value ∙ c.in-Ok.ensures.lines) c.in-Ok-totals_by_turn.ensures.asked
+pub returns-in-Ok-totals_by_turn : goal.returns-in-Ok-totals_by_turn
+returns-in-Ok-totals_by_turn g c =
+    record {
+      asked = subst (λ (ls : List (Line g.row.K.Denot)). AreAsked (λ _. true) (λ n. g.G.Gate.answers c.args.gate.now n true) c.args.first ls) (c.deref-2.ensures.value ∙ c.in-Ok.ensures.made.lines) c.in-Ok-totals_by_turn.ensures.asked;
+      looked = c.in-Ok-totals_by_turn.ensures.looked;
+      sound = search rules;
+      faults = tt;
+    }

@@ -6,7 +6,7 @@ use Rattle.wt_trace.specs.declared.fault.ReplayFault.{ReplayFault}
 use Rattle.wt_trace.specs.Keys.{keys_by}
 use Rattle.wt_trace.specs.Stops.{IsStop, AreAsked}
 use Rattle.wt_trace.proofs.Places.{AreLeft, room_at, found_at, left-next, left-first, below_threads, same_some, asked_at, asked_more, mod_one}
-use Rattle.wt_trace.proofs.Stopped.{passed_on}
+use Rattle.wt_trace.proofs.Stopped.{stopped_all}
 use Rattle.wt_trace.proofs.by_shard.answers_by_shard.Goals as goal
 
 pub loop-shard-init : goal.loop-shard-init
@@ -30,10 +30,11 @@ take_at-requires-clause-place g c =
     let placed = c.loop-shard.invariant.left.at n (omega arith) below in
     (room_at made (λ n. g.G.Gate.answers c.args.gate.now n false) asked c.args.options.now.shards n part below placed)
 
-pub returns-in_err-one-clause-err : goal.returns-in_err-one-clause-err
-returns-in_err-one-clause-err g c =
-    let asked : ℕ → Type 0 = λ s. AreAsked (belongs (keys_by g.K.PartialEq.eq g.K.CacheKey.word g.K.TraceKey.read g.K.TraceKey.shown) c.args.options.now s) (λ n. g.G.Gate.answers c.args.gate.now n true) c.args.first c.args.read.now.lines in
-    let made = answers (keys_by g.K.PartialEq.eq g.K.CacheKey.word g.K.TraceKey.read g.K.TraceKey.shown) c.args.options.now c.args.first c.args.read.now.lines in
+pub returns-in_err-one : goal.returns-in_err-one
+returns-in_err-one g c =
+    let keys = keys_by g.K.PartialEq.eq g.K.CacheKey.word g.K.TraceKey.read g.K.TraceKey.shown in
+    let asked : ℕ → Type 0 = λ s. AreAsked (belongs keys c.args.options.now s) (λ n. g.G.Gate.answers c.args.gate.now n true) c.args.first c.args.read.now.lines in
+    let made = answers keys c.args.options.now c.args.first c.args.read.now.lines in
     let n = c.loop-shard.shard in
     let below : n < c.args.options.now.shards = omega (arith, c.loop-shard.auto.shard-end, c.loop-shard-test.true, c.shards-shard-end.ensures.value) in
     let part = get_or c.loop-shard.parts.items (n % c.args.threads) (Ok []) in
@@ -41,7 +42,7 @@ returns-in_err-one-clause-err g c =
     let stops : ℕ → Type 0 = (λ n. g.G.Gate.answers c.args.gate.now n false) in
     let taken = c.in_err-one.ensures.taken in
     let stop = subst (λ (r : Result (Option Answers) ReplayFault). IfErr r (IsStop stops)) (sym taken) (found_at made stops asked c.args.options.now.shards n part placed).1 in
-    passed_on (IsStop stops) c.from_residual-in_err-one.result c.in_err-one.field-0.0 c.from_residual-in_err-one.ensures.1 stop
+    stopped_all keys c.args.options.now (g.G.Gate.answers c.args.gate.now) c.args.first c.args.read.now.lines c.from_residual-in_err-one.result c.in_err-one.field-0.0 c.from_residual-in_err-one.ensures.1 stop
 
 pub loop-shard-preserved-in_default : goal.loop-shard-preserved-in_default
 loop-shard-preserved-in_default g c =
@@ -76,14 +77,12 @@ loop-shard-preserved g c =
       asked = λ s before. asked_more asked 1 0 n (λ e. now) (λ u earlier e. c.loop-shard.invariant.asked u earlier) s before (mod_one s);
     }
 
-pub returns-clause-answers : goal.returns-clause-answers
-returns-clause-answers g c =
-    let asked : ℕ → Type 0 = λ s. AreAsked (belongs (keys_by g.K.PartialEq.eq g.K.CacheKey.word g.K.TraceKey.read g.K.TraceKey.shown) c.args.options.now s) (λ n. g.G.Gate.answers c.args.gate.now n true) c.args.first c.args.read.now.lines in
+pub returns : goal.returns
+returns g c =
     let made = answers (keys_by g.K.PartialEq.eq g.K.CacheKey.word g.K.TraceKey.read g.K.TraceKey.shown) c.args.options.now c.args.first c.args.read.now.lines in
     let count : c.loop-shard.shard ≡ c.args.options.now.shards = omega (arith, c.loop-shard.auto.shard-end, c.loop-shard-test.false, c.shards-shard-end.ensures.value) in
-    c.loop-shard.invariant.all ∙ ap (λ n. map made (range_with_len 0 n)) count
-
-pub returns-clause-asked : goal.returns-clause-asked
-returns-clause-asked g c =
-    let count : c.loop-shard.shard ≡ c.args.options.now.shards = omega (arith, c.loop-shard.auto.shard-end, c.loop-shard-test.false, c.shards-shard-end.ensures.value) in
-    λ s below. c.loop-shard.invariant.asked s (omega (arith, below, count))
+    record {
+      answers = c.loop-shard.invariant.all ∙ ap (λ n. map made (range_with_len 0 n)) count;
+      asked = λ s below. c.loop-shard.invariant.asked s (omega (arith, below, count));
+      err = tt;
+    }

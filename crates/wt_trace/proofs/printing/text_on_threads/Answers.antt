@@ -12,4 +12,4 @@ lines_on_threads-requires-clause-whole g c κs within =
 pub show_summary-requires : goal.show_summary-requires
 show_summary-requires g c =
     let keys = keys_by g.K.PartialEq.eq g.K.CacheKey.word g.K.TraceKey.read g.K.TraceKey.shown in
-    few-answers keys c.args.options.now c.args.first c.args.read.now.lines c.args.all.now c.requires.options c.requires.all
+    few-answers keys c.args.options.now c.args.first c.args.read.now.lines c.args.all.now c.requires.ready.options c.requires.all

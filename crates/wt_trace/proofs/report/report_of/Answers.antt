@@ -5,12 +5,15 @@ use Rattle.wt_trace.specs.Trace.{lines_of}
 use Rattle.wt_trace.proofs.Traces.{verdict_of-trace}
 use Rattle.wt_trace.proofs.report.report_of.Goals as goal
 
-pub returns-clause-report : goal.returns-clause-report
-returns-clause-report g c =
+pub returns : goal.returns
+returns g c =
     let keys = keys_by g.K.PartialEq.eq g.K.CacheKey.word g.K.TraceKey.read g.K.TraceKey.shown in
-    let read = c.in_ok-read.ensures in
+    let read = c.in_ok-read.ensures.made in
     record {
-      text = c.in_ok-text_of.ensures ∙ (λ i. (report_of keys c.args.options.now c.args.first (record { lines = read.lines i; verdict = read.verdict i })).text);
-      verdict = read.verdict;
-      kind = subst IsVerdict (sym read.verdict) (verdict_of-trace g.K.TraceKey.read c.args.first (lines_of c.args.bytes.now));
+      report = record {
+        text = c.in_ok-text_of.ensures ∙ (λ i. (report_of keys c.args.options.now c.args.first (record { lines = read.lines i; verdict = read.verdict i })).text);
+        verdict = read.verdict;
+        kind = subst IsVerdict (sym read.verdict) (verdict_of-trace g.K.TraceKey.read c.args.first (lines_of c.args.bytes.now));
+      };
+      err = tt;
     }

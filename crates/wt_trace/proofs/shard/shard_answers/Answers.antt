@@ -1,4 +1,4 @@
-use Rattle.std.proofs.Common.{rules, true, false, ◌≡◌, ◌+◌, ◌++◌, ◌∙◌, [], ◌∷◌, ℕ, List, length, ap, sym, subst, arith}
+use Rattle.std.proofs.Common.{rules, true, ◌≡◌, ◌+◌, ◌++◌, ◌∙◌, [], ◌∷◌, ℕ, List, length, ap, sym, subst, arith, inl, refl}
 use Rattle.wt_core.specs.State.{opening, stats_of}
 use Rattle.wt_trace.specs.Answers.{Work, line_step, answers_from, belongs}
 use Rattle.wt_trace.specs.declared.line.Line.{Line}
@@ -6,8 +6,8 @@ use Rattle.wt_trace.specs.Keys.{keys_by}
 use Rattle.wt_trace.specs.Options.{config_of}
 use Rattle.wt_trace.specs.Pieces.{pieces}
 use Rattle.wt_trace.proofs.InOrder.{IsSoFar, more_line, no_line, answers-all}
-use Rattle.wt_trace.specs.Stops.{IsStop, AreAsked}
-use Rattle.wt_trace.proofs.Stopped.{passed_on, no_memory, none_left}
+use Rattle.wt_trace.specs.Stops.{AreAsked}
+use Rattle.wt_trace.proofs.Stopped.{stopped, none_left}
 use Rattle.wt_trace.proofs.shard.shard_answers.Goals as goal
 
 pub loop-line-preserved : goal.loop-line-preserved
@@ -19,8 +19,8 @@ loop-line-preserved g c =
     let done = c.in_ok-do_line.ensures in
     let w = c.loop-line.shard in
     let t = c.do_line.new.self in
-    let state : t.state ≡ (line_step keys o c.args.number c.loop-line.n c.in-Some.line.now w.state).state = rw (inv.options, inv.number) at done.state in
-    let text : t.text ≡ w.text ++ (line_step keys o c.args.number c.loop-line.n c.in-Some.line.now w.state).text = rw (inv.options, inv.number) at done.text in
+    let state : t.state ≡ (line_step keys o c.args.number c.loop-line.n c.in-Some.line.now w.state).state = rw (inv.options, inv.number) at done.made.state in
+    let text : t.text ≡ w.text ++ (line_step keys o c.args.number c.loop-line.n c.in-Some.line.now w.state).text = rw (inv.options, inv.number) at done.made.text in
     let far = more_line keys o c.args.number all w.text c.loop-line.ends.items c.loop-line.n c.in-Some.line.now c.loop-line.rest c.next.new.self
     w.state t.state t.text c.in-Some.ensures state text inv.far in
     let items : c.len.result ≡ length c.shard.inside.text.items = search rules in
@@ -31,14 +31,14 @@ loop-line-preserved g c =
     let ends = c.in_ok-push.ensures.items ∙ (λ i. c.loop-line.ends.items ++ len i ∷ []) in
     record {
       far = subst (λ (es : List ℕ). IsSoFar keys o c.args.number all t.text es (c.loop-line.n + 1) c.next.new.self t.state) (sym ends) far;
-      options = done.same.0 ∙ inv.options;
-      number = done.same.1 ∙ inv.number;
+      options = done.made.same.0 ∙ inv.options;
+      number = done.made.same.1 ∙ inv.number;
       asked = λ more. inv.asked (subst (λ (ls : List (Line g.row.K.Denot)). AreAsked (belongs keys o c.args.number) passed c.loop-line.n ls) (sym c.in-Some.ensures) (asked, more));
       numbers = omega (arith, inv.numbers, left);
     }
 
-pub returns-clause-answers : goal.returns-clause-answers
-returns-clause-answers g c =
+pub returns : goal.returns
+returns g c =
     let keys = keys_by g.K.PartialEq.eq g.K.CacheKey.word g.K.TraceKey.read g.K.TraceKey.shown in
     let inv = c.loop-line.invariant in
     let o = c.args.options.now in
@@ -48,17 +48,21 @@ returns-clause-answers g c =
     let whole = no_line keys o c.args.number all w.text c.loop-line.ends.items c.loop-line.n c.loop-line.rest w.state (ap length c.in_default-next.ensures) inv.far in
     let is : c.stats.result ≡ stats_of w.state = c.stats.ensures.numbers ∙ ap (λ (x : Work g.row.K.Denot). stats_of x.state) c.shard-2.view_is in
     let text : i.text.items ≡ w.text = ap (λ (x : Work g.row.K.Denot). x.text) c.shard-2.view_is in
-    (λ j. record { texts = pieces (text j) 0 c.loop-line.ends.items; stats = is j }) ∙ whole ∙ answers-all keys o c.args.first c.args.lines c.args.number
-
-pub returns-in_err-do_line-clause-err : goal.returns-in_err-do_line-clause-err
-returns-in_err-do_line-clause-err g c =
-    passed_on (IsStop (λ n. g.G.Gate.answers c.args.gate.now n false)) c.from_residual-in_err-do_line.result c.in_err-do_line.field-0.0 c.from_residual-in_err-do_line.ensures.1 c.in_err-do_line.ensures.err
-
-pub returns-in_err-push-clause-err : goal.returns-in_err-push-clause-err
-returns-in_err-push-clause-err g c = no_memory (λ n. g.G.Gate.answers c.args.gate.now n false) c.from_residual-in_err-push.result c.from_residual-in_err-push.ensures.1
-
-pub returns-clause-asked : goal.returns-clause-asked
-returns-clause-asked g c =
-    let keys = keys_by g.K.PartialEq.eq g.K.CacheKey.word g.K.TraceKey.read g.K.TraceKey.shown in
     let passed : ℕ → Type 0 = λ m. g.G.Gate.answers c.args.gate.now m true in
-    c.loop-line.invariant.asked (none_left (belongs keys c.args.options.now c.args.number) passed c.loop-line.n c.loop-line.rest (ap length c.in_default-next.ensures))
+    record {
+      made = record {
+        answers = (λ j. record { texts = pieces (text j) 0 c.loop-line.ends.items; stats = is j }) ∙ whole ∙ answers-all keys o c.args.first c.args.lines c.args.number;
+        asked = inv.asked (none_left (belongs keys o c.args.number) passed c.loop-line.n c.loop-line.rest (ap length c.in_default-next.ensures));
+        err = tt;
+      };
+    }
+
+pub returns-in_err-do_line : goal.returns-in_err-do_line
+returns-in_err-do_line g c =
+    let keys = keys_by g.K.PartialEq.eq g.K.CacheKey.word g.K.TraceKey.read g.K.TraceKey.shown in
+    record { made = stopped keys c.args.options.now (g.G.Gate.answers c.args.gate.now) c.args.first c.args.lines c.args.number c.from_residual-in_err-do_line.result c.in_err-do_line.field-0.0 c.from_residual-in_err-do_line.ensures.1 c.in_err-do_line.ensures.err }
+
+pub returns-in_err-push : goal.returns-in_err-push
+returns-in_err-push g c =
+    let keys = keys_by g.K.PartialEq.eq g.K.CacheKey.word g.K.TraceKey.read g.K.TraceKey.shown in
+    record { made = stopped keys c.args.options.now (g.G.Gate.answers c.args.gate.now) c.args.first c.args.lines c.args.number c.from_residual-in_err-push.result _ c.from_residual-in_err-push.ensures.1 (inl refl) }

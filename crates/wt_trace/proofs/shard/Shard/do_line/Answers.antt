@@ -1,12 +1,17 @@
-use Rattle.std.proofs.Common.{rules, ◌≡◌, ◌++◌, ◌∙◌, ap, sym, false, append-nil}
+use Rattle.std.proofs.Common.{rules, ◌≡◌, ◌++◌, ◌∙◌, ap, sym, false, append-nil, refl}
 use Rattle.wt_trace.specs.Answers.{Shown, belongs}
 use Rattle.wt_trace.specs.Keys.{keys_by}
 use Rattle.wt_trace.proofs.Others.{other_line}
 use Rattle.wt_trace.proofs.shard.Shard.do_line.Goals as goal
 
-pub returns-then-not-belongs-clause-text : goal.returns-then-not-belongs-clause-text
-returns-then-not-belongs-clause-text g c =
+pub returns-then-not-belongs-clause-made : goal.returns-then-not-belongs-clause-made
+returns-then-not-belongs-clause-made g c =
     let keys = keys_by g.K.PartialEq.eq g.K.CacheKey.word g.K.TraceKey.read g.K.TraceKey.shown in
     let w = c.args.self.now in
     let other : belongs keys w.options w.shard c.args.line.now.act ≡ false = search rules in
-    sym (ap (λ (x : Shown g.row.K.Denot). w.text ++ x.text) (other_line keys w.options w.shard c.args.n c.args.line.now w.state other) ∙ append-nil w.text)
+    let line = other_line keys w.options w.shard c.args.n c.args.line.now w.state other in
+    record {
+      state = sym (ap (λ (x : Shown g.row.K.Denot). x.state) line);
+      text = sym (ap (λ (x : Shown g.row.K.Denot). w.text ++ x.text) line ∙ append-nil w.text);
+      same = (refl, refl);
+    }

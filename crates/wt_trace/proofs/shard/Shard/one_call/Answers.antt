@@ -9,14 +9,18 @@ use Rattle.wt_trace.specs.Keys.{keys_by}
 use Rattle.wt_trace.specs.declared.version.Version.{Version}
 use Rattle.wt_trace.proofs.shard.Shard.one_call.Goals as goal
 
-pub returns-clause-text : goal.returns-clause-text
-returns-clause-text g c =
+pub returns : goal.returns
+returns g c =
     let i = c.self.inside in
     let keys = keys_by g.K.PartialEq.eq g.K.CacheKey.word g.K.TraceKey.read g.K.TraceKey.shown in
     let m : Made g.row.K.Denot (Version g.row.K.Denot) = take keys i.core c.args.call in
     let told : List (Notice g.row.K.Denot (Version g.row.K.Denot)) → List ℕ = flat_map (notice_text keys) in
     let reply : c.in_ok-reply.reply ≡ m.reply = c.in_ok-reply.ensures.answer in
     let left : c.list.result.now ≡ m.notices = c.list.ensures ∙ ap (λ (t : NoticeList g.row.K.Denot (Version g.row.K.Denot)). t.list) (c.in_ok-reply.ensures.notices ∙ ap (appended m.notices) c.empty.ensures) in
-    rw (← c.self.view_is) (c.in_ok-show_notices.ensures ∙ ap (λ xs. xs ++ told c.list.result.now) c.in_ok-show_reply.ensures
-    ∙ (λ j. (i.text.items ++ words_of i.number (reply j)) ++ told (left j))
-    ∙ append_assoc i.text.items (words_of i.number m.reply) (told m.notices))
+    rw (← c.self.view_is) (record {
+      state = c.in_ok-reply.ensures.state;
+      text = c.in_ok-show_notices.ensures ∙ ap (λ xs. xs ++ told c.list.result.now) c.in_ok-show_reply.ensures
+          ∙ (λ j. (i.text.items ++ words_of i.number (reply j)) ++ told (left j))
+          ∙ append_assoc i.text.items (words_of i.number m.reply) (told m.notices);
+      same = (search, search);
+    })

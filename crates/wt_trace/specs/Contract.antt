@@ -1,0 +1,105 @@
+-- What several calls of a replay promise alike, and what they ask for: one record for each.
+use Rattle.std.specs.Prelude.{◌≡◌, ◌++◌, ◌+◌, ◌<◌, ◌≤◌, ◌^◌, ℕ, Bool, true, false, All, List, Vec, length, map, Option, None, Result, Err, IfOk, IfErr, OnOk, MatchOption}
+use Rattle.std.specs.List.{range_with_len}
+use Rattle.wt_keys.specs.declared.fault.Fault.TheVariants as cache
+use Rattle.wt_trace.specs.Answers.{Answers, Shown, Work, answers, belongs}
+use Rattle.wt_trace.specs.Keys.{Keys}
+use Rattle.wt_trace.specs.Options.{option_fault}
+use Rattle.wt_trace.specs.Parts.{IsPart}
+use Rattle.wt_trace.specs.Replayed.{Rises, ShutsOnly, is_config_fault}
+use Rattle.wt_trace.specs.Report.{Report, IsReport}
+use Rattle.wt_trace.specs.Stops.{AllAsked, AreAsked, IsStop}
+use Rattle.wt_trace.specs.Tally.{Tally}
+use Rattle.wt_trace.specs.Trace.{Verdict, line_end, lines_of, read_end, trace_from}
+use Rattle.wt_trace.specs.declared.fault.ReplayFault.{ReplayFault}
+use Rattle.wt_trace.specs.declared.fault.ReplayFault.TheVariants as fault
+use Rattle.wt_trace.specs.declared.line.Line.{Line}
+use Rattle.wt_trace.specs.declared.options.Options.{Options}
+use Rattle.wt_trace.specs.declared.trace.Lines.{Lines}
+
+-- ---- what is asked for
+
+-- lines that shards can do: each option is in its range, and there are few enough lines, the first of which has this number
+pub record IsReady (o : Options) (first count : ℕ) : Type 0 where
+  pub options : option_fault o ≡ None
+  pub few : first + count ≤ line_end
+
+-- lines that the shards of n threads can do
+pub record IsReadyOn (n : ℕ) (o : Options) (first count : ℕ) : Type 0 where
+  pub options : option_fault o ≡ None
+  pub few : first + count ≤ line_end
+  pub threads : 0 < n
+
+-- lines of a report that can be printed on threads: each shard has a text for each, and a thread prints at most so many
+pub record IsCut (first : ℕ) (all : List Answers) (count len : ℕ) : Type 0 where
+  pub whole : All (λ a. length a.texts ≡ count) all
+  pub fits : first + count < 2 ^ 64
+  pub most : len ≤ line_end + 1
+
+-- ---- what is promised
+
+-- what a shard at work promises that shows something of a line
+pub record Adds {K E : Type 0} (shown : Shown K) (old new : Work K) (result : Result (Unit {0}) E) : Type 0 where
+  -- its cache is in the state that is shown
+  pub state : OnOk result (new.state ≡ shown.state)
+  -- the text that is shown stands behind the one that was there
+  pub text : OnOk result (new.text ≡ old.text ++ shown.text)
+  -- whatever is returned: its options and its number stay
+  pub same : (new.options ≡ old.options) × (new.shard ≡ old.shard)
+
+-- what is promised of the lines that are read of bytes, the first of which is line n
+pub record AreRead {K E : Type 0} (read : List ℕ → Option K) (n : ℕ) (bytes : List ℕ) (result : Result (Lines K) E) : Type 0 where
+  -- the number behind the last line is at most 1,000,001
+  pub few : IfOk result (λ r. n + length r.lines.items ≤ line_end)
+  -- they are the lines up to the first fault
+  pub lines : IfOk result (λ r. r.lines.items ≡ (trace_from read n (lines_of bytes)).lines)
+  -- and the verdict is what is wrong with the line behind them
+  pub verdict : IfOk result (λ r. r.verdict ≡ (trace_from read n (lines_of bytes)).verdict)
+
+module _ {K : Type 0} (keys : Keys K) (o : Options) (gate : ℕ → Bool → Type 0) (first : ℕ) (lines : List (Line K)) where
+  -- what a shard promises that does all lines that belong to it
+  pub record IsOfShard (shard : ℕ) (result : Result Answers ReplayFault) : Type 0 where
+    -- it answers them as the definition does
+    pub answers : IfOk result (λ a. a ≡ answers keys o first lines shard)
+    -- the gate let each of them through
+    pub asked : OnOk result (AreAsked (belongs keys o shard) (λ n. gate n true) first lines)
+    -- there is no memory, or the gate was shut before a line
+    pub err : IfErr result (IsStop (λ n. gate n false))
+
+  -- what thread t of so many promises, whose part is that of its shards
+  abbrev pub IsPartOf : ℕ → ℕ → Result (List (Option Answers)) ReplayFault → Type 0
+  IsPartOf threads t part = IsPart (answers keys o first lines) (λ n. gate n false) (λ shard. AreAsked (belongs keys o shard) (λ n. gate n true) first lines) o.shards threads t part
+
+  -- what all shards promise that do the lines
+  pub record AreOfShards {Z : Type 0} (result : Result (Vec Answers Z) ReplayFault) : Type 0 where
+    -- each answers them as the definition does, in the order of the shards
+    pub answers : IfOk result (λ all. all.items ≡ map (answers keys o first lines) (range_with_len 0 o.shards))
+    -- the gate let each line through at each shard that it belongs to
+    pub asked : OnOk result (AllAsked keys o (λ n. gate n true) first lines)
+    -- there is no memory, or the gate was shut before a line
+    pub err : IfErr result (IsStop (λ n. gate n false))
+
+-- what is promised of the report of a trace
+pub record IsReported {Z : Type 0} (meant : Report) (stops : ℕ → Type 0) (result : Result (Vec ℕ Z × Verdict) ReplayFault) : Type 0 where
+  -- the text and the verdict are those of the report that is meant
+  pub report : IfOk result (λ r. IsReport meant r.0.items r.1)
+  -- there is no memory, or the gate was shut before a line
+  pub err : IfErr result (IsStop stops)
+
+-- what each replay promises of its reader and its writer, of which it did what `Did` says
+pub record IsRun {R W : Type 0} (Did : Option (List ℕ) → Option (List ℕ) → Option (List ℕ) → Option (List ℕ) → Result (Unit {0}) ReplayFault → Type 0)
+    (o : Options) (stops : ℕ → Type 0) (remaining : R → Option (List ℕ)) (contents : W → Option (List ℕ))
+    (reader read : Tally R) (writer written : Tally W) (result : Result (Unit {0}) ReplayFault) : Type 0 where
+  -- an option out of its range is the fault, before anything is read or written; and only it is a fault of the options
+  pub config : MatchOption (option_fault o) (IfErr result (λ e. is_config_fault e ≡ false))
+      (λ field. (result ≡ Err (fault.Cache (cache.BadConfig field))) × (read ≡ reader) × (written ≡ writer))
+  -- what was read, and what was written of it
+  pub replayed : Did (remaining reader.inner) (remaining read.inner) (contents writer.inner) (contents written.inner) result
+  -- a fault of the reader comes exactly where it failed
+  pub reads : Rises reader.failures read.failures result fault.ReadFault
+  -- how often the reader is asked
+  pub turns : read.reads ≤ reader.reads + read_end + 1
+  -- a fault of the writer comes exactly where it failed
+  pub writes : Rises writer.failures written.failures result fault.WriteFault
+  -- a shut gate is the fault only where it was shut
+  pub shut : ShutsOnly stops result
