@@ -25,7 +25,7 @@ plain kind number notices = record { kind = kind; weight = 0; token = 0; number 
 abbrev pub hit : ℕ → Token → ℕ → ℕ → Answer
 hit kind v number notices = record { kind = kind; weight = v.weight; token = v.token; number = number; notices = notices }
 
--- the answer that tells a reply
+-- the answer that tells a reply and the number of its notices
 abbrev pub answer_of : Reply Token → ℕ → Answer
 answer_of (Hit v) n = hit 1 v 0 n
 answer_of Absent n = plain 2 0 n
@@ -43,12 +43,12 @@ answer_of (Forgot was) n = plain 13 (bit was) n
 answer_of Cleaned n = plain 14 0 n
 answer_of (Refused f) n = plain 15 (fault_number f) n
 
--- the number that a call returns
+-- the number of a reply's fault, or 0
 abbrev pub number_of : Reply Token → ℕ
 number_of (Refused f) = fault_number f
 number_of _ = 0
 
--- with the notices of no call
+-- the cache with no notices
 abbrev pub quiet : {K : Type 0} → Open K → Open K
 quiet c = record { core = c.core; notices = emptied c.notices }
 
@@ -58,15 +58,15 @@ module _ {K : Type 0} (eq : K → K → Bool) (word : K → ℕ) where
   abbrev pub made_of : Call K Token → Open K → Made K Token
   made_of call c = taken eq word (λ v. v.weight) c.core call
 
-  -- after the call: the definition's state, with the notices of this call alone
+  -- the definition's state after the call, with the notices of this call alone
   abbrev pub called : Call K Token → Open K → Open K
   called call c = let made = made_of call c in record { core = made.state; notices = appended made.notices (emptied c.notices) }
 
-  -- where memory was refused nothing has changed, but that the notices are gone
+  -- the cache after a call, by the kind of its answer: if that is 0, memory was refused and the notices alone are gone
   abbrev pub after : ℕ → Call K Token → Open K → Open K
   after kind call c = if kind == 0 then quiet c else called call c
 
-  -- the number that is returned
+  -- the number that the call returns: 1 if memory was refused, else that of the reply's fault, or 0
   abbrev pub number_after : ℕ → Call K Token → Open K → ℕ
   number_after kind call c = if kind == 0 then 1 else number_of (made_of call c).reply
 
@@ -78,6 +78,6 @@ module _ {K : Type 0} (eq : K → K → Bool) (word : K → ℕ) where
   abbrev pub IsRefused : Call K Token → Open K → Type 0
   IsRefused call c = IsSome (refusal_of eq word (λ v. v.weight) c.core call)
 
--- the call takes no memory
+-- the call takes no memory in this state
 abbrev pub IsFree : {K : Type 0} → (K → K → Bool) → Call K Token → Open K → Type 0
 IsFree eq call c = TakesNone eq (λ v. v.weight) c.core call

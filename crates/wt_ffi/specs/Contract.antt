@@ -1,10 +1,13 @@
--- What each of C's calls promises that makes a step: one record for calls by number, one for calls by name, one for sweeps.
--- `told` is the answer after the call and `before` the one before it, `old` and `new` what the handle holds.
+-- What C's calls promise that come twice or more: one record for steps by number, one for steps by name, one for sweeps, one for
+-- openings, one for notices. `told` is what is told after the call and `before` what stood there, `old` and `new` what the handle holds.
 use Rattle.std.specs.Prelude.{◌≡◌, ◌<◌, ℕ, List, Option, Some, None, IfSome, IsNone, IsSome}
+use Rattle.wt_regions.specs.declared.notices.Notice.{Notice}
+use Rattle.wt_core.specs.State.{config_fault}
 use Rattle.wt_core.specs.declared.calls.Call.{Call}
 use Rattle.wt_ffi.specs.declared.answer.Answer.{Answer}
 use Rattle.wt_ffi.specs.declared.opened.Opened.{Opened}
 use Rattle.wt_ffi.specs.declared.opened.Opened.TheVariants as opened
+use Rattle.wt_ffi.specs.declared.setup.Setup.{Setup}
 use Rattle.wt_ffi.specs.declared.sweeps.Sweep.{Sweep}
 use Rattle.wt_ffi.specs.declared.text.Text.{Text}
 use Rattle.wt_ffi.specs.declared.token.Token.{Token}
@@ -12,6 +15,9 @@ use Rattle.wt_ffi.specs.Kinds.{numbered, named}
 use Rattle.wt_ffi.specs.Named as by_name
 use Rattle.wt_ffi.specs.Names.{asked, number_unasked}
 use Rattle.wt_ffi.specs.Numbered as by_number
+use Rattle.wt_ffi.specs.Open.{Open}
+use Rattle.wt_ffi.specs.Setups.{Opens, config_of}
+use Rattle.wt_ffi.specs.Shows.{Reads}
 use Rattle.wt_ffi.specs.Sweeps as by_sweep
 
 -- a call by number: on an open cache of numbers the definition's step, and else nothing, which the number returned tells
@@ -60,3 +66,26 @@ pub record IsSweptCall (sweep : Sweep) (now : ℕ) (old new : Option Opened) (be
   pub memory : IsSome old → 0 < told.kind
   -- nothing happens if the cache is closed
   pub closed : IsNone old → (result ≡ 100) × (new ≡ None) × (told ≡ before)
+
+-- an opening, of numbers or of names: the cache that is meant, on a closed handle alone
+pub record IsOpening (meant : Opened) (setup : Setup) (old new : Option Opened) (result : ℕ) : Type 0 where
+  -- where it succeeds the cache is open
+  pub state : result ≡ 0 → new ≡ Some meant
+  -- a closed handle is refused exactly a setting out of its range, or memory
+  pub refusal : IsNone old → Opens (config_fault (config_of setup)) result
+  -- nothing is opened twice
+  pub already : IsSome old → result ≡ 101
+  -- else the handle is as it was
+  pub err : 0 < result → new ≡ old
+
+-- a notice of the latest call by its place: `found` reads it among the notices of a cache of its kind of keys
+pub record IsNoticeRead {K L : Type 0} (found : List (Notice K Token) → Option L) (own : Option (Open K)) (is_other : Type 0) (old new : Option Opened)
+    (before told : L) (result : ℕ) : Type 0 where
+  -- 0 and the notice, or 102 if there is none
+  pub answer : IfSome own (λ c. Reads (found c.notices.list) result before told)
+  -- nothing happens if the cache is closed
+  pub closed : IsNone old → (result ≡ 100) × (told ≡ before)
+  -- nor if its keys are of the other kind
+  pub other : is_other → (result ≡ 103) × (told ≡ before)
+  -- the cache stays as it is
+  pub same : new ≡ old

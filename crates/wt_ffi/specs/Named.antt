@@ -8,11 +8,11 @@ use Rattle.wt_ffi.specs.declared.answer.Answer.{Answer}
 use Rattle.wt_ffi.specs.Calls as calls
 use Rattle.wt_ffi.specs.Open.{Open}
 
--- the cache after a call
+-- the cache after a call by name
 abbrev pub after : ℕ → Call (List ℕ) Token → Open (List ℕ) → Open (List ℕ)
 after = calls.after (pointwise nat_eq) word_of_name
 
--- the number that is returned
+-- the number that a call by name returns
 abbrev pub number_after : ℕ → Call (List ℕ) Token → Open (List ℕ) → ℕ
 number_after = calls.number_after (pointwise nat_eq) word_of_name
 
@@ -24,6 +24,6 @@ answer_after = calls.answer_after (pointwise nat_eq) word_of_name
 abbrev pub IsRefused : Call (List ℕ) Token → Open (List ℕ) → Type 0
 IsRefused = calls.IsRefused (pointwise nat_eq) word_of_name
 
--- the call takes no memory
+-- a call by name takes no memory in this state
 abbrev pub IsFree : Call (List ℕ) Token → Open (List ℕ) → Type 0
 IsFree = calls.IsFree (pointwise nat_eq)

@@ -25,7 +25,7 @@ asked_for (Some name) (Some (kind.Numbers c)) = None
 asked_for (Some name) None = None
 asked_for None opened = None
 
--- what a call with this text goes to
+-- what a call with a text goes to
 abbrev pub asked : Text → Option Opened → Option Asked
 asked t opened = asked_for (name_of t) opened
 
@@ -35,6 +35,7 @@ number_for_none None opened = 104
 number_for_none (Some name) None = 100
 number_for_none (Some name) (Some opened) = 103
 
--- the same of a text
+-- the number that is returned of a text if it goes to nothing: 104 if it is too long, 100 if the cache is closed, 103 if its keys are
+-- numbers
 abbrev pub number_unasked : Text → Option Opened → ℕ
 number_unasked t opened = number_for_none (name_of t) opened

@@ -6,11 +6,11 @@ use Rattle.wt_ffi.specs.declared.answer.Answer.{Answer}
 use Rattle.wt_ffi.specs.Calls as calls
 use Rattle.wt_ffi.specs.Open.{Open}
 
--- the cache after a call
+-- the cache after a call by number
 abbrev pub after : ℕ → Call ℕ Token → Open ℕ → Open ℕ
 after = calls.after nat_eq (λ k. k)
 
--- the number that is returned
+-- the number that a call by number returns
 abbrev pub number_after : ℕ → Call ℕ Token → Open ℕ → ℕ
 number_after = calls.number_after nat_eq (λ k. k)
 
@@ -22,6 +22,6 @@ answer_after = calls.answer_after nat_eq (λ k. k)
 abbrev pub IsRefused : Call ℕ Token → Open ℕ → Type 0
 IsRefused = calls.IsRefused nat_eq (λ k. k)
 
--- the call takes no memory
+-- a call by number takes no memory in this state
 abbrev pub IsFree : Call ℕ Token → Open ℕ → Type 0
 IsFree = calls.IsFree nat_eq

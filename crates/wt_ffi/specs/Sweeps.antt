@@ -11,17 +11,17 @@ use Rattle.wt_ffi.specs.declared.sweeps.Sweep.TheVariants.{Clear, Clean}
 use Rattle.wt_ffi.specs.Numbered as numbers
 use Rattle.wt_ffi.specs.Named as names
 
--- the call, for keys of any kind
+-- the clearing or cleaning, as a call for keys of either kind
 abbrev pub sweep_call : {K : Type 0} → Sweep → ℕ → Call K Token
 sweep_call Clear now = call.Clear now
 sweep_call Clean now = call.Clean now
 
--- the cache after the call, by the kind of its answer
+-- the cache after a call that goes through all entries
 abbrev pub after : ℕ → Sweep → ℕ → Opened → Opened
 after kind sweep now (Numbers c) = Numbers (numbers.after kind (sweep_call sweep now) c)
 after kind sweep now (Names c) = Names (names.after kind (sweep_call sweep now) c)
 
--- the number that is returned
+-- the number that a call that goes through all entries returns
 abbrev pub number_after : ℕ → Sweep → ℕ → Opened → ℕ
 number_after kind sweep now (Numbers c) = numbers.number_after kind (sweep_call sweep now) c
 number_after kind sweep now (Names c) = names.number_after kind (sweep_call sweep now) c

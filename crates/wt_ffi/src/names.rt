@@ -1,11 +1,11 @@
 // A cache of names: opening one, its notices, and the one step of each of C's calls by name.
 ghost use Rattle.std.specs.Prelude.{◌≡◌, ◌<◌, Some, IfSome, IsNone, IsSome, None};
-ghost use Rattle.wt_core.specs.State.{config_fault};
 ghost use Rattle.wt_ffi.specs.declared.opened.Opened.TheVariants as opened;
+ghost use Rattle.wt_ffi.specs.Contract.{IsNoticeRead, IsOpening};
 ghost use Rattle.wt_ffi.specs.Kinds.{numbered, named};
 ghost use Rattle.wt_ffi.specs.Named.{after, number_after, answer_after, IsRefused, IsFree};
-ghost use Rattle.wt_ffi.specs.Setups.{config_of, opened_by, Opens};
-ghost use Rattle.wt_ffi.specs.Shows.{name_left_of, name_left_at, Reads};
+ghost use Rattle.wt_ffi.specs.Setups.{config_of, opened_by};
+ghost use Rattle.wt_ffi.specs.Shows.{name_left_of, name_left_at};
 
 use crate::answer::Answer;
 use crate::handle::{CLOSED, Handle, OPEN, OTHER_KEYS};
@@ -24,12 +24,8 @@ use wt_regions::Notice;
 /// Takes memory for all the entries.
 #[unsafe(no_mangle)]
 pub extern "C" fn rd_open_names(alloc: Global, setup: &Setup, handle: &mut Handle) -> u64
-    ensures state { result ≡ 0 → handle.new.pointer.cache
-        ≡ Some (opened.Names (opened_by (config_of setup.now))) }
-    ensures refusal { IsNone handle.old.pointer.cache
-        → Opens (config_fault (config_of setup.now)) result }
-    ensures already { IsSome handle.old.pointer.cache → result ≡ 101 }
-    ensures err { 0 < result → handle.new.pointer.cache ≡ handle.old.pointer.cache }
+    ensures made { IsOpening (opened.Names (opened_by (config_of setup.now))) setup.now
+        handle.old.pointer.cache handle.new.pointer.cache result }
 {
     if handle.is_open {
         return OPEN;
@@ -76,12 +72,9 @@ pub extern "C" fn rd_get_notice_name(
     i: u64,
     left: &mut NameLeft,
 ) -> u64
-    ensures answer { IfSome (named handle.old.pointer.cache) (λ c.
-        Reads (name_left_at i c.notices.list) result left.old left.new) }
-    ensures closed { IsNone handle.old.pointer.cache → (result ≡ 100) × (left.new ≡ left.old) }
-    ensures other { IsSome (numbered handle.old.pointer.cache) → (result ≡ 103)
-        × (left.new ≡ left.old) }
-    ensures same { handle.new.pointer.cache ≡ handle.old.pointer.cache }
+    ensures made { IsNoticeRead (name_left_at i) (named handle.old.pointer.cache)
+        (IsSome (numbered handle.old.pointer.cache)) handle.old.pointer.cache
+        handle.new.pointer.cache left.old left.new result }
 {
     let Some(opened) = handle.take(alloc) else {
         return CLOSED;

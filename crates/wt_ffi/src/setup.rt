@@ -6,7 +6,8 @@ ghost use Rattle.wt_keys.specs.declared.fault.Fault.TheVariants as fault;
 ghost use Rattle.wt_core.specs.State.{config_fault, opening};
 ghost use Rattle.wt_regions.specs.Notices.{no_notices};
 ghost use Rattle.wt_ffi.specs.declared.opened.Opened.TheVariants as opened;
-ghost use Rattle.wt_ffi.specs.Setups.{config_of, duration, field_number, opened_by, Opens};
+ghost use Rattle.wt_ffi.specs.Contract.{IsOpening};
+ghost use Rattle.wt_ffi.specs.Setups.{config_of, duration, field_number, opened_by};
 
 use crate::cached::Cached;
 use crate::handle::{CLOSED, Handle, OPEN};
@@ -100,12 +101,8 @@ pub(crate) fn hold(alloc: Global, handle: &mut Handle, opened: Opened) -> u64
 /// refused, in this order; the handle is then as it was. Takes memory for all the entries.
 #[unsafe(no_mangle)]
 pub extern "C" fn rd_open(alloc: Global, setup: &Setup, handle: &mut Handle) -> u64
-    ensures state { result ≡ 0 → handle.new.pointer.cache
-        ≡ Some (opened.Numbers (opened_by (config_of setup.now))) }
-    ensures refusal { IsNone handle.old.pointer.cache
-        → Opens (config_fault (config_of setup.now)) result }
-    ensures already { IsSome handle.old.pointer.cache → result ≡ 101 }
-    ensures err { 0 < result → handle.new.pointer.cache ≡ handle.old.pointer.cache }
+    ensures made { IsOpening (opened.Numbers (opened_by (config_of setup.now))) setup.now
+        handle.old.pointer.cache handle.new.pointer.cache result }
 {
     if handle.is_open {
         return OPEN;

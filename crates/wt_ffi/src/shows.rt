@@ -1,5 +1,6 @@
 // What C may read of a cache.
 ghost use Rattle.std.specs.Prelude.{◌≡◌, None, Some, IfSome, IsNone, IsSome};
+ghost use Rattle.wt_ffi.specs.Contract.{IsNoticeRead};
 ghost use Rattle.wt_ffi.specs.Kinds.{numbered, named};
 ghost use Rattle.wt_ffi.specs.Shows.{numbers_of, shown_of, IsLawfulOpen, IsLawfulOpened};
 ghost use Rattle.wt_ffi.specs.Shows.{cause_number, left_of, left_at, Reads};
@@ -143,12 +144,9 @@ pub(crate) fn tell<L: Copy>(found: Option<L>, left: &mut L) -> u64
 /// Takes no memory. O(1).
 #[unsafe(no_mangle)]
 pub extern "C" fn rd_get_notice(alloc: Global, handle: &mut Handle, i: u64, left: &mut Left) -> u64
-    ensures answer { IfSome (numbered handle.old.pointer.cache) (λ c.
-        Reads (left_at i c.notices.list) result left.old left.new) }
-    ensures closed { IsNone handle.old.pointer.cache → (result ≡ 100) × (left.new ≡ left.old) }
-    ensures other { IsSome (named handle.old.pointer.cache) → (result ≡ 103)
-        × (left.new ≡ left.old) }
-    ensures same { handle.new.pointer.cache ≡ handle.old.pointer.cache }
+    ensures made { IsNoticeRead (left_at i) (numbered handle.old.pointer.cache)
+        (IsSome (named handle.old.pointer.cache)) handle.old.pointer.cache handle.new.pointer.cache
+        left.old left.new result }
 {
     let Some(opened) = handle.take(alloc) else {
         return CLOSED;
