@@ -52,7 +52,8 @@ int main(void) {
     CHECK(rd_drop_key(&cache, 1, 200, &a) == 0 && a.kind == RD_DROPPED && a.number == 1 && a.notices == 1);
     CHECK(rd_clear(&cache, 200, &a) == 0 && a.kind == RD_CLEARED && a.notices == 0);
     rd_numbers t;
-    CHECK(rd_get_numbers(&cache, &t) == 0);
+    /* one load was stored and two were not; one failed, and one landing came too late */
+    CHECK(rd_get_numbers(&cache, &t) == 0 && t.loads == 3 && t.failed == 1);
     printf("lookups %llu hits %llu misses %llu loads %llu failed %llu evicted %llu entries %llu weight %llu "
            "step %llu latest %llu flights %llu\n",
            (unsigned long long)t.lookups, (unsigned long long)t.hits, (unsigned long long)t.misses,
@@ -60,6 +61,18 @@ int main(void) {
            (unsigned long long)t.entries, (unsigned long long)t.weight, (unsigned long long)t.step,
            (unsigned long long)t.latest, (unsigned long long)t.flights);
     CHECK(rd_close(&cache) == 0 && !cache.is_open);
+    /* the greatest cache and the least, and the greatest token, which weighs nothing */
+    for (uint32_t entries = 65536;; entries = 1) {
+        rd_setup other = {.entries = entries, .window = 1, .flights = 1, .bound = 1};
+        CHECK(rd_open(&other, &cache) == 0);
+        CHECK(rd_put(&cache, 1, (rd_token){UINT64_MAX, 0}, 0, &a) == 0 && a.notices == 0);
+        CHECK(rd_look(&cache, 1, 0, &a) == 0 && a.kind == RD_HIT && a.token == UINT64_MAX && a.weight == 0);
+        CHECK(rd_drop_key(&cache, 1, 0, &a) == 0 && a.number == 1 && a.notices == 1);
+        CHECK(rd_get_notice(&cache, 0, &n) == 0 && n.token == UINT64_MAX && n.weight == 0);
+        CHECK(rd_close(&cache) == 0);
+        if (entries == 1)
+            break;
+    }
     setup.window = 5;
     CHECK(rd_check(&setup) == 2 && rd_open(&setup, &cache) == RD_BAD_SETUP && !cache.is_open);
     setup.window = 1;

@@ -1,5 +1,5 @@
 // The header from C++: a cache of numbers and one of names.
-#include "rookdresser.h"
+#include "stats.h"
 #include <cstdio>
 
 int main() {

@@ -1,13 +1,18 @@
 #!/usr/bin/env python3
-"""same_bytes.py TRACES WT_REPLAY REPLAY [names]: random traces with random options, replayed by the proved program and through
-the header. Both must write the same bytes and end with the same status. Keys are numbers, or names that spell one."""
+"""Replays random traces with random options by the proved program and through the header: both have to write the same bytes and
+end with the same status. Keys are numbers, or names that spell one."""
 import random
 import subprocess
 import sys
+from pathlib import Path
+
+sys.path.insert(0, str(Path(__file__).resolve().parent.parent.parent / "tools" / "lib"))
+
+from words import Parser, end, program, whole
 
 
 def trace_of(r, lines, names):
-    """So many lines, by letters as FORMATS has them, with moments that sometimes go back."""
+    """A trace of a number of lines, by letters as FORMATS has them, with moments that sometimes go back."""
     keys, now, text = r.choice([6, 30, 200]), 0, ["wt 2\n"] * names
     for _ in range(lines):
         now += r.choice([0, 0, 1, 3, 20])
@@ -30,17 +35,23 @@ def options_of(r):
 
 
 def main():
-    traces, proved, tried, names = int(sys.argv[1]), sys.argv[2], sys.argv[3], sys.argv[4:] == ["names"]
+    parser = Parser(__doc__)
+    parser.add_argument("traces", type=whole(1, 1_000_000), help="how many traces")
+    parser.add_argument("proved", type=program, help="wt_replay, as the gate built it")
+    parser.add_argument("tried", type=program, help="the replay through the header")
+    parser.add_argument("keys", nargs="?", choices=("numbers", "names"), default="numbers")
+    words = parser.parse_args()
     total = 0
-    for seed in range(traces):
+    for seed in range(words.traces):
         r = random.Random(seed)
         lines = r.choice([50, 300, 2000])
-        trace, options = trace_of(r, lines, names), options_of(r)
-        one, two = (subprocess.run([program] + options, input=trace, capture_output=True) for program in (proved, tried))
+        trace, options = trace_of(r, lines, words.keys == "names"), options_of(r)
+        one, two = (subprocess.run([path, *options], input=trace, capture_output=True) for path in (words.proved, words.tried))
         if (one.stdout, one.returncode) != (two.stdout, two.returncode):
             sys.exit("seed %d, %s: they differ" % (seed, " ".join(options)))
         total += lines
-    print("%d traces of %s, %d lines: the same bytes" % (traces, "names" if names else "numbers", total))
+    print("%d traces of %s, %d lines: the same bytes" % (words.traces, words.keys, total))
 
 
-main()
+if __name__ == "__main__":
+    end(main)

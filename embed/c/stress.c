@@ -2,6 +2,7 @@
  * failing loads, invalidations during loads, and then a second cache that is closed while in use. Afterwards exactly the values are kept
  * that the library holds, and in the end none. */
 #include "keys.h"
+#include "stats.h"
 #include <pthread.h>
 #include <sched.h>
 #include <stdatomic.h>
@@ -57,6 +58,7 @@ typedef struct loading {
     pthread_mutex_t lock;
     pthread_cond_t ended;
     rd_cache cache;
+    rd_stats stats;
     load *loads;
     long kept; /* values that the library holds */
 } loading;
@@ -72,6 +74,7 @@ static value **left_of(loading *l, const rd_answer *a) {
         CHECK(get_notice(&l->cache, i, &n) == RD_OK);
         left[i] = (value *)(uintptr_t)n.token;
         CHECK(left[i]->key == n.key);
+        rd_count_left(&l->stats, n.cause);
         l->kept--;
     }
     return left;
@@ -93,7 +96,7 @@ static uint64_t put(loading *l, uint64_t key) {
     rd_answer a;
     value *v = new_value(key), **left = 0;
     pthread_mutex_lock(&l->lock);
-    uint64_t fault = PUT(&l->cache, GIVEN(key), token_of(v), moment, &a);
+    uint64_t fault = rd_count(&l->stats, PUT(&l->cache, GIVEN(key), token_of(v), moment, &a), &a);
     if (fault == RD_OK) {
         l->kept++;
         left = left_of(l, &a);
@@ -109,6 +112,7 @@ static uint64_t end_load(loading *l, load *of, uint64_t key, uint64_t now, value
     pthread_mutex_lock(&l->lock);
     uint64_t fault = v ? LAND_KEEP(&l->cache, of->id, GIVEN(key), token_of(v), now, &a)
                        : LAND_FAILED(&l->cache, of->id, GIVEN(key), now, &a);
+    rd_count(&l->stats, fault, &a);
     if (fault == RD_OK) {
         if (a.kind == RD_KEPT) {
             share(v);
@@ -144,7 +148,7 @@ static uint64_t get(loading *l, uint64_t key, unsigned what, value **got) {
     rd_answer a;
     uint64_t now = moment;
     pthread_mutex_lock(&l->lock);
-    uint64_t fault = SEEK(&l->cache, GIVEN(key), now, &a);
+    uint64_t fault = rd_count(&l->stats, SEEK(&l->cache, GIVEN(key), now, &a), &a);
     *got = 0;
     if (fault) {
         pthread_mutex_unlock(&l->lock);
@@ -177,7 +181,7 @@ static uint64_t get(loading *l, uint64_t key, unsigned what, value **got) {
     if (what >= 5) of->value = new_value(key);
     if (what >= 5 && what < 10) {
         pthread_mutex_lock(&l->lock);
-        fault = DROP(&l->cache, GIVEN(key), now, &a);
+        fault = rd_count(&l->stats, DROP(&l->cache, GIVEN(key), now, &a), &a);
         leave(l, fault ? 0 : left_of(l, &a));
     } else {
         sched_yield();
@@ -196,7 +200,7 @@ static uint64_t get(loading *l, uint64_t key, unsigned what, value **got) {
 static uint64_t sweep(loading *l, uint64_t (*call)(rd_cache *, uint64_t, rd_answer *)) {
     rd_answer a;
     pthread_mutex_lock(&l->lock);
-    uint64_t fault = call(&l->cache, moment, &a);
+    uint64_t fault = rd_count(&l->stats, call(&l->cache, moment, &a), &a);
     leave(l, fault ? 0 : left_of(l, &a));
     return fault;
 }
@@ -205,6 +209,7 @@ static uint64_t without(loading *l, uint64_t key, bool drop) {
     rd_answer a;
     pthread_mutex_lock(&l->lock);
     uint64_t fault = drop ? DROP(&l->cache, GIVEN(key), moment, &a) : FORGET(&l->cache, GIVEN(key), moment, &a);
+    rd_count(&l->stats, fault, &a);
     leave(l, fault ? 0 : left_of(l, &a));
     return fault;
 }
@@ -269,7 +274,7 @@ static void run(loading *l, bool closes) {
         /* A closing tells no notices, so that all is cleared before. */
         pthread_mutex_lock(&l->lock);
         rd_answer a;
-        CHECK(rd_clear(&l->cache, moment, &a) == RD_OK);
+        CHECK(rd_count(&l->stats, rd_clear(&l->cache, moment, &a), &a) == RD_OK);
         value **left = left_of(l, &a);
         CHECK(rd_close(&l->cache) == RD_OK);
         leave(l, left);
@@ -288,6 +293,12 @@ int main(void) {
            (unsigned long long)n.entries, l.kept, (long)live, (unsigned long long)n.hits, (unsigned long long)n.misses,
            (unsigned long long)n.loads, (unsigned long long)n.failed, (unsigned long long)n.evicted);
     CHECK(n.entries > 0 && n.entries == (uint64_t)l.kept && n.entries == (uint64_t)live && n.flights == 0);
+    const rd_stats *s = &l.stats;
+    CHECK(rd_hits(s) == n.hits && rd_misses(s) == n.misses && rd_loads(s) == n.loads && s->answers[RD_FAILED] == n.failed);
+    CHECK(rd_evicted(s) == n.evicted && rd_held(s) == n.entries && s->misused == 0);
+    /* Each load that was begun has landed once. */
+    CHECK(s->answers[RD_LEAD] + s->answers[RD_HIT_LEAD] == rd_loads(s) + s->answers[RD_FAILED] && s->answers[RD_GONE] == 0);
+    CHECK(s->answers[RD_HIT_LEAD] > 0 && s->answers[RD_LOOSE] > 0 && s->left[RD_EXPIRED] > 0);
     CHECK(sweep(&l, rd_clear) == RD_OK && l.kept == 0 && live == 0);
     CHECK(rd_close(&l.cache) == RD_OK);
     run(&l, true);

@@ -182,6 +182,24 @@ func TestTheAgeOfALoadedValueCountsFromTheGet(t *testing.T) {
 	holds(t, c)
 }
 
+func TestAMomentThatGoesBackCountsAsTheLatest(t *testing.T) {
+	c := open(t, Setup{Entries: 10, AfterWrite: 100})
+	there := func(key uint64, now uint64) bool { _, found, _ := c.Look(key, now); return found }
+	_, _, _ = c.Look(1, 1000)
+	if err := c.Put(1, "one", 1, 5); err != nil {
+		t.Fatal(err)
+	}
+	if !there(1, 1099) || there(1, 1100) {
+		t.Fatal("its age doesn't count from the latest moment")
+	}
+	// So does a landing whose get was made before a call at a later moment.
+	_, err := c.Get(ctx, 2, 2000, func() (string, uint32, error) { _, _, _ = c.Look(1, 2090); return "two", 1, nil })
+	if err != nil || !there(2, 2189) || there(2, 2190) {
+		t.Fatal("its age doesn't count from the latest moment", err)
+	}
+	holds(t, c)
+}
+
 func TestWhoWaitsForALoadMayGiveUp(t *testing.T) {
 	c, mayEnd, ended := open(t, setup), make(chan struct{}), make(chan error)
 	go func() {
@@ -304,6 +322,25 @@ func TestAListenerThatPanicsKeepsNothingFromBeingTold(t *testing.T) {
 		}()
 		_ = c.Clear(0)
 	}()
+	if n := holds(t, c); told != 3 || n.Entries != 0 {
+		t.Fatal(told, n)
+	}
+}
+
+func TestAListenerThatEndsItsGoroutineKeepsNothingFromBeingTold(t *testing.T) {
+	c, told, ended := open(t, setup), 0, make(chan bool)
+	c.Listen(func(Left[uint64, string]) { told++; runtime.Goexit() })
+	for key := uint64(0); key < 3; key++ {
+		if err := c.Put(key, "held", 1, 0); err != nil {
+			t.Fatal(err)
+		}
+	}
+	go func() {
+		defer close(ended)
+		_ = c.Clear(0)
+		t.Error("its goroutine has not ended")
+	}()
+	<-ended
 	if n := holds(t, c); told != 3 || n.Entries != 0 {
 		t.Fatal(told, n)
 	}

@@ -1,6 +1,7 @@
 #!/usr/bin/env python3
 """What a loader, weigh, on_leave, clock, a finalizer and a key may do. embed/CALLBACKS.md names these tests."""
 import gc
+import itertools
 import logging
 import os
 import re
@@ -152,6 +153,22 @@ class Callbacks(unittest.TestCase):
         now[0] = 1100
         self.assertIsNone(cache.look("a"))
 
+    def test_a_landing_that_is_refused_memory_lets_go_of_what_expired(self):
+        now, told = [0], []
+        cache = Cache(entries=10, after_write=100, refresh=50, clock=lambda: now[0], on_leave=lambda *of: told.append(of))
+        # The library answers so if memory is refused: nothing has moved.
+        cache._library.land_keep = lambda *of: 1
+        cache.put("a", 7)
+        now[0] = 60
+
+        def load(key):
+            now[0] = 150
+            cache.look("b")
+            return 8
+
+        self.assertEqual((cache.get("a", load), told, cache.stats().stale), (8, [("a", 7, "expired")], 1))
+        self.holds_exactly(cache, 0)
+
     # weigh and clock.
 
     def test_a_weight_that_is_no_whole_number_moves_nothing(self):
@@ -175,6 +192,26 @@ class Callbacks(unittest.TestCase):
                     within_a_minute(call)
             self.holds_exactly(cache, 0)
 
+    def test_a_clock_that_goes_back_counts_as_the_latest_moment(self):
+        now = [1000]
+        cache = Cache(entries=10, after_write=100, clock=lambda: now[0])
+
+        def is_there(key, moment):
+            now[0] = moment
+            return key in cache
+
+        self.assertFalse(is_there("a", 1000))
+        now[0] = 5
+        cache.put("a", 1)
+        self.assertTrue(is_there("a", 1099))
+        self.assertFalse(is_there("a", 1100))
+        # So does a landing whose get was made before a call at a later moment.
+        now[0] = 2000
+        cache.get("b", lambda key: is_there("a", 2090))
+        self.assertTrue(is_there("b", 2189))
+        self.assertFalse(is_there("b", 2190))
+        self.holds_exactly(cache, 0)
+
     def test_weigh_and_clock_may_use_the_cache(self):
         def weigh(key, value):
             cache.look("b")
@@ -190,6 +227,81 @@ class Callbacks(unittest.TestCase):
         cache = Cache(entries=10, weigh=weigh, clock=clock)
         self.assertEqual(within_a_minute(lambda: cache.get("a", lambda key: 7)), 7)
         self.holds_exactly(cache, 1)
+
+    def callbacks(self, act):
+        """Each of weigh, clock, a key's hash and its equality, as (name, a cache, a key): act() is called by that one, if `armed`."""
+        for name in ("weigh", "clock", "hash", "equality"):
+            armed = []
+
+            def acts(of, name=name, armed=armed):
+                if of == name and armed:
+                    armed.clear()
+                    act()
+
+            class Key:
+                def __init__(self, acts=acts):
+                    self.acts = acts
+
+                def __hash__(self):
+                    self.acts("hash")
+                    return 5
+
+                def __eq__(self, other):
+                    self.acts("equality")
+                    return True
+
+            def weigh(key, value, acts=acts):
+                acts("weigh")
+                return 1
+
+            def clock(acts=acts):
+                acts("clock")
+                return 0
+
+            cache = Cache(entries=10, weigh=weigh, clock=clock)
+            cache.put(Key(), 1)
+            armed.append(1)
+            yield name, cache, Key()
+
+    def test_weigh_clock_hash_and_equality_that_are_told_to_exit_move_nothing(self):
+        def exits():
+            raise SystemExit
+
+        for name, cache, key in self.callbacks(exits):
+            with self.subTest(name), self.assertRaises(SystemExit):
+                within_a_minute(lambda: cache.put(key, 2))
+            self.assertEqual((cache.look(key), cache.stats().replaced), (1, 0))
+            self.holds_exactly(cache, 1)
+
+    def test_weigh_clock_hash_and_equality_that_close_the_cache_have_the_call_refused(self):
+        opened = []
+        for name, cache, key in self.callbacks(lambda: opened[-1].close()):
+            opened.append(cache)
+            with self.subTest(name), self.assertRaises(Refused) as caught:
+                within_a_minute(lambda: cache.put(key, 2))
+            self.assertEqual((caught.exception.fault, cache.kept()), (100, (0, 0)))
+
+    def test_weigh_clock_hash_and_equality_that_block_stop_no_other_call(self):
+        begun, end = threading.Barrier(2), threading.Barrier(2)
+
+        def blocks():
+            begun.wait()
+            end.wait()
+
+        for name, cache, key in self.callbacks(blocks):
+            def meanwhile(cache=cache):
+                begun.wait()
+                self.assertEqual(cache.get("b", lambda key: 20), 20)
+                self.assertEqual(cache.look("b"), 20)
+                end.wait()
+
+            with self.subTest(name):
+                blocked = threading.Thread(target=cache.put, args=(key, 2))
+                blocked.start()
+                within_a_minute(meanwhile)
+                blocked.join()
+                self.assertEqual(cache.look(key), 2)
+                self.holds_exactly(cache, 2)
 
     # on_leave.
 
@@ -313,7 +425,9 @@ class Callbacks(unittest.TestCase):
         for call in (lambda: cache.get("a", lambda key: 1), lambda: cache.look("a"), cache.numbers, cache.stats):
             with self.assertRaises(Reentered):
                 call()
-        cache._leave()
+        cache._busy = False
+        cache._give_back()
+        cache.kept()
         self.assertEqual((cache.look("a"), cache.look("b")), (7, None))
         self.holds_exactly(cache, 1)
 
@@ -385,6 +499,44 @@ class Callbacks(unittest.TestCase):
         within_a_minute(work)
         self.assertEqual(cache.stats().loads, 2)
         self.holds_exactly(cache, 2)
+
+    def test_a_key_s_hash_and_equality_that_contradict_themselves_leak_nothing(self):
+        asked = itertools.count(1)
+
+        class Fickle:
+            def __hash__(self):
+                return next(asked) * 0x9E3779B97F4A7C15 % 2 ** 64 >> 33 & 3
+
+            def __eq__(self, other):
+                return (next(asked) * 0x9E3779B97F4A7C15 % 2 ** 64 >> 33) % 3 == 0
+
+        now = [0]
+        cache = Cache(entries=16, after_write=40, refresh=15, clock=lambda: now[0])
+
+        def fails(key):
+            raise KeyError
+
+        def work():
+            for now[0] in range(3000):
+                key = Fickle()
+                if now[0] % 5 == 0:
+                    cache.put(key, 1)
+                elif now[0] % 5 == 1:
+                    cache.look(key)
+                elif now[0] % 5 == 2:
+                    cache.drop(key)
+                elif now[0] % 5 == 3:
+                    try:
+                        cache.get(key, fails)
+                    except KeyError:
+                        pass
+                else:
+                    cache.get(key, lambda key: 2)
+                self.holds_exactly(cache)
+
+        within_a_minute(work)
+        self.assertGreater(cache.stats().hits, 0)
+        self.assertGreater(cache.stats().misses, 0)
 
     def test_numbers_that_python_hashes_alike_are_spread(self):
         cache, alike = Cache(entries=200), [i * (2 ** 61 - 1) for i in range(100)]
@@ -485,12 +637,13 @@ class Callbacks(unittest.TestCase):
 
     # The page.
 
-    def test_the_page_of_callbacks_names_tests_that_are_there(self):
+    def test_the_pages_name_tests_that_are_there(self):
         embed = Path(__file__).resolve().parent.parent
         tests = "".join(path.read_text() for pattern in ("rust/tests/*.rs", "go/*_test.go", "python/test_*.py") for path in embed.glob(pattern))
-        named = re.findall(r"`((?:Test|test_|an?_|the_|loaders_)\w+)`", (embed / "CALLBACKS.md").read_text())
-        self.assertEqual([name for name in named if not re.search(r"(?:fn|def|func) %s\(" % name, tests)], [])
-        self.assertGreater(len(named), 50)
+        for page, least in (("CALLBACKS.md", 50), ("README.md", 30)):
+            named = re.findall(r"`(Test\w+|[a-z]+(?:_[a-z0-9]+){3,})`", (embed / page).read_text())
+            self.assertEqual([name for name in named if not re.search(r"(?:fn|def|func) %s\(" % name, tests)], [])
+            self.assertGreater(len(named), least)
 
 
 if __name__ == "__main__":

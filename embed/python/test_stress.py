@@ -85,7 +85,7 @@ class Stress(unittest.TestCase):
         def work(seed):
             if seed == 0:
                 for _ in range(200):
-                    cache.get(seed, lambda key: 0)
+                    cache.get(seed, Value)
                 cache.close()
                 return
             try:

@@ -97,6 +97,26 @@ class Tasks(unittest.TestCase):
         self.assertEqual(told, ["a task", "a task", "the thread"])
         self.holds_exactly(cache, 1)
 
+    def test_a_coroutine_that_gc_closes_in_the_midst_of_a_call_ends_its_load_right_after(self):
+        cache = Cache(entries=10)
+
+        async def work():
+            coroutine = cache.aget("a", lambda key: asyncio.Event().wait())
+            coroutine.send(None)
+            # What gc does, as if it ran within the steps of a call.
+            self.assertTrue(cache._enter())
+            coroutine.close()
+            self.assertTrue(cache._is_mine())
+            cache._busy = False
+            cache._give_back()
+            cache.kept()
+            self.assertEqual(cache.kept(), (0, 0))
+            return await cache.aget("a", lambda key: 7)
+
+        self.assertEqual(self.run_in_loop(work), 7)
+        self.assertEqual((cache.stats().failed, cache.stats().loads), (1, 1))
+        self.holds_exactly(cache, 1)
+
     def test_two_loads_that_wait_for_each_other_are_told(self):
         cache, told, begun = Cache(entries=10), [], []
 

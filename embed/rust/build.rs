@@ -1,7 +1,10 @@
-// ROOKDRESSER_LIB names the folder of librookdresser.a, which tools/embed builds.
+// ROOKDRESSER_LIB names the folder of librookdresser.a, which tools/embed builds. A release carries it in lib/.
 fn main() {
     println!("cargo:rerun-if-env-changed=ROOKDRESSER_LIB");
-    let folder = std::env::var("ROOKDRESSER_LIB").unwrap_or_else(|_| "../../out/embed".into());
+    let carried = format!("{}/lib", std::env::var("CARGO_MANIFEST_DIR").expect("cargo sets it"));
+    let is_carried = std::path::Path::new(&carried).exists();
+    let folder =
+        std::env::var("ROOKDRESSER_LIB").unwrap_or(if is_carried { carried } else { "../../out/embed".into() });
     let library = std::path::Path::new(&folder).join("librookdresser.a");
     println!("cargo:rerun-if-changed={}", library.display());
     if !library.exists() {

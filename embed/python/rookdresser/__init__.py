@@ -5,9 +5,11 @@
 
 Keys are whatever can be hashed, values whatever there is. This package is tested, not proved; see README.md.
 """
-from ._cache import Cache, Reentered, Stats
+from ._cache import Cache
 from ._decorator import cached
 from ._library import Refused
 from ._loads import WaitsForItself
+from ._stats import Stats
+from ._turns import Reentered
 
 __all__ = ["Cache", "Reentered", "Refused", "Stats", "WaitsForItself", "cached"]

@@ -6,6 +6,8 @@ import operator
 import os
 from typing import Any, Callable, Optional
 
+from . import _carried
+
 U32, U64 = ctypes.c_uint32, ctypes.c_uint64
 NO_MEMORY, HIT, ABSENT, HIT_LEAD, JOIN, LEAD, KEPT = 0, 1, 2, 3, 4, 5, 6
 CAUSES = {1: "explicit", 2: "replaced", 3: "expired", 4: "size"}
@@ -67,10 +69,10 @@ def whole(number: Any, bits: int, what: str) -> int:
 
 
 class Library:
-    """librookdresser.so, from the folder that is named or that ROOKDRESSER_LIB names."""
+    """librookdresser.so, from the folder that is named or that ROOKDRESSER_LIB names, or else the one that a wheel carries."""
 
     def __init__(self, folder: Optional[str] = None) -> None:
-        path = os.path.join(folder or os.environ.get("ROOKDRESSER_LIB") or ".", "librookdresser.so")
+        path = os.path.join(folder or os.environ.get("ROOKDRESSER_LIB") or _carried.folder() or ".", "librookdresser.so")
         try:
             library = ctypes.CDLL(os.path.abspath(path))
         except OSError as error:

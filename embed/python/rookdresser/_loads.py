@@ -2,9 +2,12 @@
 from __future__ import annotations
 
 import asyncio
+import functools
+import queue
 import threading
+import time
 from contextvars import ContextVar
-from typing import Any, Dict, Generic, List, Optional, Tuple, TypeVar
+from typing import Any, Callable, Dict, Generic, List, Optional, Tuple, TypeVar
 
 V = TypeVar("V")
 
@@ -20,44 +23,56 @@ class WaitsForItself(RuntimeError):
 class Load(Generic[V]):
     """A load that one thread or task makes, and others may wait for."""
 
-    def __init__(self, number: int, old: Optional[V], is_refresh: bool, task: Optional[asyncio.Task[Any]]) -> None:
-        self.number, self.old, self.is_refresh = number, old, is_refresh
+    def __init__(self, number: int, row: Any, now: int, old: Optional[V], is_refresh: bool,
+                 task: Optional[asyncio.Task[Any]]) -> None:
+        self.number, self.row, self.now = number, row, now  # its id, the row of its key, the moment of the seek
+        self.old, self.is_refresh, self.begun = old, is_refresh, time.perf_counter_ns()
         self.thread = threading.get_ident()
         self.owner: object = task or self.thread
-        self.done, self.is_over = threading.Event(), False
-        self.row: Any = None  # of the key
         self.left: List[Any] = []  # by the seek; it is told once the load has landed, so that on_leave may ask for the key
         self.value: Optional[V] = None
         self.error: Optional[BaseException] = None
-        self._tasks: List[Tuple[asyncio.AbstractEventLoop, asyncio.Future[None]]] = []
+        self.is_over = False
+        # Each wakes one who waits, whether it waits already or not yet.
+        self._bells: List[Callable[[], object]] = []
 
     def tell(self, value: Optional[V], error: Optional[BaseException]) -> None:
         """Ends the load for all who wait. No lock of the cache is held."""
         self.value, self.error, self.is_over = value, error, True
-        self.done.set()
-        while self._tasks:
-            loop, future = self._tasks.pop()
+        self.ring()
+
+    def ring(self) -> None:
+        """Wakes all who wait. It may be rung again."""
+        for bell in self._bells:
             try:
-                loop.call_soon_threadsafe(_wake, future)
+                bell()
             except RuntimeError:
                 pass  # the loop is closed, and nobody waits in it
 
     def wait(self, timeout: Optional[float]) -> None:
         """Waits in this thread. TimeoutError, or WaitsForItself if it would wait for good."""
-        me = threading.get_ident()
-        with _waits(self, me, me):
-            if not self.done.wait(timeout):
-                raise TimeoutError("the load of the key took longer than %s s" % timeout)
+        me, told = threading.get_ident(), queue.SimpleQueue()  # type: ignore[var-annotated]
+        try:
+            _begin_waiting(self, me, me)
+            self._bells.append(functools.partial(told.put, None))
+            if not self.is_over:
+                told.get(timeout=None if timeout is None else max(0, timeout))
+        except queue.Empty:
+            raise TimeoutError("the load of the key took longer than %s s" % timeout) from None
+        finally:
+            _waiting.pop(me, None)
 
     async def wait_in_loop(self) -> None:
         """Waits in this task, while the loop goes on."""
-        loop = asyncio.get_running_loop()
+        loop, me = asyncio.get_running_loop(), asyncio.current_task()
         future: asyncio.Future[None] = loop.create_future()
-        with _waits(self, asyncio.current_task(), None):
-            self._tasks.append((loop, future))
-            if self.is_over:
-                return
-            await future
+        try:
+            _begin_waiting(self, me, None)
+            self._bells.append(functools.partial(loop.call_soon_threadsafe, _wake, future))
+            if not self.is_over:
+                await future
+        finally:
+            _waiting.pop(me, None)
 
 
 def _wake(future: asyncio.Future[None]) -> None:
@@ -66,21 +81,7 @@ def _wake(future: asyncio.Future[None]) -> None:
 
 
 # The loads that the thread or task at work makes. What it starts by asyncio inherits them.
-_leading: ContextVar[Tuple[Load[Any], ...]] = ContextVar("rookdresser_leading", default=())
-
-
-class leading:
-    """The code within makes this load."""
-
-    def __init__(self, load: Load[Any]) -> None:
-        self._load = load
-
-    def __enter__(self) -> None:
-        self._token = _leading.set(_leading.get() + (self._load,))
-
-    def __exit__(self, *_: object) -> None:
-        _leading.reset(self._token)
-
+leading: ContextVar[Tuple[Load[Any], ...]] = ContextVar("rookdresser_leading", default=())
 
 # The thread or task that waits, with what it waits for. Only those who wait take this lock.
 waiting_lock = threading.RLock()
@@ -88,34 +89,22 @@ _waiting: Dict[object, Load[Any]] = {}
 _walking: List[int] = []
 
 
-class _waits:
-    """This thread or task waits for the load, which is known to end."""
-
-    def __init__(self, load: Load[Any], who: object, thread: Optional[int]) -> None:
-        self._load, self._who, self._thread = load, who, thread
-
-    def __enter__(self) -> None:
-        with waiting_lock:
-            if _walking:
-                raise WaitsForItself("a finalizer waits for a load within the few steps in which its own thread begins to wait")
+def _begin_waiting(load: Load[Any], who: object, thread: Optional[int]) -> None:
+    """This thread or task waits for the load, which is known to end. Who waits no more takes itself out."""
+    with waiting_lock:
+        if _walking:
+            raise WaitsForItself("a finalizer waits for a load within the few steps in which its own thread begins to wait")
+        try:
             _walking.append(1)
-            try:
-                self._walk()
-                _waiting[self._who] = self._load
-            finally:
-                _walking.pop()
-
-    def _walk(self) -> None:
-        at: Optional[Load[Any]] = self._load
-        while at is not None and not at.is_over:
-            # A thread that waits keeps each task of its loop from going on.
-            if at.owner == self._who or at.thread == self._thread or at in _leading.get():
-                raise WaitsForItself("the load of the key waits for this very caller")
-            at = _waiting.get(at.owner) or _waiting.get(at.thread)
-
-    def __exit__(self, *_: object) -> None:
-        with waiting_lock:
-            _waiting.pop(self._who, None)
+            at: Optional[Load[Any]] = load
+            while at is not None and not at.is_over:
+                # A thread that waits keeps each task of its loop from going on.
+                if at.owner == who or at.thread == thread or at in leading.get():
+                    raise WaitsForItself("the load of the key waits for this very caller")
+                at = _waiting.get(at.owner) or _waiting.get(at.thread)
+            _waiting[who] = load
+        finally:
+            del _walking[:]
 
 
 def forget_other_threads() -> None:

@@ -60,7 +60,7 @@ impl<K, V, E> Lead<'_, K, V, E> {
         self.flight.tell(outcome);
         let mut all = std::mem::take(&mut self.left);
         all.extend(left);
-        self.of.release(all);
+        self.of.listener.release(all);
     }
 }
 

@@ -4,6 +4,8 @@ use std::ops::AddAssign;
 use std::time::Duration;
 
 /// Counts since the cache was opened, by this side. README.md says what each is in terms of Guava's `CacheStats`.
+///
+/// If keys have the same hash, a call may be counted for another key of that hash too, by the library's numbers as well.
 #[derive(Clone, Copy, Debug, Default, PartialEq, Eq)]
 pub struct Stats {
     /// Calls of `look` and `get` that found a value.

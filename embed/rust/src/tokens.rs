@@ -82,6 +82,17 @@ pub enum Landed {
     Gone,
 }
 
+// The library is marked for such a processor, and glibc would refuse it in a sentence. Rust's own linker drops that mark.
+fn is_v2() -> bool {
+    #[cfg(target_arch = "x86_64")]
+    return is_x86_feature_detected!("ssse3")
+        && is_x86_feature_detected!("sse4.1")
+        && is_x86_feature_detected!("sse4.2")
+        && is_x86_feature_detected!("popcnt");
+    #[cfg(not(target_arch = "x86_64"))]
+    return true;
+}
+
 /// One cache, and the notices of its latest call. Its keys are numbers, or names of at most 24 bytes.
 pub struct Tokens<K = u64> {
     handle: Handle,
@@ -94,8 +105,10 @@ pub struct Tokens<K = u64> {
 unsafe impl<K> Send for Tokens<K> {}
 
 impl<K: Key> Tokens<K> {
-    /// Opens an empty cache. `BadSetup`, then `OutOfMemory`.
+    /// Opens an empty cache. `BadSetup`, then `OutOfMemory`. Panics on a processor older than x86-64-v2, which lacks
+    /// instructions that the library has.
     pub fn open(setup: &Setup) -> Result<Self, Fault> {
+        assert!(is_v2(), "rookdresser needs a processor of x86-64-v2 or later");
         let mut handle = Handle { at: std::ptr::null_mut(), is_open: false };
         // SAFETY: both lead to whole values that are borrowed for the call, and the handle is closed: all bytes are zero.
         match unsafe { K::open(setup, &mut handle) } {

@@ -1,7 +1,7 @@
 //! What a loader, a listener, a value's drop, and a key's hash, equality and clone may do. embed/CALLBACKS.md names these tests.
 mod common;
 use common::within_a_minute;
-use rookdresser::{Cache, Fault, Found, GetError, Landed, Loading, Setup, Stats};
+use rookdresser::{Cache, Cause, Fault, Found, GetError, Landed, Loading, Setup, Stats};
 use std::hash::{Hash, Hasher};
 use std::panic::{catch_unwind, AssertUnwindSafe};
 use std::sync::atomic::{AtomicU64, Ordering};
@@ -263,8 +263,9 @@ fn a_value_s_drop_that_panics_spoils_nothing() {
         // A heavy one evicts both at once: each is dropped, and the get panics once.
         assert!(get(9, 1000));
         assert_eq!((cache.kept(), count.load(Ordering::SeqCst)), ((1, 1), 1));
-        // The last one would panic as the cache is dropped.
-        std::mem::forget(cache);
+        // So does the last one as the cache is dropped.
+        assert!(panics(|| drop(cache)));
+        assert_eq!(count.load(Ordering::SeqCst), 0);
     });
 }
 
@@ -293,9 +294,11 @@ fn a_loader_or_a_listener_that_blocks_stops_no_other_call() {
     within_a_minute(|| {
         let (begun, end) = (Arc::new(Barrier::new(2)), Arc::new(Barrier::new(2)));
         let (begins, ends) = (begun.clone(), end.clone());
-        let cache = Loading::<u64, u64, Down>::open(&SETUP).unwrap().with_listener(move |_| {
-            begins.wait();
-            ends.wait();
+        let cache = Loading::<u64, u64, Down>::open(&SETUP).unwrap().with_listener(move |left| {
+            if *left.key == 1 {
+                begins.wait();
+                ends.wait();
+            }
         });
         // What the rest of the test does while one thread stands still within a callback.
         let meanwhile = || {
@@ -338,6 +341,8 @@ fn a_listener_that_panics_keeps_nothing_from_being_told() {
     }
     assert!(panics(|| drop(cache.clear(0))));
     assert_eq!((told.load(Ordering::SeqCst), cache.numbers().entries), (3, 0));
+    drop(cache);
+    assert_eq!(told.load(Ordering::SeqCst), 3);
     // A get whose load makes an entry leave has landed by the time that it panics.
     let cache = Loading::<u64, u64, Down>::open(&Setup { entries: 1, ..SETUP })
         .unwrap()
@@ -346,6 +351,26 @@ fn a_listener_that_panics_keeps_nothing_from_being_told() {
     assert!(panics(|| drop(cache.put(&1, Arc::new(2), 1, 0))));
     assert_eq!(cache.look(&1, 0), Ok(Some(Arc::new(2))));
     holds_exactly(&cache);
+    assert!(panics(|| drop(cache)));
+}
+
+#[test]
+fn dropping_the_cache_tells_the_listener_what_was_there() {
+    for shards in [1, 4] {
+        let told = Arc::new(Mutex::new(Vec::new()));
+        let telling = told.clone();
+        let cache = Loading::<u64, u64, Down>::sharded(shards, &SETUP).unwrap().with_listener(move |left| {
+            telling.lock().unwrap().push((*left.key, *left.value, left.cause));
+            assert_ne!(*left.key, 2, "of the listener");
+        });
+        for key in 1..4 {
+            assert_eq!(cache.get(&key, 0, || Ok((key * 10, 1))), Ok(Arc::new(key * 10)));
+        }
+        assert!(panics(|| drop(cache)));
+        let mut told = told.lock().unwrap();
+        told.sort_by_key(|told| told.0);
+        assert_eq!(*told, [(1, 10, Cause::Explicit), (2, 20, Cause::Explicit), (3, 30, Cause::Explicit)]);
+    }
 }
 
 // A key whose hash, equality and clone do as they are told. All of them have one hash.
@@ -419,6 +444,229 @@ fn a_key_alone_of_its_hash_is_not_taken_for_another() {
     assert_eq!((cache.look(&Odd(1), 20), cache.look(&Odd(2), 20)), (Ok(Some(Arc::new(1))), Ok(Some(Arc::new(2)))));
     assert_eq!(cache.look(&Odd(3), 20), Ok(None));
     holds_exactly(&cache);
+}
+
+// A key that blocks once: as it is hashed, compared or cloned.
+#[derive(Debug)]
+struct Blocks {
+    number: u64,
+    at: &'static str,
+}
+
+static BLOCKS: OnceLock<(Barrier, Barrier)> = OnceLock::new();
+static IS_ARMED: AtomicU64 = AtomicU64::new(0);
+
+impl Blocks {
+    fn at(&self, at: &str) {
+        if self.at == at && IS_ARMED.swap(0, Ordering::SeqCst) == 1 {
+            let (begun, end) = BLOCKS.get().unwrap();
+            begun.wait();
+            end.wait();
+        }
+    }
+}
+
+impl Hash for Blocks {
+    fn hash<H: Hasher>(&self, state: &mut H) {
+        self.at("hash");
+        state.write_u8(5);
+    }
+}
+
+impl PartialEq for Blocks {
+    fn eq(&self, other: &Blocks) -> bool {
+        self.at("equality");
+        other.at("equality");
+        self.number == other.number
+    }
+}
+
+impl Eq for Blocks {}
+
+impl Clone for Blocks {
+    fn clone(&self) -> Blocks {
+        self.at("clone");
+        Blocks { number: self.number, at: self.at }
+    }
+}
+
+#[test]
+fn a_key_s_hash_equality_and_clone_that_block_stop_no_other_call() {
+    within_a_minute(|| {
+        let (begun, end) = BLOCKS.get_or_init(|| (Barrier::new(2), Barrier::new(2)));
+        for at in ["hash", "equality", "clone"] {
+            let cache = Loading::<Blocks, u64, Down>::open(&SETUP).unwrap();
+            let key = |number, at| Blocks { number, at };
+            cache.put(&key(1, ""), Arc::new(1), 1, 0).unwrap();
+            IS_ARMED.store(1, Ordering::SeqCst);
+            std::thread::scope(|s| {
+                let blocked = s.spawn(|| cache.get(&key(2, at), 0, || Ok((2, 1))));
+                begun.wait();
+                assert_eq!(cache.look(&key(1, ""), 0), Ok(Some(Arc::new(1))));
+                assert_eq!(cache.get(&key(3, ""), 0, || Ok((3, 1))), Ok(Arc::new(3)));
+                end.wait();
+                assert_eq!(blocked.join().unwrap(), Ok(Arc::new(2)));
+            });
+            holds_exactly(&cache);
+            assert_eq!(cache.numbers().entries, 3);
+        }
+    });
+}
+
+// A key and a value whose drops look into the cache, and block if they are told to.
+#[derive(Clone, Debug, PartialEq, Eq, Hash)]
+struct Held(u64);
+
+static HELD: OnceLock<Loading<Held, Held, Down>> = OnceLock::new();
+static HOLDS: OnceLock<(Barrier, Barrier)> = OnceLock::new();
+static DROPPED: AtomicU64 = AtomicU64::new(0);
+static HOLD_NEXT: AtomicU64 = AtomicU64::new(0);
+
+impl std::borrow::Borrow<u64> for Held {
+    fn borrow(&self) -> &u64 {
+        &self.0
+    }
+}
+
+impl Drop for Held {
+    fn drop(&mut self) {
+        HELD.get().unwrap().look(&(self.0 + 1000), 0).unwrap();
+        DROPPED.fetch_add(1, Ordering::SeqCst);
+        if self.0 == 7 && HOLD_NEXT.swap(0, Ordering::SeqCst) == 1 {
+            let (begun, end) = HOLDS.get().unwrap();
+            begun.wait();
+            end.wait();
+        }
+    }
+}
+
+#[test]
+fn drops_of_a_key_and_a_value_may_use_the_cache_and_block() {
+    within_a_minute(|| {
+        let cache = HELD.get_or_init(|| Loading::open(&Setup { entries: 4, ..SETUP }).unwrap());
+        let (begun, end) = HOLDS.get_or_init(|| (Barrier::new(2), Barrier::new(2)));
+        for number in 0..20 {
+            assert!(cache.get(&Held(number % 9), 0, || Ok((Held(number), 1))).is_ok());
+            assert!(cache.get(&Held(number + 100), 0, || Err(Down)).is_err());
+            drop(cache.put(&Held(number % 5), Arc::new(Held(number)), 1, 0).unwrap());
+            drop(cache.drop_key(&(number % 3), 0).unwrap());
+            assert_eq!(cache.put(&Held(number), Arc::new(Held(number)), 2000, 0), Err(Fault::TooHeavy));
+        }
+        drop(cache.clear(0).unwrap());
+        holds_exactly(cache);
+        // One of the key, one of the value.
+        for key in [7, 8] {
+            cache.put(&Held(key), Arc::new(Held(15 - key)), 1, 0).unwrap();
+            HOLD_NEXT.store(1, Ordering::SeqCst);
+            std::thread::scope(|s| {
+                let blocked = s.spawn(|| drop(cache.clear(0).unwrap()));
+                begun.wait();
+                assert!(cache.get(&Held(1), 0, || Ok((Held(1), 1))).is_ok());
+                assert_eq!(cache.look(&1, 0).unwrap().map(|held| held.0), Some(1));
+                end.wait();
+                blocked.join().unwrap();
+            });
+        }
+        assert!(DROPPED.load(Ordering::SeqCst) > 100);
+        holds_exactly(cache);
+    });
+}
+
+// A key of one hash with all others, whose equality takes what it is compared with out of the cache.
+#[derive(Clone)]
+struct Takes(u64);
+
+static TAKEN: OnceLock<Loading<Takes, Looks, Down>> = OnceLock::new();
+static TAKES: AtomicU64 = AtomicU64::new(0);
+static LOOKED: AtomicU64 = AtomicU64::new(0);
+
+impl Hash for Takes {
+    fn hash<H: Hasher>(&self, state: &mut H) {
+        state.write_u8(5);
+    }
+}
+
+impl PartialEq for Takes {
+    fn eq(&self, other: &Takes) -> bool {
+        if TAKES.swap(0, Ordering::SeqCst) == 1 {
+            assert_eq!(TAKEN.get().unwrap().drop_key(&Takes(1), 0).unwrap().len(), 1);
+        }
+        self.0 == other.0
+    }
+}
+
+impl Eq for Takes {}
+
+// A value whose drop looks into the cache that it was in.
+struct Looks;
+
+impl Drop for Looks {
+    fn drop(&mut self) {
+        assert!(TAKEN.get().unwrap().look(&Takes(1), 0).unwrap().is_none());
+        LOOKED.fetch_add(1, Ordering::SeqCst);
+    }
+}
+
+#[test]
+fn what_was_looked_up_of_another_key_of_the_hash_is_dropped_with_no_lock_held() {
+    within_a_minute(|| {
+        let cache = TAKEN.get_or_init(|| Loading::open(&SETUP).unwrap());
+        // The row of the hash is the first key's. Its last share is the one that the call itself was given.
+        cache.put(&Takes(1), Arc::new(Looks), 1, 0).unwrap();
+        TAKES.store(1, Ordering::SeqCst);
+        assert!(cache.look(&Takes(2), 0).unwrap().is_none());
+        cache.put(&Takes(1), Arc::new(Looks), 1, 0).unwrap();
+        TAKES.store(1, Ordering::SeqCst);
+        assert!(cache.get(&Takes(2), 0, || Err(Down)).is_err());
+        assert_eq!(LOOKED.load(Ordering::SeqCst), 2);
+        holds_exactly(cache);
+    });
+}
+
+// A key whose hash and equality say something else each time.
+#[derive(Clone, Debug)]
+struct Fickle;
+
+static ASKED_FICKLE: AtomicU64 = AtomicU64::new(0);
+
+fn fickle(limit: u64) -> u64 {
+    (ASKED_FICKLE.fetch_add(1, Ordering::SeqCst).wrapping_mul(0x9E37_79B9_7F4A_7C15) >> 33) % limit
+}
+
+impl Hash for Fickle {
+    fn hash<H: Hasher>(&self, state: &mut H) {
+        state.write_u64(fickle(4));
+    }
+}
+
+impl PartialEq for Fickle {
+    fn eq(&self, _: &Fickle) -> bool {
+        fickle(3) == 0
+    }
+}
+
+impl Eq for Fickle {}
+
+#[test]
+fn a_key_s_hash_and_equality_that_contradict_themselves_leak_nothing() {
+    within_a_minute(|| {
+        let count = Arc::new(AtomicU64::new(0));
+        let cache = Loading::<Fickle, Counted, Down>::open(&Setup { after_write: 40, refresh: 15, ..SETUP }).unwrap();
+        for now in 0..3000 {
+            let key = Fickle;
+            match now % 5 {
+                0 => drop(cache.put(&key, Arc::new(Counted::new(&count, false)), 1, now).unwrap()),
+                1 => drop(cache.look(&key, now).unwrap()),
+                2 => drop(cache.drop_key(&key, now).unwrap()),
+                3 => drop(cache.get(&key, now, || Err(Down))),
+                _ => assert!(cache.get(&key, now, || Ok((Counted::new(&count, false), 1))).is_ok()),
+            }
+            holds_exactly(&cache);
+            assert_eq!(count.load(Ordering::SeqCst), cache.numbers().entries);
+        }
+        drop(cache);
+        assert_eq!(count.load(Ordering::SeqCst), 0);
+    });
 }
 
 #[test]
