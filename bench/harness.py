@@ -1,4 +1,5 @@
 """What the benchmarks share."""
+import os
 import pathlib
 import shutil
 import subprocess
@@ -7,12 +8,35 @@ import sys
 ROOT = pathlib.Path(__file__).resolve().parent.parent
 sys.path.insert(0, str(ROOT / "tools" / "lib"))
 
+import unproved_program  # noqa: E402
 import words  # noqa: E402
+
+# The peers are packages of Debian.
+JARS = ["/usr/share/java/caffeine.jar", "/usr/share/java/guava.jar"]
+DEBIAN_CRATES = pathlib.Path("/usr/share/cargo/registry")
+
+
+def parser(doc):
+    """A parser named by the program's path: answers --help with the text, and refuses words that it doesn't know."""
+    return words.Parser(doc, str(pathlib.Path(sys.argv[0]).resolve().relative_to(ROOT)))
 
 
 def takes_no_words(doc):
     """Answers --help with the text, and refuses all other words."""
-    words.Parser(doc, str(pathlib.Path(sys.argv[0]).resolve().relative_to(ROOT))).parse_args()
+    parser(doc).parse_args()
+
+
+def build_parser(doc):
+    """A parser of what a runner takes that builds in one of two ways and may make fewer calls."""
+    given = parser(doc)
+    given.add_argument("--unproved", action="store_true", help="build without any proof, in minutes: nothing of it is proved or checked")
+    given.add_argument("--one-in", type=words.whole(1), default=1, metavar="N", help="make one in N of the calls, to try the runner: no figures")
+    return given
+
+
+def load():
+    """The load of the machine over the last minute."""
+    return "%.1f" % os.getloadavg()[0]
 
 
 def unpack(source, target):
@@ -37,19 +61,63 @@ def crates_below(names):
     return found
 
 
-def build(folder, harness, name, deps, *words):
+def build(folder, harness, name, deps, *words, unproved=False, edits=()):
     """The program of a harness, which stands on these crates, proved and built in the folder, and run once with these words.
 
     A crate comes with its out/, so that what is proved of it isn't proved again. Built it is as every proved program is: by LLVM, at -O3.
+    Each edit is a file of the repository, a line in it and what stands in that line's place here.
     """
     crates = folder / "crates"
     below = crates_below(deps.split())
     for crate in below:
-        shutil.copytree(ROOT / "crates" / crate, crates / crate, symlinks=True)
+        shutil.copytree(ROOT / "crates" / crate, crates / crate, symlinks=True, ignore=shutil.ignore_patterns("out") if unproved else None)
     unpack(harness, crates / name)
+    for file, old, new in edits:
+        text = (folder / file).read_text()
+        assert text.count(old) == 1, (file, old)
+        (folder / file).write_text(text.replace(old, new))
     (folder / "crates.txt").write_text("\n".join([*below.values(), f"{name}: {deps}\n"]))
     shutil.copy(ROOT / "HANDLES", folder / "HANDLES")
+    if unproved:
+        program = folder / name
+        unproved_program.build(program, crates / name)
+        return program
     made = subprocess.run(["rt", "run", "--", *words], cwd=crates / name, capture_output=True, text=True)
     if made.returncode != 0:
         raise SystemExit(made.stdout + made.stderr)
     return crates / name / "out" / name
+
+
+def build_java(folder, source):
+    """The command of a Java class on Caffeine and Guava, or none if they or a JDK aren't there."""
+    if not shutil.which("javac") or not all(pathlib.Path(jar).exists() for jar in JARS):
+        return None
+    subprocess.run(["javac", "-cp", ":".join(JARS), "-d", folder, source], check=True, capture_output=True)
+    return ["java", "-cp", ":".join([str(folder), *JARS]), source.stem]
+
+
+def build_rust(folder, source):
+    """The command of a Rust program on the lru crate, or none if it or cargo isn't there."""
+    if not shutil.which("cargo") or not list(DEBIAN_CRATES.glob("lru-*")):
+        return None
+    made = folder / "lru_crate"
+    (made / "src").mkdir(parents=True)
+    (made / ".cargo").mkdir()
+    shutil.copy(source, made / "src" / "main.rs")
+    (made / "Cargo.toml").write_text('[package]\nname = "lru_crate"\nversion = "0.1.0"\nedition = "2021"\n[dependencies]\nlru = "*"\n')
+    (made / ".cargo" / "config.toml").write_text(
+        '[source.crates-io]\nreplace-with = "debian"\n[source.debian]\ndirectory = "%s"\n' % DEBIAN_CRATES)
+    subprocess.run(["cargo", "build", "--release", "--offline", "-q"], cwd=made, check=True, capture_output=True)
+    return [made / "target" / "release" / "lru_crate"]
+
+
+def built(name, build, folder, source):
+    """The command of a peer, or none and a line that says why."""
+    try:
+        command = build(folder, source)
+    except subprocess.CalledProcessError as fault:
+        print("skipped %s: it can't be built: %s" % (name, fault.stderr.decode().strip().split("\n")[-1][:200]))
+        return None
+    if command is None:
+        print("skipped %s: its Debian packages aren't there" % name)
+    return command

@@ -1,0 +1,95 @@
+import com.github.benmanes.caffeine.cache.Caffeine;
+import com.google.common.cache.CacheBuilder;
+import com.sun.management.OperatingSystemMXBean;
+import java.lang.management.ManagementFactory;
+import java.util.concurrent.atomic.AtomicLong;
+import java.util.concurrent.atomic.LongAdder;
+
+/**
+ * Through caffeine|guava through|held THREADS CALLS MULTIPLICATIONS: what the harness of bench/threads does, on Caffeine or Guava. Rounds
+ * on other caches come first and warm the compiler up. Prints the nanoseconds, how many loads began, the sum of all values, and the
+ * nanoseconds of processor, of the last round alone.
+ */
+class Through {
+    interface Cache {
+        long get(long key) throws Exception;
+    }
+
+    static final int ENTRIES = 4096, WARM_ROUNDS = 10, WARM_CALLS = 100_000, WARM_MULTIPLICATIONS = 625;
+
+    /** The stream of a thread: splitmix64. */
+    static final class Keys {
+        private long state;
+
+        Keys(long thread) { state = thread * 0x5851F42D4C957F2DL; }
+
+        private long draw() {
+            state += 0x9E3779B97F4A7C15L;
+            long z = state;
+            z = (z ^ (z >>> 30)) * 0xBF58476D1CE4E5B9L;
+            z = (z ^ (z >>> 27)) * 0x94D049BB133111EBL;
+            return z ^ (z >>> 31);
+        }
+
+        long held() { return draw() & 0x7FF; }
+
+        long skewed() {
+            long z = draw();
+            return z & (z >>> 32) & 0x1FFFF;
+        }
+    }
+
+    static long load(long key, int multiplications, LongAdder loads) {
+        loads.increment();
+        long z = key;
+        for (int i = 0; i < multiplications; i++) z = (z ^ (z >>> 30)) * 0xBF58476D1CE4E5B9L + 1;
+        return z;
+    }
+
+    static Cache made(String name, int multiplications, LongAdder loads) {
+        if (name.equals("caffeine")) {
+            com.github.benmanes.caffeine.cache.Cache<Long, Long> cache = Caffeine.newBuilder().maximumSize(ENTRIES).build();
+            return key -> cache.get(key, k -> load(k, multiplications, loads));
+        }
+        com.google.common.cache.Cache<Long, Long> cache = CacheBuilder.newBuilder().maximumSize(ENTRIES).build();
+        return key -> cache.get(key, () -> load(key, multiplications, loads));
+    }
+
+    /** All threads' gets: the sum of the values. */
+    static long gets(Cache cache, boolean held, int threads, int calls) throws Exception {
+        AtomicLong sum = new AtomicLong();
+        Thread[] running = new Thread[threads];
+        for (int t = 0; t < threads; t++) {
+            Keys keys = new Keys(t);
+            running[t] = new Thread(() -> {
+                long values = 0;
+                try {
+                    for (int i = 0; i < calls; i++) values += cache.get(held ? keys.held() : keys.skewed());
+                } catch (Exception fault) {
+                    throw new RuntimeException(fault);
+                }
+                sum.addAndGet(values);
+            });
+            running[t].start();
+        }
+        for (Thread thread : running) thread.join();
+        return sum.get();
+    }
+
+    public static void main(String[] given) throws Exception {
+        boolean held = given[1].equals("held");
+        int threads = Integer.parseInt(given[2]), calls = Integer.parseInt(given[3]), multiplications = Integer.parseInt(given[4]);
+        for (int round = 0; round < WARM_ROUNDS; round++) {
+            gets(made(given[0], WARM_MULTIPLICATIONS, new LongAdder()), held, threads, WARM_CALLS / threads);
+        }
+        OperatingSystemMXBean system = (OperatingSystemMXBean) ManagementFactory.getOperatingSystemMXBean();
+        LongAdder loads = new LongAdder();
+        Cache cache = made(given[0], multiplications, loads);
+        long processor = system.getProcessCpuTime(), begun = System.nanoTime();
+        long values = gets(cache, held, threads, calls);
+        long nanos = System.nanoTime() - begun;
+        processor = system.getProcessCpuTime() - processor;
+        System.out.printf("%d %d %s %d%n", nanos, loads.sum(), Long.toUnsignedString(values), processor);
+        System.exit(0);
+    }
+}
