@@ -11,6 +11,7 @@ TWO_REPORT = b"1 put\n2 hit 1\n"
 TWO_SUMMARY = b"lookups 1 hits 1 misses 0 loads 0 failed 0 evicted 0 entries 1 weight 1\n"
 MANY = b"0 L 1\n" * 1_000_000
 MANY_REPORT = b"".join(b"%d absent\n" % n for n in range(1, 1_000_001))
+THOUSAND_REPORT = MANY_REPORT[:MANY_REPORT.index(b"1001 ")]
 MANY_SUMMARY = b"lookups 1000000 hits 0 misses 1000000 loads 0 failed 0 evicted 0 entries 0 weight 0\n"
 
 # Title, options, input, status, standard output, standard error.
@@ -19,6 +20,9 @@ RUNS = [
     ("a trace of a header alone", "", b"wt 2", 0, ZEROS, b""),
     ("a last line without LF", "", b"0 P 1\n0 L 1", 0, TWO_REPORT + TWO_SUMMARY, b""),
     ("a bad line", "", TWO + b"0 Q 1\n" + TWO, 1, TWO_REPORT, b"fault 11 line 3\n"),
+    ("a bad line behind 1,000 others", "", MANY[:6000] + b"0 Q 1\n", 1, THOUSAND_REPORT, b"fault 11 line 1001\n"),
+    ("a bad line behind 1,000 others, on two threads", "--shards 2 --threads 2", MANY[:6000] + b"0 Q 1\n", 1, THOUSAND_REPORT,
+     b"fault 11 line 1001\n"),
     ("a header in the second line", "", b"0 L 1\nwt 2\n", 1, b"1 absent\n", b"fault 11 line 2\n"),
     ("a line of 64 bytes", "", TWO + b"1" * 64, 1, TWO_REPORT, b"fault 11 line 3\n"),
     ("a line of 65 bytes", "", TWO + b"1" * 65 + b"\n0 Q 1\n", 1, TWO_REPORT, b"fault 12 line 3\n"),
@@ -26,6 +30,7 @@ RUNS = [
     ("a name of 25 bytes", "", b"wt 2\n0 L " + b"x" * 25 + b"\n", 1, b"", b"fault 11 line 2\n"),
     ("a name with a colon", "", b"wt 2\n0 L a:b\n", 1, b"", b"fault 11 line 2\n"),
     ("1,000,000 lines", "", MANY, 0, MANY_REPORT + MANY_SUMMARY, b""),
+    ("1,000,000 lines on two threads", "--shards 2 --threads 2", MANY, 0, MANY_REPORT + MANY_SUMMARY, b""),
     ("1,000,001 lines", "", MANY + b"0 L 1\n", 1, MANY_REPORT, b"fault 13\n"),
     ("1,000,001 lines, the last too long", "", MANY + b"1" * 65, 1, MANY_REPORT, b"fault 13\n"),
     ("1,000,001 lines with the header", "", b"wt 2\n" + MANY, 1, MANY_REPORT[len(b"1 absent\n"):], b"fault 13\n"),

@@ -1,10 +1,13 @@
-"""Where things stand in the repository, and what is said while something isn't built yet."""
+"""Where things stand in the repository, its version, and what is said while something isn't built yet."""
+import re
 from pathlib import Path
 
 TOOLS = Path(__file__).resolve().parent.parent
 TOP = TOOLS.parent
 CRATES = TOP / "crates"
-PROGRAM = CRATES / "wt_replay" / "out" / "wt_replay"
+# A release has the tools in share/rookdresser, and the program in bin.
+PROGRAM = CRATES / "wt_replay" / "out" / "wt_replay" if CRATES.exists() else TOP.parent.parent / "bin" / "wt_replay"
+VERSION_FILE = "crates/wt_replay/src/main.rt"
 
 
 def shown(path):
@@ -15,3 +18,8 @@ def shown(path):
 def not_built(path=PROGRAM, by="sh tools/replay --build"):
     """The sentence on a file that isn't built yet, and what builds it."""
     return "%s isn't built yet; `%s` builds it" % (shown(path), by)
+
+
+def version_of():
+    """The version, as the program says it."""
+    return re.search(r'^const VERSION: &str = "(.*)";$', (TOP / VERSION_FILE).read_text(), re.M).group(1)

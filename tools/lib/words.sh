@@ -36,6 +36,11 @@ program_options() {
     sed -n "s/^complete -c wt_replay -l \([a-z-]*\) .*-d '\(.*\)'\$/\1 \2/p" "$top/tools/completions/wt_replay.fish"
 }
 
+# The version, as the program says it.
+version() {
+    sed -n 's/^const VERSION: &str = "\(.*\)";$/\1/p' "$top/crates/wt_replay/src/main.rt"
+}
+
 # Answers --help and --version of the program, and refuses an option or a word that it doesn't know, before anything is built:
 # answer_at_once SCRIPT "$@"
 answer_at_once() {
@@ -49,7 +54,7 @@ answer_at_once() {
     fi
     for word in "$@"; do
         case $word in
-            --version | -V) sed -n 's/^const VERSION: &str = "\(.*\)";$/wt_replay \1/p' "$top/crates/wt_replay/src/main.rt"; exit 0 ;;
+            --version | -V) echo "wt_replay $(version)"; exit 0 ;;
             --*) program_options | cut -d ' ' -f 1 | grep -qxFe "$(echo "${word#--}" | cut -d = -f 1)" || refuse "$script" "there is no option $word" ;;
             '' | *[!0-9]*) refuse "$script" "'$word' is neither an option nor a whole number" ;;
         esac

@@ -1,0 +1,116 @@
+"""What goes into each file of a release: entries by their names, from what was built and what git holds of the checkout."""
+import re
+import subprocess
+from pathlib import Path
+
+from archives import Entry
+from places import TOOLS, TOP
+
+OWN = Path(__file__).resolve().parent / "release_files"
+PYTHON_TOOLS = ("hit_curve", "show_trace", "trace_convert", "trace_gen")
+SHARE = "share/rookdresser/"
+UNPROVED = b"This was built by tools/release --unproved: nothing of its program and libraries is proved or checked.\n"
+
+
+def tracked(*paths):
+    """The files below some paths that git holds, each with its name from the top."""
+    listed = subprocess.run(["git", "ls-files", "-z", "--", *paths], cwd=TOP, stdout=subprocess.PIPE, check=True).stdout
+    return sorted(name for name in listed.decode().split("\0") if name and (TOP / name).is_file())
+
+
+def entry(name):
+    path = TOP / name
+    return Entry(path.read_bytes(), runs=bool(path.stat().st_mode & 0o100))
+
+
+def parts_used(names):
+    """Of tools/lib, what some tools import, and what that imports."""
+    found, left = set(), [TOOLS / name for name in names]
+    while left:
+        for word in re.findall(r"^(?:from|import) (\w+)", left.pop().read_text(), re.M):
+            path = TOOLS / "lib" / (word + ".py")
+            if path.exists() and path not in found:
+                found.add(path)
+                left.append(path)
+    return sorted("tools/lib/" + path.name for path in found)
+
+
+def below(folder, names, cut=""):
+    """Files of the checkout in a folder of the archive, without the beginning of their names."""
+    return {folder + name.removeprefix(cut): entry(name) for name in names}
+
+
+def needs_of(needs):
+    return Entry(("glibc %s\nprocessor %s\nflags %s\n" % (needs["glibc"], needs["processor"], " ".join(needs["flags"]))).encode())
+
+
+def pkg_config(text):
+    """rookdresser.pc with folders for the header and the libraries."""
+    text = text.replace("prefix=${pcfiledir}", "prefix=${pcfiledir}/../..").replace("-I${prefix}", "-I${prefix}/include")
+    return Entry(text.replace("-L${prefix}", "-L${prefix}/lib").replace("rpath,${prefix}", "rpath,${prefix}/lib").encode())
+
+
+def for_system(built, needs):
+    """The program, the libraries for C, the tools that need Python alone, and the pages."""
+    library, soname = built.library, built.soname
+    tools = ["tools/" + name for name in PYTHON_TOOLS]
+    pages = tracked("README.md", "CHANGELOG.md", "CONTRIBUTING.md", "docs", "embed/*.md", "embed/c/*.h", ":!embed/c/keys.h", "traces",
+                    "tools/README.md", "bench/README.md")
+    entries = {
+        "INSTALL.md": entry("docs/INSTALL.md"),
+        "install": Entry((OWN / "install").read_bytes(), runs=True),
+        "bin/wt_replay": Entry(built.program.read_bytes(), runs=True),
+        "lib/librookdresser.a": Entry((library / "librookdresser.a").read_bytes()),
+        "lib/" + soname: Entry((library / soname).read_bytes(), runs=True),
+        "lib/librookdresser.so": Entry(link=soname),
+        "lib/pkgconfig/rookdresser.pc": pkg_config((library / "rookdresser.pc").read_text()),
+        "include/rookdresser.h": Entry((library / "rookdresser.h").read_bytes()),
+        "share/man/man1/wt_replay.1": entry("docs/wt_replay.1"),
+        "share/bash-completion/completions/wt_replay": entry("tools/completions/wt_replay.bash"),
+        "share/zsh/site-functions/_wt_replay": entry("tools/completions/_wt_replay"),
+        "share/fish/vendor_completions.d/wt_replay.fish": entry("tools/completions/wt_replay.fish"),
+        SHARE + "needs": needs_of(needs),
+        **{"bin/" + name: Entry(link="../%stools/%s" % (SHARE, name)) for name in PYTHON_TOOLS},
+        **below(SHARE, [*tools, *parts_used(PYTHON_TOOLS), *tracked("tools/lib/page", "tools/model"), *pages]),
+    }
+    return entries if built.is_proved else {**entries, SHARE + "UNPROVED": Entry(UNPROVED)}
+
+
+def for_python(built, needs, version):
+    """The package with the library in it, and what pip reads of it."""
+    said = dict(re.findall(r'^([\w-]+) = "(.*)"$', (TOP / "embed/python/pyproject.toml").read_text(), re.M))
+    info = "rookdresser-%s.dist-info/" % version
+    head = ("Metadata-Version: 2.1", "Name: rookdresser", "Version: " + version, "Summary: " + said["description"],
+            "Requires-Python: " + said["requires-python"], "Description-Content-Type: text/markdown", "")
+    about = "\n".join([*head, (TOP / "embed/python/README.md").read_text()])
+    tag = "Wheel-Version: 1.0\nGenerator: tools/release\nRoot-Is-Purelib: false\nTag: %s\n" % wheel_tag(needs)
+    entries = {
+        **below("rookdresser/", tracked("embed/python/rookdresser"), "embed/python/rookdresser/"),
+        "rookdresser/librookdresser.so": Entry((built.library / built.soname).read_bytes(), runs=True),
+        "rookdresser/needs": needs_of(needs),
+        info + "METADATA": Entry(about.encode()),
+        info + "WHEEL": Entry(tag.encode()),
+    }
+    return entries if built.is_proved else {**entries, "rookdresser/UNPROVED": Entry(UNPROVED)}
+
+
+def wheel_tag(needs):
+    return "py3-none-manylinux_%s_x86_64" % needs["glibc"].replace(".", "_")
+
+
+def for_language(built, language, folder):
+    """A wrapper with the static library and the header in one of its folders, and what callbacks may do."""
+    entries = {**below("", tracked("embed/" + language), "embed/%s/" % language), "CALLBACKS.md": entry("embed/CALLBACKS.md"),
+               **{folder + name: Entry((built.library / name).read_bytes()) for name in ("librookdresser.a", "rookdresser.h")}}
+    readme = entries["README.md"]
+    readme.data = readme.data.replace(b"](../CALLBACKS.md)", b"](CALLBACKS.md)")
+    return entries if built.is_proved else {**entries, "UNPROVED": Entry(UNPROVED)}
+
+
+def for_rust(built):
+    return for_language(built, "rust", "lib/")
+
+
+def for_go(built):
+    """The library lies beside the sources, since `go mod vendor` takes along no other folder."""
+    return {**for_language(built, "go", ""), "carried.go": Entry((OWN / "carried.go").read_bytes())}

@@ -1,0 +1,107 @@
+"""Runs of tools/release and its parts on small inputs, for tools/gate/check_tools."""
+import contextlib
+import io
+import sys
+import tempfile
+import zipfile
+from pathlib import Path
+
+import elf
+from archives import Entry, members, tar_gz, wheel
+from places import TOOLS
+from provenance import Gate, moment_told
+from release_compare import compare
+from tool_runs import check, refused
+
+RELEASE = [sys.executable, TOOLS / "release"]
+COMMIT, OTHER = "a" * 40, "b" * 40
+LOG = """tools/prove: at commit %s
+== wt_keys
+logic=proved functions=9 native=nat,char,string
+== wt_keys: its tests
+logic=proved tests functions=2 native=nat,char,string
+8 passed, 0 failed
+tools/prove: all checks have ended, and the gate says
+17 passed, 0 failed
+""" % COMMIT
+
+
+def check_gate():
+    rows = (
+        ("all passed", LOG, COMMIT, None),
+        ("of another commit", LOG, OTHER, "it is of commit %s" % COMMIT),
+        ("with changes", LOG.replace(COMMIT, COMMIT + "-dirty"), COMMIT, "it is of commit None"),
+        ("one failed", LOG.replace("17 passed, 0", "17 passed, 1"), COMMIT, "17 passed, 1 failed"),
+        ("cut off", LOG.split("tools/prove: all")[0], COMMIT, "to its end"),
+        ("a crate that isn't proved", LOG.replace("logic=proved functions", "logic=unproved functions"), COMMIT, "no verdict of wt_keys"),
+        ("a crate that isn't there", LOG.replace("== wt_keys", "== wt_core"), COMMIT, "no verdict of wt_keys"),
+    )
+    for title, text, commit, told in rows:
+        fault = Gate(text).fault(commit, ["wt_keys"])
+        check("release --gate: %s" % title, fault is None if told is None else fault is not None and told in fault)
+    page = "commit: %s\nverdict of wt_keys: logic=proved functions=9\ngate: 17 passed, 0 failed\n" % COMMIT
+    gate = Gate(page)
+    check("release reads the date of PROVENANCE.txt", moment_told("date: 2023-11-14 22:13:20 UTC\n") == 1_700_000_000)
+    check("release reads PROVENANCE.txt as a log", (gate.fault(COMMIT, ["wt_keys"]), gate.verdicts) == (None, {"wt_keys": "logic=proved functions=9"}))
+
+
+def check_archives():
+    one = {"b": Entry(b"2"), "a/x": Entry(b"1", runs=True), "c": Entry(link="b")}
+    other = dict(reversed(one.items()))
+    packed = tar_gz(one, "top", 1_700_000_000)
+    check("release: an archive goes by its names", packed == tar_gz(other, "top", 1_700_000_000))
+    wanted = {"top/a/x": (b"1", 0o755, ""), "top/b": (b"2", 0o644, ""), "top/c": (b"", 0o777, "b")}
+    check("release: an archive's modes and links", members(packed) == wanted)
+    made = wheel({"p/empty": Entry()}, "p", "1.0", 1_700_000_000)
+    with zipfile.ZipFile(io.BytesIO(made)) as archive:
+        record = archive.read("p-1.0.dist-info/RECORD")
+        dates = {item.date_time for item in archive.infolist()}
+    # The published SHA-256 of nothing, in the wheel's letters; the moment is 2023-11-14 22:13:20.
+    check("release: a wheel's RECORD", record == b"p/empty,sha256=47DEQpj8HBSa-_TImW-5JCeuQeRkm5NMpJWZG3hSuFU,0\np-1.0.dist-info/RECORD,,\n")
+    check("release: a wheel's dates", dates == {(2023, 11, 14, 22, 13, 20)})
+
+
+def check_compare():
+    """What `--verify` says of two builds, by the files in their archives."""
+    rows = (
+        ("the same", {"b": Entry(b"2")}, 0, "p.tar.gz: the same, sha256 "),
+        ("other bytes", {"b": Entry(b"3")}, 1, "top/b: its bytes differ"),
+        ("another mode", {"b": Entry(b"2", runs=True)}, 1, "top/b: its mode differs"),
+        ("a file more", {"b": Entry(b"2"), "c": Entry()}, 1, "top/c is only in the second"),
+    )
+    for title, entries, status, told in rows:
+        with tempfile.TemporaryDirectory() as name, contextlib.redirect_stdout(io.StringIO()) as said:
+            old, new = Path(name, "old"), Path(name, "new")
+            for folder, of, cc in ((old, {"b": Entry(b"2")}, "cc 1"), (new, entries, "cc 2")):
+                folder.mkdir()
+                (folder / "p.tar.gz").write_bytes(tar_gz(of, "top", 0))
+                (folder / "PROVENANCE.txt").write_text("made with: %s\n" % cc)
+            ended = compare(old / "p.tar.gz", new)
+        well = ended == status and told in said.getvalue() and ("made with: cc 1 there, and not here" in said.getvalue()) == bool(status)
+        check("release --verify: %s" % title, well)
+
+
+def check_machines():
+    rows = (("x86-64", {"mov", "tzcnt", "pmaxub", "movaps"}), ("x86-64-v2", {"mov", "pshufb"}), ("x86-64-v2", {"popcntq"}), ("x86-64-v2", {"pinsrq"}))
+    for wanted, instructions in rows:
+        check("release: %s has %s" % (wanted, min(instructions)), elf.level(instructions) == wanted)
+    for beyond in ("vmovaps", "shlx", "lzcnt"):
+        try:
+            elf.level({"mov", beyond})
+            check("release: x86-64-v2 hasn't %s" % beyond, False)
+        except ValueError as fault:
+            check("release: x86-64-v2 hasn't %s" % beyond, beyond in str(fault))
+
+
+def check_release():
+    check_gate()
+    check_archives()
+    check_compare()
+    check_machines()
+    refused("release without words", RELEASE, b"", 2, "--unproved")
+    for words in ("--unproved --gate x", "--gate x --program /bin/sh", "--unproved --library /", "--verify /no/such", "--verify /etc/passwd --unproved"):
+        refused("release %s" % words, [*RELEASE, *words.split()], b"", 2, "--help")
+    with tempfile.NamedTemporaryFile("w", suffix=".log") as log:
+        log.write(LOG.replace("17 passed, 0", "17 passed, 1"))
+        log.flush()
+        refused("release after a gate that failed", [*RELEASE, "--gate", log.name], b"", 1, "17 passed, 1 failed")
