@@ -1,5 +1,5 @@
-//! main CACHE KEYS ROUNDS THREADS: hits, puts and read-through of the keys in a file: a line for each, with the least nanoseconds an
-//! operation of some rounds, all threads together, and the misses of the read-through.
+//! main CACHE KEYS ROUNDS THREADS [WORK]: hits, puts and read-through of the keys in a file, or the one of them that is named: a line
+//! for each, with the least nanoseconds an operation of some rounds, all threads together, and the misses of the read-through.
 use rookdresser::{Found, Loading, Setup, Token, Tokens};
 use std::cell::RefCell;
 use std::sync::Mutex;
@@ -162,7 +162,7 @@ fn main() {
         }),
         ("read-through", |cache, key, now| cache.read_through(key, now)),
     ];
-    for (name, work) in works {
+    for (name, work) in works.into_iter().filter(|work| given.get(5).map_or(true, |only| only == work.0)) {
         let mut least = (f64::MAX, 0);
         for _ in 0..rounds {
             let cache = made(&given[1]);

@@ -29,7 +29,8 @@ impl<K: Hash + Eq + Clone, V> Cache<K, V> {
         Q: Hash + Eq + ?Sized,
     {
         let number = self.number(key);
-        let (found, left) = self.store.look(number, now)?;
+        let found = self.store.look(number, now)?;
+        let left = self.store.left();
         match found {
             Found::Hit(token) => Ok((Some(self.store.value(token)), left)),
             _ => Ok((None, left)),
@@ -39,7 +40,8 @@ impl<K: Hash + Eq + Clone, V> Cache<K, V> {
     /// Looks the key up, and joins or opens a load, with what left. Whoever leads the load calls `land` or `fail`.
     pub fn seek(&mut self, key: &K, now: u64) -> Result<(Found, Vec<Left<K, V>>), Fault> {
         let place = self.place(key);
-        self.store.seek(place, now).map(|((found, _), left)| (found, left))
+        let (found, _) = self.store.seek(place, now)?;
+        Ok((found, self.store.left()))
     }
 
     /// The value of a token that the cache holds.

@@ -28,10 +28,15 @@ impl<K, V> Listener<K, V> {
     }
 
     /// Tells what left and drops it. The first panic is passed on once all is told and dropped.
+    #[inline]
     pub(crate) fn release(&self, left: Vec<Gone<K, V>>) {
-        if left.is_empty() {
-            return;
+        if !left.is_empty() {
+            self.release_some(left);
         }
+    }
+
+    #[cold]
+    fn release_some(&self, left: Vec<Gone<K, V>>) {
         let told = self.tell(&left);
         let dropped = drop_each(left);
         match told.or(dropped) {

@@ -1,6 +1,6 @@
 //! What one lock of a [`Loading`](crate::Loading) guards.
 use crate::flight::Flight;
-use crate::store::{Returned, Store};
+use crate::store::Store;
 use crate::{Fault, Found, Left, Setup, Stats};
 use std::collections::HashMap;
 use std::sync::Arc;
@@ -19,16 +19,33 @@ impl<K, V, E> Shard<K, V, E> {
         Ok(Shard { store: Store::open(setup)?, flights: HashMap::new(), stats: Stats::default() })
     }
 
-    pub(crate) fn look(&mut self, number: u64, now: u64) -> Returned<Option<Arc<V>>, Arc<K>, Arc<V>> {
-        let (found, left) = self.store.look(number, now).map_err(|fault| self.stats.refuse(fault))?;
+    #[inline]
+    pub(crate) fn look(&mut self, number: u64, now: u64) -> Result<Option<Arc<V>>, Fault> {
+        match self.store.look(number, now) {
+            Ok(Found::Hit(token)) => {
+                self.stats.hits += 1;
+                Ok(Some(self.store.value(token).clone()))
+            }
+            Ok(_) => {
+                self.stats.misses += 1;
+                Ok(None)
+            }
+            Err(fault) => Err(self.stats.refuse(fault)),
+        }
+    }
+
+    /// Whether something left by the latest call.
+    #[inline]
+    pub(crate) fn has_left(&self) -> bool {
+        self.store.tokens.has_notices()
+    }
+
+    /// What left by the latest call, which wasn't refused.
+    #[inline]
+    pub(crate) fn left(&mut self) -> Vec<Gone<K, V>> {
+        let left = self.store.left();
         self.stats.tell(&left);
-        let value = match found {
-            Found::Hit(token) => Some(self.store.value(token).clone()),
-            _ => None,
-        };
-        self.stats.hits += u64::from(value.is_some());
-        self.stats.misses += u64::from(value.is_none());
-        Ok((value, left))
+        left
     }
 
     pub(crate) fn count(&mut self, left: Result<Vec<Gone<K, V>>, Fault>) -> Result<Vec<Gone<K, V>>, Fault> {

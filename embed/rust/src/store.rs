@@ -72,13 +72,14 @@ impl<K: Clone, V> Store<K, V> {
         self.kept.get(token.token)
     }
 
-    pub(crate) fn look(&mut self, number: u64, now: u64) -> Returned<Found, K, V> {
-        let found = self.tokens.look(number, now)?;
-        Ok((found, self.left()))
+    /// A look-up. What left by it is to be asked for.
+    #[inline]
+    pub(crate) fn look(&mut self, number: u64, now: u64) -> Result<Found, Fault> {
+        self.tokens.look(number, now)
     }
 
-    /// A seek; a load that this caller leads uses the key's number, which is returned.
-    pub(crate) fn seek(&mut self, place: Place<K>, now: u64) -> Returned<(Found, u64), K, V> {
+    /// A seek; a load that this caller leads uses the key's number, which is returned. What left by it is to be asked for.
+    pub(crate) fn seek(&mut self, place: Place<K>, now: u64) -> Result<(Found, u64), Fault> {
         let mut number = match place {
             Place::At(number) => number,
             Place::New(hash, _) => self.table.free(hash),
@@ -87,7 +88,7 @@ impl<K: Clone, V> Store<K, V> {
         if matches!(found, Found::Lead(_) | Found::HitLead(..)) {
             number = self.table.hold(place);
         }
-        Ok(((found, number), self.left()))
+        Ok((found, number))
     }
 
     /// A refused value is given back.
@@ -175,11 +176,18 @@ impl<K: Clone, V> Store<K, V> {
         (self.kept.slots.iter().flatten().count(), self.table.len())
     }
 
-    // What the latest call told to have left. A key that a load still uses is cloned.
-    fn left(&mut self) -> Vec<Left<K, V>> {
-        if !self.tokens.has_notices() {
-            return Vec::new();
+    /// What left by the latest call. A key that a load still uses is cloned.
+    #[inline]
+    pub(crate) fn left(&mut self) -> Vec<Left<K, V>> {
+        if self.tokens.has_notices() {
+            self.taken_out()
+        } else {
+            Vec::new()
         }
+    }
+
+    #[inline(never)]
+    fn taken_out(&mut self) -> Vec<Left<K, V>> {
         let notices: Vec<Notice<u64>> = self.tokens.notices().collect();
         notices
             .into_iter()
