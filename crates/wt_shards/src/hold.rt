@@ -3,10 +3,10 @@ use std::sync::atomic::{AtomicU64, Ordering};
 use std::sync::{Mutex, MutexGuard, Wait};
 
 // How often a caller that finds the lock held tries again before it sleeps (ours, as is the next).
-const TRIES: u32 = 16;
+const TRIES: u32 = 32;
 
-// The pause before a try doubles from one atomic step up to two to the power of this many. With 16
-// tries the pauses are 1,279 steps: under 10 microseconds if a step takes 7 nanoseconds.
+// The pause before a try doubles from one atomic step up to two to the power of this many. With 32
+// tries the pauses are 3,327 steps: some 20 microseconds if a step takes 6 nanoseconds.
 const LONGEST_PAUSE: u32 = 7;
 
 // Takes a shard's lock. A step under it takes less time than going to sleep and being woken, and
