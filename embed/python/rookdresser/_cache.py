@@ -261,10 +261,11 @@ class Cache(Table[K, V]):
             self._busy = False
         finally:
             self._give_back()
-        if not mine:
+        if mine:
+            if self._later:
+                self._catch_up()
+        elif left or self._later:
             self._tell(left)
-        elif self._later:
-            self._catch_up()
         return value, load
 
     def _make(self, key: K, load: Load[V], loader: Callable[[K], V]) -> V:
@@ -357,10 +358,13 @@ class Cache(Table[K, V]):
         if row is REENTERED:
             raise Reentered
         try:
-            self._call(self._library.look, row.number if row else self._free(hashed), now, left=left)
-            found = self._answer.kind == _library.HIT
-            value = self._values[self._answer.token] if found else None
+            answer = self._answer
+            self._check(self._library.look(self._handle, row.number if row else self._free(hashed), now, answer))
+            found = answer.kind == _library.HIT
+            value = self._values[answer.token] if found else None
             self._counts["hits" if found else "misses"] += 1
+            if answer.notices:
+                self._read_notices(left)
             self._busy = False
         finally:
             self._give_back()

@@ -75,19 +75,21 @@ class Library:
         path = os.path.join(folder or os.environ.get("ROOKDRESSER_LIB") or _carried.folder() or ".", "librookdresser.so")
         try:
             library = ctypes.CDLL(os.path.abspath(path))
+            # A call that takes less time than to give the interpreter's lock up and take it again keeps it.
+            short = ctypes.PyDLL(os.path.abspath(path))
         except OSError as error:
             raise OSError("there is no library at %s (%s): build it by `sh tools/embed FOLDER`, and name the FOLDER in "
                           "ROOKDRESSER_LIB or as Cache(.., library=FOLDER)" % (path, error)) from None
         handle, answer, setup = ctypes.POINTER(Handle), ctypes.POINTER(Answer), ctypes.POINTER(Setup)
 
-        def call(name: str, *arguments: Any) -> Callable[..., int]:
-            function = getattr(library, name)
+        def call(name: str, *arguments: Any, of: ctypes.CDLL = short) -> Callable[..., int]:
+            function = getattr(of, name)
             function.argtypes, function.restype = arguments, U64
             return function  # type: ignore[no-any-return]
 
         self.check = call("rd_check", setup)
-        self.open = call("rd_open", setup, handle)
-        self.close = call("rd_close", handle)
+        self.open = call("rd_open", setup, handle, of=library)
+        self.close = call("rd_close", handle, of=library)
         self.look = call("rd_look", handle, U64, U64, answer)
         self.seek = call("rd_seek", handle, U64, U64, answer)
         self.put = call("rd_put", handle, U64, Token, U64, answer)
@@ -96,7 +98,7 @@ class Library:
         self.land_failed = call("rd_land_failed", handle, U64, U64, U64, answer)
         self.drop = call("rd_drop_key", handle, U64, U64, answer)
         self.forget = call("rd_forget", handle, U64, U64, answer)
-        self.clear = call("rd_clear", handle, U64, answer)
-        self.clean = call("rd_clean", handle, U64, answer)
+        self.clear = call("rd_clear", handle, U64, answer, of=library)
+        self.clean = call("rd_clean", handle, U64, answer, of=library)
         self.get_notice = call("rd_get_notice", handle, U64, ctypes.POINTER(Notice))
         self.get_numbers = call("rd_get_numbers", handle, ctypes.POINTER(Numbers))
