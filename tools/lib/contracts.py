@@ -26,7 +26,7 @@ def owner_of(head):
             depth -= 1
         elif depth == 0:
             word += c
-    words = re.findall(r"\w+", word)
+    words = re.findall(r"\w+|\(\)", word)
     return words[words.index("for") + 1] if "for" in words else words[0]
 
 

@@ -10,6 +10,7 @@ mod job_line;
 mod line_pass;
 mod loader;
 mod loads;
+mod tally;
 mod workers;
 
 pub use cache::LoadingCache;
@@ -18,6 +19,7 @@ pub use hand::Hand;
 pub use job_line::{Back, JobLine, Posted};
 pub use line_pass::LinePass;
 pub use loader::Loader;
+pub use tally::{Countable, Tally};
 
 #[cfg(test)]
 mod tests;
