@@ -16,3 +16,4 @@ pub mod Places
 pub mod Stopped
 pub mod Others
 pub mod Histories
+pub mod Standings

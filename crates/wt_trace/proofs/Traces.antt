@@ -44,6 +44,26 @@ module _ {K : Type 0} (read : List ℕ → Option K) where
       ap (trace_from read n) (lines_of-first bytes some)
       ∙ (λ i. onto_trace (checked read n (sym front i)) (trace_from read (n + 1) (lines_of (sym back i))))
 
+  -- a good line before those behind it
+  pub trace_from-good : (n : ℕ) (bytes first rest : List ℕ) (line : Line K) → 0 < length bytes → first ≡ before_first is_end bytes → rest ≡ after_first is_end bytes → Ok line ≡ checked read n first
+      → (trace_from read n (lines_of bytes) ≡ onto_trace (Ok line) (trace_from read (n + 1) (lines_of rest))) × (n + 1 ≤ 1000001)
+  trace_from-good n bytes first rest line some front back good =
+      let more : Trace K = trace_from read (n + 1) (lines_of rest) in
+      let few = few_lines n first line good in
+      (trace_from-first n bytes first rest some front back ∙ ap (λ (c : Result (Line K) ReplayFault). onto_trace c more) (sym good), omega (arith, few))
+
+  -- a faulty line, behind which none is read
+  pub trace_from-faulty : (n : ℕ) (bytes first rest : List ℕ) (fault : ReplayFault) → 0 < length bytes → first ≡ before_first is_end bytes → rest ≡ after_first is_end bytes → Err fault ≡ checked read n first
+      → trace_from read n (lines_of bytes) ≡ record { lines = []; verdict = Err fault }
+  trace_from-faulty n bytes first rest fault some front back bad =
+      let more : Trace K = trace_from read (n + 1) (lines_of rest) in
+      trace_from-first n bytes first rest some front back ∙ ap (λ (c : Result (Line K) ReplayFault). onto_trace c more) (sym bad)
+
+  -- of nothing
+  pub trace_from-none : (n : ℕ) (bytes : List ℕ) → length bytes ≡ 0 → trace_from read n (lines_of bytes) ≡ record { lines = []; verdict = Ok tt }
+  trace_from-none n [] none = refl
+  trace_from-none n (b ∷ bs) none = absurd (omega arith)
+
   -- a good line more
   pub next_line : (n : ℕ) (bytes first rest : List ℕ) (line : Line K) (done all : List (Line K)) (verdict : Verdict) → 0 < length bytes
       → first ≡ before_first is_end bytes → rest ≡ after_first is_end bytes → Ok line ≡ checked read n first

@@ -34,13 +34,12 @@ pub record Shown (K : Type 0) : Type 0 where
   pub state : State K (Version K)
   pub text : List ℕ
 
--- a shard at work: its cache, what its latest call told, and the text so far
+-- a shard at work: its cache, and what its latest call told
 pub record Work (K : Type 0) : Type 0 where
   pub options : Options
   pub shard : ℕ
   pub state : State K (Version K)
   pub told : List (Notice K (Version K))
-  pub text : List ℕ
 
 module _ {K : Type 0} (keys : Keys K) where
   -- what a call makes of a state, for values of a trace

@@ -8,6 +8,7 @@ use Rattle.wt_trace.specs.Options.{option_fault}
 use Rattle.wt_trace.specs.Parts.{IsPart}
 use Rattle.wt_trace.specs.Replayed.{Rises, ShutsOnly, is_config_fault}
 use Rattle.wt_trace.specs.Report.{Report, IsReport}
+use Rattle.wt_trace.specs.Standing.{Standing, lines_by, standings_after}
 use Rattle.wt_trace.specs.Stops.{AllAsked, AreAsked, IsStop}
 use Rattle.wt_trace.specs.Tally.{Tally}
 use Rattle.wt_trace.specs.Trace.{Verdict, line_end, lines_of, read_end, trace_from}
@@ -38,14 +39,25 @@ pub record IsCut (first : ℕ) (all : List Answers) (count len : ℕ) : Type 0 w
 
 -- ---- what is promised
 
--- what a shard at work promises that shows something of a line
-pub record Adds {K E : Type 0} (shown : Shown K) (old new : Work K) (result : Result (Unit {0}) E) : Type 0 where
+-- what a shard at work promises that shows something of a line behind a text
+pub record Adds {K E : Type 0} (shown : Shown K) (old new : Work K) (before after : List ℕ) (result : Result (Unit {0}) E) : Type 0 where
   -- its cache is in the state that is shown
   pub state : OnOk result (new.state ≡ shown.state)
   -- the text that is shown stands behind the one that was there
-  pub text : OnOk result (new.text ≡ old.text ++ shown.text)
+  pub text : OnOk result (after ≡ before ++ shown.text)
   -- whatever is returned: its options and its number stay
   pub same : (new.options ≡ old.options) × (new.shard ≡ old.shard)
+
+-- what is promised of the report's lines of bytes, the first of which is line n, done by shards that stood so
+pub record AreShown {K : Type 0} (keys : Keys K) (n : ℕ) (bytes : List ℕ) (old new : List (Standing K)) (before after : List ℕ) (result : Result Verdict ReplayFault) : Type 0 where
+  -- they stand behind the text
+  pub text : OnOk result (after ≡ before ++ lines_by keys n (trace_from keys.read n (lines_of bytes)).lines old)
+  -- how the shards stand behind the last
+  pub standings : OnOk result (new ≡ standings_after keys n (trace_from keys.read n (lines_of bytes)).lines old)
+  -- the verdict is what is wrong with the line behind them
+  pub verdict : IfOk result (λ verdict. verdict ≡ (trace_from keys.read n (lines_of bytes)).verdict)
+  -- there is no memory
+  pub err : IfErr result (IsStop (λ _. ⊥))
 
 -- what is promised of the lines that are read of bytes, the first of which is line n
 pub record AreRead {K E : Type 0} (read : List ℕ → Option K) (n : ℕ) (bytes : List ℕ) (result : Result (Lines K) E) : Type 0 where

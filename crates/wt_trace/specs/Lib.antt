@@ -6,6 +6,7 @@ pub mod Line
 pub mod Trace
 pub mod Words
 pub mod Answers
+pub mod Standing
 pub mod Calls
 pub mod Pieces
 pub mod Report

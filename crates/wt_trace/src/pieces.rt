@@ -130,16 +130,6 @@ impl<'a, K> Model for Walk<'a, K> {
 }
 
 impl<'a, K> Walk<'a, K> {
-    /// Returns a walk over these lines.
-    pub fn over(lines: &'a [Line<K>]) -> Walk<'a, K>
-        ensures { result ≡ lines.now }
-    {
-        Walk {
-            piece: lines,
-            later: &[],
-        }
-    }
-
     /// Returns how many lines are left, for taking memory at once. No clause says so.
     pub fn room(&self) -> usize {
         let mut count = self.piece.len();

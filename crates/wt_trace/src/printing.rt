@@ -1,6 +1,6 @@
 // Lines of a report printed on threads: each prints a piece, and the pieces are put together in
 // their order.
-ghost use Rattle.std.specs.Prelude.{◌≡◌, ◌+◌, ◌<◌, ◌≤◌, ℕ, All, IfOk, Err, alloc_error, get_or, length, vec_len, map};
+ghost use Rattle.std.specs.Prelude.{◌≡◌, ◌++◌, ◌+◌, ◌<◌, ◌≤◌, ◌^◌, ℕ, All, IfOk, OnOk, Err, alloc_error, get_or, length, vec_len, map};
 ghost use Rattle.std.specs.List.{range_with_len};
 ghost use Rattle.wt_trace.specs.Answers.{answers};
 ghost use Rattle.wt_trace.specs.Contract.{IsCut, IsReadyOn};
@@ -10,10 +10,10 @@ ghost use Rattle.wt_trace.specs.Report as spec;
 ghost use Rattle.wt_trace.specs.Trace.{line_end};
 
 use crate::answers::Answers;
+use crate::digits::show_number;
 use crate::key::TraceKey;
 use crate::options::Options;
 use crate::pieces::Pieces;
-use crate::report::show_lines;
 use crate::summary::show_summary;
 use std::alloc::{AllocError, Global};
 use std::thread;
@@ -22,6 +22,40 @@ use wt_keys::NoMemory;
 
 // A summary has at most so many bytes: eight names and eight numbers of up to 20 digits.
 const MOST_SUMMARY: usize = 256;
+
+// Appends line i of the report: its number, and what each shard adds to it.
+#[tactic(auto, unfolding(crate::specs::Report::line_text))]
+fn show_line(out: &mut Vec<u8>, first: u64, all: &[Answers], i: usize) -> Result<(), AllocError>
+    requires whole { All (λ a. i < length a.texts) all.now }
+    requires fits { first + i < 2 ^ 64 }
+    ensures { OnOk result (out.new.items ≡ out.old.items ++ spec.line_text first all.now i) }
+{
+    show_number(out, first + i as u64)?;
+    for answers in all {
+        out.extend_from_slice(answers.text(i))?;
+    }
+    out.push(b'\n')?;
+    Ok(())
+}
+
+// Appends so many lines of the report from line i on.
+fn show_lines(
+    out: &mut Vec<u8>,
+    first: u64,
+    all: &[Answers],
+    from: usize,
+    len: usize,
+) -> Result<(), AllocError>
+    requires whole { All (λ a. from + len ≤ length a.texts) all.now }
+    requires fits { first + from + len < 2 ^ 64 }
+    ensures { OnOk result (out.new.items ≡ out.old.items
+        ++ spec.lines_text first all.now from len) }
+{
+    for i in 0..len {
+        show_line(out, first, all, from + i)?;
+    }
+    Ok(())
+}
 
 // Piece t, of at most so many lines.
 fn piece(
@@ -107,7 +141,8 @@ fn lines_on_threads<H: Threads + Sync>(
     Ok(out)
 }
 
-/// Returns the text of a report, as `text_of` does, with the lines printed on so many threads.
+/// Returns the report of lines, the first of which is line `first`, by what the shards answer to
+/// them, with the lines printed on so many threads.
 ///
 /// Takes memory for the text, and meanwhile for its pieces.
 #[tactic(auto, unfolding(crate::specs::Report::printed))]

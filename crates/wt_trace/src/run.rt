@@ -39,7 +39,7 @@ pub fn read_up_to<R: Read>(
     ensures failed { Rises reader.old.failures reader.new.failures result fault.ReadFault }
 {
     let mut bytes = Vec::new(alloc);
-    let mut part = [0u8; 16384];
+    let mut part = [0u8; 262144];
     while bytes.len() < most {
         let room = part.len().min(most - bytes.len());
         match reader.read(&mut part[..room]) {
@@ -83,7 +83,7 @@ pub fn write_out<W: Write>(writer: &mut Tallied<W>, bytes: &[u8]) -> Result<(), 
 /// `ReadFault`, exactly where the reader failed, and no memory (nothing was written); `WriteFault`,
 /// exactly where the writer failed or took nothing (a prefix of the report was written); then the
 /// fault of the first faulty line (the report of the lines before it was written). Takes memory for
-/// the bytes, the lines, what the shards answer and the report.
+/// the bytes, the shards and the report.
 pub fn replay<R: Read, W: Write>(
     alloc: Global,
     reader: &mut Tallied<R>,
@@ -108,8 +108,9 @@ pub fn replay<R: Read, W: Write>(
 ///
 /// A line that the gate doesn't let through ends the run with `GateShut` of such a line, after all
 /// threads have ended; nothing was written. Where several threads fail, that of the least shard
-/// tells its fault. Takes memory as `replay` does, and for the threads. It isn't promised that the
-/// threads run at the same time: where one can't be made, its lines are run after those of another.
+/// tells its fault. Takes memory as `replay` does, and for the lines, what the shards answer to them,
+/// and the threads. It isn't promised that the threads run at the same time: where one can't be made,
+/// its lines are run after those of another.
 pub fn replay_by_shard<H: Threads + Sync, R: Read, W: Write, G: Gate>(
     rt: &H,
     alloc: Global,

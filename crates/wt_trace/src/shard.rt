@@ -1,5 +1,5 @@
 // A shard at work on the lines of a trace.
-ghost use Rattle.std.specs.Prelude.{◌≡◌, OnOk, IfErr, length, None, true, false};
+ghost use Rattle.std.specs.Prelude.{◌≡◌, IfOk, OnOk, IfErr, length, None, true, false};
 ghost use Rattle.wt_trace.specs.Keys.{keys_by};
 ghost use Rattle.wt_trace.specs.Options.{option_fault};
 ghost use Rattle.wt_trace.specs.Answers as spec;
@@ -19,19 +19,18 @@ use crate::version::Version;
 use crate::words::{show, show_loaded, show_notices, show_reply, show_with};
 use std::alloc::Global;
 use std::marker::Model;
-use wt_core::{Call, Core, Notices, Reply};
-use wt_keys::{Fault, NoMemory, shard_of};
+use wt_core::{Call, Core, Notices, Reply, Stats};
+use wt_keys::{NoMemory, shard_of};
 
-// A shard with its cache, what its latest call told, and the text that its lines added so far.
+// A shard with its cache, and what its latest call told.
 #[derive(Drop)]
-struct Shard<K: TraceKey> {
+pub(crate) struct Shard<K: TraceKey> {
     options: Options,
     number: usize,
     core: Core<K, Version<K>>,
     told: Notices<K, Version<K>>,
     // What the landing tells that follows a seek on a line of letter G.
     later: Notices<K, Version<K>>,
-    text: Vec<u8>,
 }
 
 impl<K: TraceKey> Model for Shard<K> {
@@ -46,7 +45,6 @@ impl<K: TraceKey> Model for Shard<K> {
       shard = s.number;
       state = s.core;
       told = s.told.list;
-      text = s.text.items;
     } };
 
     ghost invariant = { λ s. (option_fault s.options ≡ None)
@@ -55,99 +53,152 @@ impl<K: TraceKey> Model for Shard<K> {
 }
 
 impl<K: TraceKey> Shard<K> {
+    ghost use Rattle.wt_core.specs.Lawful.{AreSmall};
+    ghost use Rattle.wt_core.specs.State.{opening, stats_of};
+    ghost use Rattle.wt_trace.specs.Options.{config_of};
+
+    // Makes a shard of this number with a new cache.
+    //
+    // Takes memory for the cache, and for two lists of notices with room for its entries.
+    pub(crate) fn new(alloc: Global, options: &Options, number: usize) -> Result<Shard<K>, NoMemory>
+        requires { option_fault options.now ≡ None }
+        ensures options { IfOk result (λ shard. shard.options ≡ options.now) }
+        ensures number { IfOk result (λ shard. shard.shard ≡ number) }
+        ensures state { IfOk result (λ shard. shard.state ≡ opening (config_of options.now)) }
+    {
+        let Ok(core) = Core::new(alloc, &options.config()) else {
+            return Err(NoMemory);
+        };
+        Ok(Shard {
+            options: *options,
+            number,
+            core,
+            told: Notices::new(alloc, options.entries as usize)?,
+            later: Notices::new(alloc, options.entries as usize)?,
+        })
+    }
+
+    // The numbers of the shard's cache.
+    pub(crate) fn stats(&self) -> Stats
+        ensures numbers { result ≡ stats_of self.now.state }
+        ensures small { AreSmall result }
+    {
+        self.core.stats()
+    }
+
     // Makes one call, and appends its words and its notices.
-    fn one_call(&mut self, call: Call<K, Version<K>>) -> Result<(), NoMemory>
+    fn one_call(&mut self, call: Call<K, Version<K>>, out: &mut Vec<u8>) -> Result<(), NoMemory>
         ensures { Adds (spec.one_call (keys_by K.eq K.word K.read K.shown) self.old.shard
-            self.old.state call) self.old self.new result }
+            self.old.state call) self.old self.new out.old.items out.new.items result }
     {
         self.told.empty();
         let reply = self.core.take(call, &mut self.told)?;
-        show_reply(&mut self.text, self.number, &reply)?;
-        show_notices(&mut self.text, self.told.list())?;
+        show_reply(out, self.number, &reply)?;
+        show_notices(out, self.told.list())?;
         Ok(())
     }
 
     // Lands a flight that a seek has just opened, and appends the words of the load and the notices
     // of both.
-    fn land_now(&mut self, id: u64, n: u64, key: K, moment: u64) -> Result<(), NoMemory>
+    fn land_now(
+        &mut self,
+        id: u64,
+        n: u64,
+        key: K,
+        moment: u64,
+        out: &mut Vec<u8>,
+    ) -> Result<(), NoMemory>
         ensures { Adds (spec.landed_by (keys_by K.eq K.word K.read K.shown) self.old id n key
-            moment) self.old self.new result }
+            moment) self.old self.new out.old.items out.new.items result }
     {
         self.later.empty();
         let call = Call::Land(id, key, load_by(&self.options, n, key), moment);
         let reply = self.core.take(call, &mut self.later)?;
-        show_loaded(&mut self.text, &reply)?;
-        show_notices(&mut self.text, self.told.list())?;
-        show_notices(&mut self.text, self.later.list())?;
+        show_loaded(out, &reply)?;
+        show_notices(out, self.told.list())?;
+        show_notices(out, self.later.list())?;
         Ok(())
     }
 
     // Does a line of letter G: a seek, and the landing of the flight that it opens.
-    fn fetch(&mut self, n: u64, key: K, moment: u64) -> Result<(), NoMemory>
+    fn fetch(&mut self, n: u64, key: K, moment: u64, out: &mut Vec<u8>) -> Result<(), NoMemory>
         ensures { Adds (spec.done_by (keys_by K.eq K.word K.read K.shown) self.old n moment
-            (act.Get key)) self.old self.new result }
+            (act.Get key)) self.old self.new out.old.items out.new.items result }
     {
         self.told.empty();
         let reply = self.core.take(Call::Seek(key, moment), &mut self.told)?;
         match &reply {
-            Reply::Lead(id) => self.land_now(*id, n, key, moment),
+            Reply::Lead(id) => self.land_now(*id, n, key, moment, out),
             Reply::HitLead(value, id) => {
-                show_with(&mut self.text, " hit ", value.line)?;
-                self.land_now(*id, n, key, moment)
+                show_with(out, " hit ", value.line)?;
+                self.land_now(*id, n, key, moment, out)
             }
             _ => {
-                show_reply(&mut self.text, 0, &reply)?;
-                show_notices(&mut self.text, self.told.list())?;
+                show_reply(out, 0, &reply)?;
+                show_notices(out, self.told.list())?;
                 Ok(())
             }
         }
     }
 
     // Does a line of letter E: the landing of the key's oldest open flight, if there is one.
-    fn land_oldest(&mut self, n: u64, key: K, moment: u64) -> Result<(), NoMemory>
+    fn land_oldest(
+        &mut self,
+        n: u64,
+        key: K,
+        moment: u64,
+        out: &mut Vec<u8>,
+    ) -> Result<(), NoMemory>
         ensures { Adds (spec.done_by (keys_by K.eq K.word K.read K.shown) self.old n moment
-            (act.Land key)) self.old self.new result }
+            (act.Land key)) self.old self.new out.old.items out.new.items result }
     {
         match self.core.first_of(key) {
             Some(id) => {
                 let call = Call::Land(id, key, load_by(&self.options, n, key), moment);
-                self.one_call(call)
+                self.one_call(call, out)
             }
             None => {
-                show(&mut self.text, " none")?;
+                show(out, " none")?;
                 Ok(())
             }
         }
     }
 
     // Does what line n asks for, and appends what the shard adds to it.
-    fn act(&mut self, n: u64, line: &Line<K>) -> Result<(), NoMemory>
+    fn act(&mut self, n: u64, line: &Line<K>, out: &mut Vec<u8>) -> Result<(), NoMemory>
         ensures { Adds (spec.done_by (keys_by K.eq K.word K.read K.shown) self.old n
-            line.now.moment line.now.act) self.old self.new result }
+            line.now.moment line.now.act) self.old self.new out.old.items out.new.items result }
     {
         let now = line.moment;
         match line.act {
-            Act::Look(key) => self.one_call(Call::Look(key, now)),
+            Act::Look(key) => self.one_call(Call::Look(key, now), out),
             Act::Put(key) => {
                 let value = version_by(&self.options, n, key);
-                self.one_call(Call::Put(key, value, now))
+                self.one_call(Call::Put(key, value, now), out)
             }
-            Act::Seek(key) => self.one_call(Call::Seek(key, now)),
-            Act::Get(key) => self.fetch(n, key, now),
-            Act::Land(key) => self.land_oldest(n, key, now),
-            Act::Drop(key) => self.one_call(Call::DropKey(key, now)),
-            Act::Forget(key) => self.one_call(Call::Forget(key, now)),
-            Act::Clean => self.one_call(Call::Clean(now)),
-            Act::Clear => self.one_call(Call::Clear(now)),
+            Act::Seek(key) => self.one_call(Call::Seek(key, now), out),
+            Act::Get(key) => self.fetch(n, key, now, out),
+            Act::Land(key) => self.land_oldest(n, key, now, out),
+            Act::Drop(key) => self.one_call(Call::DropKey(key, now), out),
+            Act::Forget(key) => self.one_call(Call::Forget(key, now), out),
+            Act::Clean => self.one_call(Call::Clean(now), out),
+            Act::Clear => self.one_call(Call::Clear(now), out),
         }
     }
 
     // Does line n, if it belongs to the shard and the gate lets it through, and appends what the
     // shard adds to it.
     #[tactic(auto, unfolding(crate::specs::Answers::line_step))]
-    fn do_line<G: Gate>(&mut self, gate: &G, n: u64, line: &Line<K>) -> Result<(), ReplayFault>
+    pub(crate) fn do_line<G: Gate>(
+        &mut self,
+        gate: &G,
+        n: u64,
+        line: &Line<K>,
+        out: &mut Vec<u8>,
+    ) -> Result<(), ReplayFault>
         ensures made { Adds (spec.line_step (keys_by K.eq K.word K.read K.shown) self.old.options
-            self.old.shard n line.now self.old.state) self.old self.new result }
+            self.old.shard n line.now self.old.state) self.old self.new out.old.items
+            out.new.items result }
         ensures asked { OnOk result (spec.belongs (keys_by K.eq K.word K.read K.shown)
             self.old.options self.old.shard line.now.act ≡ true → G.answers gate.now n true) }
         ensures err { IfErr result (IsStop (λ m. G.answers gate.now m false)) }
@@ -158,7 +209,7 @@ impl<K: TraceKey> Shard<K> {
         if !gate.pass(n) {
             return Err(ReplayFault::GateShut { n });
         }
-        self.act(n, line)?;
+        self.act(n, line, out)?;
         Ok(())
     }
 }
@@ -192,28 +243,19 @@ pub fn shard_answers<K: TraceKey, G: Gate>(
     ensures made { IsOfShard (keys_by K.eq K.word K.read K.shown) options.now (G.answers gate.now)
         first lines.entry number result }
 {
-    let Ok(core) = Core::new(alloc, &options.config()) else {
-        return Err(ReplayFault::Cache(Fault::NoMemory));
-    };
-    let mut shard = Shard {
-        options: *options,
-        number,
-        core,
-        told: Notices::new(alloc, options.entries as usize)?,
-        later: Notices::new(alloc, options.entries as usize)?,
-        text: Vec::new(alloc),
-    };
+    let mut shard = Shard::new(alloc, options, number)?;
+    let mut text = Vec::new(alloc);
     let mut ends = Vec::with_capacity(alloc, lines.room())?;
     let mut rest = lines;
     let mut n = first;
     while let Some(line) = rest.next() {
-        shard.do_line(gate, n, line)?;
-        ends.push(shard.text.len())?;
+        shard.do_line(gate, n, line, &mut text)?;
+        ends.push(text.len())?;
         n += 1;
     }
     Ok(Answers {
-        stats: shard.core.stats(),
-        text: shard.text,
+        stats: shard.stats(),
+        text,
         ends,
     })
 }

@@ -31,7 +31,7 @@ fn show_count(out: &mut Vec<u8>, label: &str, n: u64) -> Result<(), AllocError>
 }
 
 // Appends the summary's line of these numbers.
-fn show_numbers(out: &mut Vec<u8>, sum: &Stats) -> Result<(), AllocError>
+pub(crate) fn show_numbers(out: &mut Vec<u8>, sum: &Stats) -> Result<(), AllocError>
     ensures { OnOk result (out.new.items ≡ out.old.items ++ spec.summary_of sum.now) }
 {
     show_count(out, "lookups ", sum.lookups)?;

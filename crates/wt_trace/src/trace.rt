@@ -26,7 +26,7 @@ pub struct Lines<K> {
 
 // Line n, or what is wrong with it: too many lines, too long a line, no line, in this order.
 #[tactic(auto, unfolding(crate::specs::Trace::checked))]
-fn checked<K: TraceKey>(n: u64, bytes: &[u8]) -> Result<Line<K>, ReplayFault>
+pub(crate) fn checked<K: TraceKey>(n: u64, bytes: &[u8]) -> Result<Line<K>, ReplayFault>
     ensures { result ≡ spec.checked K.read n bytes.now }
 {
     if MOST_LINES < n {

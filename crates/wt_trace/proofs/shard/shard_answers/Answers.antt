@@ -1,6 +1,6 @@
 use Rattle.std.proofs.Common.{rules, true, ◌≡◌, ◌+◌, ◌++◌, ◌∙◌, [], ◌∷◌, ℕ, List, length, ap, sym, subst, arith, inl, refl}
 use Rattle.wt_core.specs.State.{opening, stats_of}
-use Rattle.wt_trace.specs.Answers.{Work, line_step, answers_from, belongs}
+use Rattle.wt_trace.specs.Answers.{line_step, answers_from, belongs}
 use Rattle.wt_trace.specs.declared.line.Line.{Line}
 use Rattle.wt_trace.specs.Keys.{keys_by}
 use Rattle.wt_trace.specs.Options.{config_of}
@@ -19,18 +19,19 @@ loop-line-preserved g c =
     let done = c.in_ok-do_line.ensures in
     let w = c.loop-line.shard in
     let t = c.do_line.new.self in
+    let before = c.loop-line.text.items in
+    let after = c.do_line.new.out.items in
     let state : t.state ≡ (line_step keys o c.args.number c.loop-line.n c.in-Some.line.now w.state).state = rw (inv.options, inv.number) at done.made.state in
-    let text : t.text ≡ w.text ++ (line_step keys o c.args.number c.loop-line.n c.in-Some.line.now w.state).text = rw (inv.options, inv.number) at done.made.text in
-    let far = more_line keys o c.args.number all w.text c.loop-line.ends.items c.loop-line.n c.in-Some.line.now c.loop-line.rest c.next.new.self
-    w.state t.state t.text c.in-Some.ensures state text inv.far in
-    let items : c.len.result ≡ length c.shard.inside.text.items = search rules in
-    let len : c.len.result ≡ length t.text = items ∙ ap (λ (x : Work g.row.K.Denot). length x.text) c.shard.view_is in
+    let text : after ≡ before ++ (line_step keys o c.args.number c.loop-line.n c.in-Some.line.now w.state).text = rw (inv.options, inv.number) at done.made.text in
+    let far = more_line keys o c.args.number all before c.loop-line.ends.items c.loop-line.n c.in-Some.line.now c.loop-line.rest c.next.new.self
+    w.state t.state after c.in-Some.ensures state text inv.far in
+    let len : c.len.result ≡ length after = search rules in
     let passed : ℕ → Type 0 = λ m. g.G.Gate.answers c.args.gate.now m true in
     let asked : belongs keys o c.args.number c.in-Some.line.now.act ≡ true → passed c.loop-line.n = rw (inv.options, inv.number) at done.asked in
     let left : length c.loop-line.rest ≡ length c.next.new.self + 1 = ap length c.in-Some.ensures ∙ omega arith in
     let ends = c.in_ok-push.ensures.items ∙ (λ i. c.loop-line.ends.items ++ len i ∷ []) in
     record {
-      far = subst (λ (es : List ℕ). IsSoFar keys o c.args.number all t.text es (c.loop-line.n + 1) c.next.new.self t.state) (sym ends) far;
+      far = subst (λ (es : List ℕ). IsSoFar keys o c.args.number all after es (c.loop-line.n + 1) c.next.new.self t.state) (sym ends) far;
       options = done.made.same.0 ∙ inv.options;
       number = done.made.same.1 ∙ inv.number;
       asked = λ more. inv.asked (subst (λ (ls : List (Line g.row.K.Denot)). AreAsked (belongs keys o c.args.number) passed c.loop-line.n ls) (sym c.in-Some.ensures) (asked, more));
@@ -43,16 +44,14 @@ returns g c =
     let inv = c.loop-line.invariant in
     let o = c.args.options.now in
     let w = c.loop-line.shard in
-    let i = c.shard-2.inside in
     let all = answers_from keys o c.args.number c.args.first c.args.lines (opening (config_of o)) in
-    let whole = no_line keys o c.args.number all w.text c.loop-line.ends.items c.loop-line.n c.loop-line.rest w.state (ap length c.in_default-next.ensures) inv.far in
-    let is : c.stats.result ≡ stats_of w.state = c.stats.ensures.numbers ∙ ap (λ (x : Work g.row.K.Denot). stats_of x.state) c.shard-2.view_is in
-    let text : i.text.items ≡ w.text = ap (λ (x : Work g.row.K.Denot). x.text) c.shard-2.view_is in
+    let whole = no_line keys o c.args.number all c.loop-line.text.items c.loop-line.ends.items c.loop-line.n c.loop-line.rest w.state (ap length c.in_default.ensures) inv.far in
+    let is : c.stats.result ≡ stats_of w.state = c.stats.ensures.numbers in
     let passed : ℕ → Type 0 = λ m. g.G.Gate.answers c.args.gate.now m true in
     record {
       made = record {
-        answers = (λ j. record { texts = pieces (text j) 0 c.loop-line.ends.items; stats = is j }) ∙ whole ∙ answers-all keys o c.args.first c.args.lines c.args.number;
-        asked = inv.asked (none_left (belongs keys o c.args.number) passed c.loop-line.n c.loop-line.rest (ap length c.in_default-next.ensures));
+        answers = (λ j. record { texts = pieces c.loop-line.text.items 0 c.loop-line.ends.items; stats = is j }) ∙ whole ∙ answers-all keys o c.args.first c.args.lines c.args.number;
+        asked = inv.asked (none_left (belongs keys o c.args.number) passed c.loop-line.n c.loop-line.rest (ap length c.in_default.ensures));
         err = tt;
       };
     }

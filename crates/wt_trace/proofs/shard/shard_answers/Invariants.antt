@@ -11,7 +11,7 @@ abbrev pub invariant-loop-line : goal.invariant-loop-line
 invariant-loop-line g l =
     let keys = keys_by g.K.PartialEq.eq g.K.CacheKey.word g.K.TraceKey.read g.K.TraceKey.shown in
     record {
-      far : IsSoFar keys l.options l.number (answers_from keys l.options l.number l.fn.first l.fn.lines (opening (config_of l.options))) l.shard.text l.ends.items l.n l.rest l.shard.state;
+      far : IsSoFar keys l.options l.number (answers_from keys l.options l.number l.fn.first l.fn.lines (opening (config_of l.options))) l.text.items l.ends.items l.n l.rest l.shard.state;
       options : l.shard.options ≡ l.options;
       number : l.shard.shard ≡ l.number;
       asked : AreAsked (belongs keys l.options l.number) (λ m. g.G.Gate.answers l.gate m true) l.n l.rest → AreAsked (belongs keys l.options l.number) (λ m. g.G.Gate.answers l.gate m true) l.fn.first l.fn.lines;

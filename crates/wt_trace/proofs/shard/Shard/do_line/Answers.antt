@@ -8,10 +8,11 @@ pub returns-then-not-belongs-clause-made : goal.returns-then-not-belongs-clause-
 returns-then-not-belongs-clause-made g c =
     let keys = keys_by g.K.PartialEq.eq g.K.CacheKey.word g.K.TraceKey.read g.K.TraceKey.shown in
     let w = c.args.self.now in
+    let before = c.args.out.now.items in
     let other : belongs keys w.options w.shard c.args.line.now.act ≡ false = search rules in
     let line = other_line keys w.options w.shard c.args.n c.args.line.now w.state other in
     record {
       state = sym (ap (λ (x : Shown g.row.K.Denot). x.state) line);
-      text = sym (ap (λ (x : Shown g.row.K.Denot). w.text ++ x.text) line ∙ append-nil w.text);
+      text = sym (ap (λ (x : Shown g.row.K.Denot). before ++ x.text) line ∙ append-nil before);
       same = (refl, refl);
     }

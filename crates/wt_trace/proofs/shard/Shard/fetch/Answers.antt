@@ -14,6 +14,7 @@ use Rattle.wt_trace.proofs.shard.Shard.fetch.Goals as goal
 pub returns-in_ok-show_notices-in_default : goal.returns-in_ok-show_notices-in_default
 returns-in_ok-show_notices-in_default g c =
     let i = c.self.inside in
+    let before = c.args.out.now.items in
     let keys = keys_by g.K.PartialEq.eq g.K.CacheKey.word g.K.TraceKey.read g.K.TraceKey.shown in
     let m : Made g.row.K.Denot (Version g.row.K.Denot) = take keys i.core (Seek c.args.key c.args.moment) in
     let is = fetched-otherwise keys i.options c.args.n c.args.moment c.args.key m.reply m
@@ -24,8 +25,8 @@ returns-in_ok-show_notices-in_default g c =
     rw (← c.self.view_is) (record {
       state = c.in_ok-reply.ensures.state ∙ ap (λ (s : Shown g.row.K.Denot). s.state) (sym is);
       text = c.in_ok-show_notices-in_default.ensures ∙ ap (λ xs. xs ++ told c.list.result.now) c.in_ok-show_reply-in_default.ensures
-          ∙ (λ j. (i.text.items ++ words_of 0 (reply j)) ++ told (left j))
-          ∙ append_assoc i.text.items (words_of 0 m.reply) (told m.notices)
-          ∙ ap (λ (s : Shown g.row.K.Denot). i.text.items ++ s.text) (sym is);
+          ∙ (λ j. (before ++ words_of 0 (reply j)) ++ told (left j))
+          ∙ append_assoc before (words_of 0 m.reply) (told m.notices)
+          ∙ ap (λ (s : Shown g.row.K.Denot). before ++ s.text) (sym is);
       same = (search, search);
     })

@@ -12,6 +12,7 @@ use Rattle.wt_trace.proofs.shard.Shard.one_call.Goals as goal
 pub returns : goal.returns
 returns g c =
     let i = c.self.inside in
+    let before = c.args.out.now.items in
     let keys = keys_by g.K.PartialEq.eq g.K.CacheKey.word g.K.TraceKey.read g.K.TraceKey.shown in
     let m : Made g.row.K.Denot (Version g.row.K.Denot) = take keys i.core c.args.call in
     let told : List (Notice g.row.K.Denot (Version g.row.K.Denot)) → List ℕ = flat_map (notice_text keys) in
@@ -20,7 +21,7 @@ returns g c =
     rw (← c.self.view_is) (record {
       state = c.in_ok-reply.ensures.state;
       text = c.in_ok-show_notices.ensures ∙ ap (λ xs. xs ++ told c.list.result.now) c.in_ok-show_reply.ensures
-          ∙ (λ j. (i.text.items ++ words_of i.number (reply j)) ++ told (left j))
-          ∙ append_assoc i.text.items (words_of i.number m.reply) (told m.notices);
+          ∙ (λ j. (before ++ words_of i.number (reply j)) ++ told (left j))
+          ∙ append_assoc before (words_of i.number m.reply) (told m.notices);
       same = (search, search);
     })
