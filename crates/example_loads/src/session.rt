@@ -11,7 +11,7 @@ use std::sync::atomic::Ordering;
 use std::sync::{Arc, Wait};
 use std::thread;
 use std::thread::Threads;
-use wt_cache::LoadingCache;
+use wt_cache::{Callers, LoadingCache};
 use wt_core::Config;
 use wt_keys::Fault;
 use wt_shards::{Blanks, Names, Of, Shards};
@@ -43,18 +43,14 @@ pub fn session<N: Names + Send + Sync, R: Threads + Wait + Sync>(
         marks: Arc::try_clone(&marks)?,
     };
     let marks: &Marks = &marks;
-    let cache: Pages<N> = LoadingCache::new(shards, source, None);
-    let pages = &cache;
+    let callers: Pages<N> = Callers::new(alloc, LoadingCache::new(shards, source, None));
+    let pages = &callers;
     let answers = ask_eight(rt, alloc, pages, marks)?;
     let eight = (answers, marks.loads.load(Ordering::SeqCst));
-    let (loaded, put) = thread::join(
-        rt,
-        || ask(rt, alloc, pages, 8),
-        || put_later(rt, alloc, pages, marks, 2),
-    );
+    let (loaded, put) = thread::join(rt, || ask(rt, pages, 8), || put_later(rt, pages, marks, 2));
     put?;
-    let beside = (loaded?, ask(rt, alloc, pages, 8)?);
-    let failed = ask(rt, alloc, pages, 404);
+    let beside = (loaded?, ask(rt, pages, 8)?);
+    let failed = ask(rt, pages, 404);
     Ok(Seen {
         eight,
         beside,

@@ -2,23 +2,31 @@
 #![tactic(auto)]
 
 mod cache;
+mod caller;
+mod callers;
 mod calls;
 mod get;
 mod got;
 mod hand;
 mod job_line;
+mod keyed;
 mod line_pass;
 mod loader;
 mod loads;
+mod service;
 mod tally;
 mod workers;
 
 pub use cache::LoadingCache;
+pub use caller::Caller;
+pub use callers::Callers;
 pub use got::{Got, How, WorkerReport};
 pub use hand::Hand;
 pub use job_line::{Back, JobLine, Posted};
+pub use keyed::Keyed;
 pub use line_pass::LinePass;
 pub use loader::Loader;
+pub use service::{Service, serve};
 pub use tally::{Countable, Tally};
 
 #[cfg(test)]

@@ -12,3 +12,10 @@ pub trait Loader<K, V: Answers<K>>: Sync {
     fn load(&self, key: &K) -> Result<V, u32>
         ensures { IfOk result (λ value. IsTrue (V.answers value key.now)) };
 }
+
+/// A cache may borrow its loader.
+impl<K, V: Answers<K>, L: Loader<K, V>> Loader<K, V> for &L {
+    fn load(&self, key: &K) -> Result<V, u32> {
+        (**self).load(key)
+    }
+}

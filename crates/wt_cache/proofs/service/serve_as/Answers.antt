@@ -1,0 +1,14 @@
+use Rattle.std.proofs.Common.{Ok, Err, refl}
+use Rattle.wt_keys.specs.declared.fault.Fault.TheVariants as fault
+use Rattle.wt_shards.specs.Opening.{layout_fault}
+use Rattle.wt_cache.proofs.Refusals.{passed-on, accepted}
+use Rattle.wt_cache.proofs.service.serve_as.Goals as goal
+
+pub returns-in-Ok-serve_over-clause-refusal : goal.returns-in-Ok-serve_over-clause-refusal
+returns-in-Ok-serve_over-clause-refusal g c = accepted _ _ (layout_fault c.args.shards c.args.config.now) c.in-Ok.made (Ok c.in-Ok-serve_over.answers) c.in-Ok.ensures.refusal tt
+
+pub returns-in-Err-serve_over-clause-refusal : goal.returns-in-Err-serve_over-clause-refusal
+returns-in-Err-serve_over-clause-refusal g c = accepted _ _ (layout_fault c.args.shards c.args.config.now) c.in-Ok.made (Err fault.NoMemory) c.in-Ok.ensures.refusal refl
+
+pub returns-in-Err-clause-refusal : goal.returns-in-Err-clause-refusal
+returns-in-Err-clause-refusal g c = passed-on _ _ (layout_fault c.args.shards c.args.config.now) c.in-Err.fault c.in-Err.ensures.refusal

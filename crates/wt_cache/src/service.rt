@@ -1,0 +1,132 @@
+// One call that makes a cache, and runs threads over it.
+ghost use Rattle.std.specs.Prelude.{◌≡◌, ◌<◌, ℕ, Err, IfOk, IsOkUnless, MatchOption, slice_index_or, vec_len};
+ghost use Rattle.wt_keys.specs.declared.fault.Fault.TheVariants as fault;
+ghost use Rattle.wt_shards.specs.Opening.{AreBlanksOf, layout_fault};
+
+use crate::cache::LoadingCache;
+use crate::caller::Caller;
+use crate::callers::Callers;
+use crate::loader::Loader;
+use std::alloc::Global;
+use std::marker::Brand;
+use std::sync::Wait;
+use std::thread;
+use std::thread::Threads;
+use wt_core::{Config, Weighs};
+use wt_keys::{Answers, CacheKey, Fault, NoMemory, Share};
+use wt_shards::{Blanks, Books, Names, Of, Shards};
+
+/// A source of values, and what each thread does with a cache before it.
+pub trait Service<K: CacheKey, V: Share + Weighs + Answers<K> + Send + Sync>: Loader<K, V> {
+    /// What a thread returns.
+    type Answer: Send + Drop;
+
+    /// Does the work of one thread, by its number from 0. What it returns, `serve` returns for it.
+    ///
+    /// It is called in each thread at once. Not promised: that it returns.
+    fn work<B: Books, R: Wait>(
+        &self,
+        thread: usize,
+        caller: &mut Caller<K, V, &Self, B, R>,
+    ) -> Result<Self::Answer, Fault>;
+}
+
+/// Makes a cache of `shards` shards before the service, 1, 2 or 4 of them, each for this
+/// configuration, runs `threads` threads over it, and returns what each of them returned.
+///
+/// `BadConfig` of the number of shards first, then as `Config::check` returns it, before memory is
+/// asked for. Where a thread gets no caller, its own answer is the fault, as `Callers::lend` returns
+/// it. Where no thread can be made, the work is done one after another. Takes memory as
+/// `Shards::new` does, and for the answers. Not promised: that it returns.
+pub fn serve<
+    K: CacheKey,
+    V: Share + Weighs + Answers<K> + Send + Sync,
+    S: Service<K, V>,
+    R: Threads + Wait + Sync,
+>(
+    rt: &R,
+    alloc: Global,
+    config: &Config,
+    shards: usize,
+    threads: usize,
+    service: &S,
+) -> Result<Vec<Result<S::Answer, Fault>>, Fault>
+    ensures len { IfOk result (λ answers. vec_len answers ≡ threads) }
+    ensures refusal { MatchOption (layout_fault shards config.now)
+        (IsOkUnless result fault.NoMemory) (λ field. result ≡ Err (fault.BadConfig field)) }
+{
+    serve_as::<K, V, S, Brand, R>(rt, alloc, Blanks::new(), config, shards, threads, service)
+}
+
+// The same, over books of these names.
+fn serve_as<
+    K: CacheKey,
+    V: Share + Weighs + Answers<K> + Send + Sync,
+    S: Service<K, V>,
+    N: Names + Send + Sync,
+    R: Threads + Wait + Sync,
+>(
+    rt: &R,
+    alloc: Global,
+    blanks: Blanks,
+    config: &Config,
+    shards: usize,
+    threads: usize,
+    service: &S,
+) -> Result<Vec<Result<S::Answer, Fault>>, Fault>
+    requires layout { N.layout ≡ record { shards = shards; config = config.now } }
+    requires blanks { AreBlanksOf N.name blanks }
+    ensures len { IfOk result (λ answers. vec_len answers ≡ threads) }
+    ensures refusal { MatchOption (layout_fault shards config.now)
+        (IsOkUnless result fault.NoMemory) (λ field. result ≡ Err (fault.BadConfig field)) }
+{
+    match Shards::<K, V, Of<N>>::new(rt, alloc, blanks, config, shards) {
+        Ok(made) => match serve_over(rt, alloc, made, threads, service) {
+            Ok(answers) => Ok(answers),
+            Err(_refused) => Err(Fault::NoMemory),
+        },
+        Err(fault) => Err(fault),
+    }
+}
+
+// The same, over these shards.
+fn serve_over<
+    K: CacheKey,
+    V: Share + Weighs + Answers<K> + Send + Sync,
+    S: Service<K, V>,
+    N: Names + Send + Sync,
+    R: Threads + Wait + Sync,
+>(
+    rt: &R,
+    alloc: Global,
+    shards: Shards<K, V, Of<N>>,
+    threads: usize,
+    service: &S,
+) -> Result<Vec<Result<S::Answer, Fault>>, NoMemory>
+    ensures { IfOk result (λ answers. vec_len answers ≡ threads) }
+{
+    let cache: LoadingCache<K, V, &S, Of<N>> = LoadingCache::new(shards, service, None);
+    let callers = Callers::new(alloc, cache);
+    let shared = &callers;
+    let answers = thread::map_indices(
+        rt,
+        alloc,
+        threads,
+        &|thread: usize| -> Result<S::Answer, Fault> { work_at(rt, shared, service, thread) },
+    )?;
+    Ok(answers)
+}
+
+// The work of one thread, through a caller that is lent for it.
+fn work_at<
+    K: CacheKey,
+    V: Share + Weighs + Answers<K> + Send + Sync,
+    S: Service<K, V>,
+    B: Books,
+    R: Wait,
+>(rt: &R, callers: &Callers<K, V, &S, B>, service: &S, thread: usize) -> Result<S::Answer, Fault> {
+    let mut caller = callers.lend(rt)?;
+    let answer = service.work(thread, &mut caller);
+    caller.give_back();
+    answer
+}

@@ -1,0 +1,304 @@
+// Callers that are lent: more of them in a row than there are passes, what comes back, and that all
+// their passes settle. On one shard and on four.
+ghost use Rattle.std.specs.Prelude.{◌≡◌};
+ghost use Rattle.wt_shards.specs.Opening.{AreBlanksOf};
+
+use crate::tests::stage::{Plain, Rules, Version, Way, config, new_marks};
+use std::alloc::Global;
+use std::marker::Brand;
+use std::process::Abort;
+use std::sync::Wait;
+use std::test::Fail;
+use std::thread;
+use std::thread::Threads;
+use wt_cache::{Caller, Callers, How, LoadingCache};
+use wt_core::{Cause, Config, Notices, Reply};
+use wt_keys::Fault;
+use wt_shards::{Blanks, Names, Of, Shards};
+
+// A cache of versions that lends callers.
+type Lender<N> = Callers<u64, Version, Rules, Of<N>>;
+
+// A caller of it.
+type Lent<'c, N, R> = Caller<'c, u64, Version, Rules, Of<N>, R>;
+
+// What is done with the callers.
+#[derive(Clone, Copy, Debug, PartialEq, Eq)]
+enum Play {
+    InARow,
+    AtOnce,
+    Calls,
+    Beside,
+    Refused,
+}
+
+// What a cache ended with: its passes, and the steps and hits of the settled books.
+type Ended = (usize, u64, u64);
+
+// Gets a key by a caller that is lent for it: the line of the version.
+fn ask<N: Names, R: Wait>(rt: &R, callers: &Lender<N>, key: u64) -> Result<u64, Fault> {
+    let mut caller = callers.lend(rt)?;
+    let got = caller.get(key, 0);
+    caller.give_back();
+    Ok(got?.value.line)
+}
+
+// Lends a caller 70,000 times, each for one get of key 1.
+fn in_a_row<N: Names, R: Wait + Abort>(rt: &R, callers: &Lender<N>) -> Result<(), Fault> {
+    for _ in 0..70_000u64 {
+        assert_eq!(rt; ask(rt, callers, 1)?, 0);
+    }
+    Ok(())
+}
+
+// Whether no caller is lent any more.
+fn spent<N: Names, R: Wait>(rt: &R, callers: &Lender<N>) -> bool {
+    match callers.lend(rt) {
+        Ok(caller) => {
+            caller.give_back();
+            false
+        }
+        Err(fault) => fault == Fault::PassesSpent,
+    }
+}
+
+// Takes all passes but one by hand. While the last one is lent there is no caller.
+fn at_once<N: Names, R: Wait + Abort>(
+    rt: &R,
+    alloc: Global,
+    callers: &Lender<N>,
+) -> Result<(), Fault> {
+    for _ in 0..65_534u64 {
+        let _pass = callers.cache().pass(rt, alloc)?;
+    }
+    let caller = callers.lend(rt)?;
+    let none = spent(rt, callers);
+    caller.give_back();
+    assert!(rt; none);
+    assert!(rt; !spent(rt, callers));
+    Ok(())
+}
+
+// The one entry that left in a caller's latest call, if it was one.
+fn left_of<N: Names, R: Wait>(caller: &Lent<'_, N, R>) -> Option<(u64, u64, Cause)> {
+    match caller.left() {
+        [one] => Some((one.key, one.value.line, one.cause)),
+        _ => None,
+    }
+}
+
+// Each call on a key, and what left in it.
+fn uses<N: Names, R: Wait + Abort>(rt: &R, caller: &mut Lent<'_, N, R>) -> Result<(), Fault> {
+    caller.put(1, Version { key: 1, line: 5 }, 0)?;
+    assert_eq!(rt; caller.left().len(), 0);
+    caller.put(1, Version { key: 1, line: 6 }, 0)?;
+    assert_eq!(rt; left_of(caller), Some((1, 5, Cause::Replaced)));
+    let got = caller.get(1, 0)?;
+    assert_eq!(rt; (got.how, got.value.line), (How::Hit, 6));
+    assert_eq!(rt; caller.left().len(), 0);
+    assert!(rt; matches!(caller.get_if_present(2, 0)?.reply, Reply::Absent));
+    assert_eq!(rt; caller.get(2, 0)?.how, How::Loaded);
+    assert!(rt; !caller.forget(2, 0)?.reply);
+    assert!(rt; caller.invalidate(1, 0)?.reply);
+    assert_eq!(rt; left_of(caller), Some((1, 6, Cause::Explicit)));
+    Ok(())
+}
+
+// Two sweeps, by a caller whose pass and list another one had: how many entries leave.
+fn sweeps<N: Names, R: Wait>(
+    alloc: Global,
+    caller: &mut Lent<'_, N, R>,
+) -> Result<[usize; 3], Fault> {
+    let before = caller.left().len();
+    let shards = caller.cache().shards();
+    if shards > 4 {
+        return Err(Fault::Mixed);
+    }
+    let mut notices = Notices::new(alloc, shards * caller.cache().entries() as usize)?;
+    caller.clean_up(0, &mut notices)?;
+    let cleaned = notices.list().len();
+    notices.empty();
+    caller.invalidate_all(0, &mut notices)?;
+    Ok([before, cleaned, notices.list().len()])
+}
+
+// Each call of a caller.
+fn calls<N: Names, R: Wait + Abort>(
+    rt: &R,
+    alloc: Global,
+    callers: &Lender<N>,
+) -> Result<(), Fault> {
+    let mut caller = callers.lend(rt)?;
+    let used = uses(rt, &mut caller);
+    caller.give_back();
+    used?;
+    let mut caller = callers.lend(rt)?;
+    let swept = sweeps(alloc, &mut caller);
+    caller.give_back();
+    assert_eq!(rt; swept?, [0, 0, 1]);
+    Ok(())
+}
+
+// Gets 1,000 values, each by a caller of its own.
+fn asks<N: Names, R: Wait>(rt: &R, callers: &Lender<N>) -> Result<(), Fault> {
+    for round in 0..1000u64 {
+        ask(rt, callers, round % 4)?;
+    }
+    Ok(())
+}
+
+// Four threads get beside each other.
+fn beside<N: Names + Send + Sync, R: Threads + Wait + Sync>(
+    rt: &R,
+    alloc: Global,
+    callers: &Lender<N>,
+) -> Result<(), Fault> {
+    let asked = thread::map_indices(
+        rt,
+        alloc,
+        4,
+        &|_thread: usize| -> Result<(), Fault> { asks(rt, callers) },
+    )?;
+    for done in asked {
+        done?;
+    }
+    Ok(())
+}
+
+// Lends a caller, a second time where memory was refused.
+fn insist<'c, N: Names, R: Wait>(
+    rt: &'c R,
+    callers: &'c Lender<N>,
+) -> Result<Lent<'c, N, R>, Fault> {
+    match callers.lend(rt) {
+        Err(Fault::NoMemory) => callers.lend(rt),
+        lent => lent,
+    }
+}
+
+// Lends two callers at once, whichever allocation is refused.
+fn refused<N: Names, R: Wait>(rt: &R, callers: &Lender<N>) -> Result<(), Fault> {
+    let one = insist(rt, callers)?;
+    let other = insist(rt, callers);
+    one.give_back();
+    other?.give_back();
+    Ok(())
+}
+
+// Ends a cache: all passes that were ever lent settle.
+fn ended<N: Names, R: Wait>(
+    rt: &R,
+    alloc: Global,
+    callers: Lender<N>,
+    count: usize,
+) -> Result<Ended, Fault> {
+    let (shards, passes) = callers.finish();
+    let made = passes.len();
+    let totals = shards.settle(rt, alloc, passes)?;
+    let mut steps = 0u64;
+    let mut hits = 0u64;
+    for shard in 0..count {
+        if let Some(total) = totals.of(shard) {
+            steps = steps.wrapping_add(total.steps);
+            hits = hits.wrapping_add(total.hits);
+        }
+    }
+    Ok((made, steps, hits))
+}
+
+// Plays on a cache of so many shards.
+fn played<N: Names + Send + Sync, R: Threads + Wait + Abort + Sync>(
+    rt: &R,
+    alloc: Global,
+    blanks: Blanks,
+    config: &Config,
+    count: usize,
+    play: Play,
+) -> Result<Ended, Fault>
+    requires layout { N.layout ≡ record { shards = count; config = config.now } }
+    requires blanks { AreBlanksOf N.name blanks }
+{
+    let shards: Plain<N> = Shards::new(rt, alloc, blanks, config, count)?;
+    let marks = new_marks(alloc)?;
+    let way = Way::Plain;
+    let callers: Lender<N> = Callers::new(
+        alloc,
+        LoadingCache::new(shards, Rules { way, marks }, None),
+    );
+    match play {
+        Play::InARow => in_a_row(rt, &callers)?,
+        Play::AtOnce => at_once(rt, alloc, &callers)?,
+        Play::Calls => calls(rt, alloc, &callers)?,
+        Play::Beside => beside(rt, alloc, &callers)?,
+        Play::Refused => refused(rt, &callers)?,
+    }
+    ended(rt, alloc, callers, count)
+}
+
+// The one place that names the ledgers of these caches.
+fn plays_at<R: Threads + Wait + Abort + Sync>(
+    rt: &R,
+    alloc: Global,
+    config: &Config,
+    count: usize,
+    play: Play,
+) -> Result<Ended, Fault> {
+    played::<Brand, R>(rt, alloc, Blanks::new(), config, count, play)
+}
+
+// Plays on one shard and on four: what both ended with.
+fn plays<R: Threads + Wait + Abort + Sync>(
+    rt: &R,
+    alloc: Global,
+    play: Play,
+) -> Result<[Ended; 2], Fault> {
+    let config = config(4, 8, None);
+    Ok([
+        plays_at(rt, alloc, &config, 1, play)?,
+        plays_at(rt, alloc, &config, 4, play)?,
+    ])
+}
+
+// The first get makes a seek and a landing, each other one a hit.
+#[test]
+fn more_callers_are_lent_in_a_row_than_there_are_passes(rt: HostRuntime) -> Result<(), Fail> {
+    let ends = plays(&rt, rt.alloc(), Play::InARow)?;
+    assert_eq!(rt; ends, [(1, 70_001, 69_999), (1, 70_001, 69_999)]);
+    Ok(())
+}
+
+#[test]
+fn callers_are_refused_while_all_passes_are_lent(rt: HostRuntime) -> Result<(), Fail> {
+    let ends = plays(&rt, rt.alloc(), Play::AtOnce)?;
+    assert_eq!(rt; ends, [(1, 0, 0), (1, 0, 0)]);
+    Ok(())
+}
+
+// Two puts, a hit, a miss, a load of two steps, a forget and a removal; each sweep is a step at
+// each shard.
+#[test]
+fn a_caller_makes_each_call(rt: HostRuntime) -> Result<(), Fail> {
+    let ends = plays(&rt, rt.alloc(), Play::Calls)?;
+    assert_eq!(rt; ends, [(1, 10, 1), (1, 16, 1)]);
+    Ok(())
+}
+
+#[test]
+fn callers_of_many_threads_settle(rt: HostRuntime) -> Result<(), Fail> {
+    for (passes, steps, hits) in plays(&rt, rt.alloc(), Play::Beside)? {
+        assert!(rt; 1 <= passes && passes <= 4);
+        assert!(rt; 4000 <= steps && hits < 4000);
+    }
+    Ok(())
+}
+
+#[test]
+fn a_lend_that_is_refused_memory_loses_no_pass(rt: HostRuntime) -> Result<(), Fail> {
+    let config = config(4, 8, None);
+    let mut ends = plays_at(&rt, rt.alloc(), &config, 1, Play::Refused);
+    if ends == Err(Fault::NoMemory) {
+        ends = plays_at(&rt, rt.alloc(), &config, 1, Play::Refused);
+    }
+    assert_eq!(rt; ends, Ok((2, 0, 0)));
+    Ok(())
+}

@@ -1,0 +1,112 @@
+// A service: what its threads return, and which settings are refused.
+use std::alloc::Global;
+use std::sync::Wait;
+use std::sync::atomic::{AtomicU64, Ordering};
+use std::test::Fail;
+use std::thread::Threads;
+use wt_cache::{Caller, How, Keyed, Loader, Service, serve};
+use wt_core::{Config, Weighs};
+use wt_keys::{Answers, Fault, Field, Share};
+use wt_shards::Books;
+
+// A number that knows its key.
+type Number = Keyed<u64, u64>;
+
+// A source of tenfold numbers, which has none for the key 2, and counts its loads.
+#[derive(Drop)]
+struct Tens {
+    loads: AtomicU64,
+}
+
+impl Tens {
+    fn new() -> Tens {
+        Tens {
+            loads: AtomicU64::new(0),
+        }
+    }
+}
+
+impl Loader<u64, Number> for Tens {
+    fn load(&self, key: &u64) -> Result<Number, u32> {
+        let key = *key;
+        self.loads.fetch_add(1, Ordering::SeqCst);
+        if key == 2 {
+            return Err(404);
+        }
+        let value = key.wrapping_mul(10);
+        Ok(Keyed { key, value })
+    }
+}
+
+impl Service<u64, Number> for Tens {
+    type Answer = (u64, How);
+
+    // Gets its own number, and once more.
+    fn work<B: Books, R: Wait>(
+        &self,
+        thread: usize,
+        caller: &mut Caller<u64, Number, &Tens, B, R>,
+    ) -> Result<(u64, How), Fault> {
+        let key = thread as u64;
+        caller.get(key, 0)?;
+        let got = caller.get(key, 0)?;
+        Ok((got.value.value, got.how))
+    }
+}
+
+// What the threads returned.
+type Returned = Vec<Result<(u64, How), Fault>>;
+
+// Serves so many threads from so many shards of 8 entries.
+fn served<R: Threads + Wait + Sync>(
+    rt: &R,
+    alloc: Global,
+    entries: u32,
+    shards: usize,
+    threads: usize,
+    tens: &Tens,
+) -> Result<Returned, Fault> {
+    serve(rt, alloc, &Config::of(entries), shards, threads, tens)
+}
+
+#[test]
+fn serve_returns_what_each_thread_returned(rt: HostRuntime) -> Result<(), Fail> {
+    for shards in [1, 2, 4] {
+        let tens = Tens::new();
+        let returned = served(&rt, rt.alloc(), 8, shards, 4, &tens)?;
+        let hoped = [
+            Ok((0, How::Hit)),
+            Ok((10, How::Hit)),
+            Err(Fault::LoadFailed { code: 404 }),
+            Ok((30, How::Hit)),
+        ];
+        assert_eq!(rt; returned.as_slice(), hoped.as_slice());
+        assert_eq!(rt; tens.loads.load(Ordering::SeqCst), 4);
+    }
+    let none = served(&rt, rt.alloc(), 8, 1, 0, &Tens::new())?;
+    assert_eq!(rt; none.len(), 0);
+    Ok(())
+}
+
+#[test]
+fn serve_refuses_settings_out_of_their_range(rt: HostRuntime) -> Result<(), Fail> {
+    let alloc = rt.alloc();
+    let tens = Tens::new();
+    let field = Field::Shards;
+    let shards = served(&rt, alloc, 0, 3, 1, &tens);
+    assert_eq!(rt; shards.err(), Some(Fault::BadConfig { field }));
+    let field = Field::Entries;
+    let entries = served(&rt, alloc, 0, 1, 1, &tens);
+    assert_eq!(rt; entries.err(), Some(Fault::BadConfig { field }));
+    assert_eq!(rt; tens.loads.load(Ordering::SeqCst), 0);
+    Ok(())
+}
+
+#[test]
+fn a_keyed_value_answers_its_own_key(rt: HostRuntime) -> Result<(), Fail> {
+    let kept: Number = Keyed { key: 7, value: 70 };
+    assert_eq!(rt; kept.share()?, kept);
+    assert_eq!(rt; kept.weight(), 1);
+    assert!(rt; kept.answers(&7) && !kept.answers(&70));
+    Ok(())
+}
