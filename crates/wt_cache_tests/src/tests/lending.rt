@@ -206,7 +206,7 @@ fn ended<N: Names, R: Wait>(
     Ok((made, steps, hits))
 }
 
-// Plays on a cache of so many shards.
+// Plays on a cache of `count` shards.
 fn played<N: Names + Send + Sync, R: Threads + Wait + Abort + Sync>(
     rt: &R,
     alloc: Global,

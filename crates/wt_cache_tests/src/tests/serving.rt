@@ -57,7 +57,7 @@ impl Service<u64, Number> for Tens {
 // What the threads returned.
 type Returned = Vec<Result<(u64, How), Fault>>;
 
-// Serves so many threads from so many shards of 8 entries.
+// Serves `threads` threads from `shards` shards of `entries` entries each.
 fn served<R: Threads + Wait + Sync>(
     rt: &R,
     alloc: Global,
