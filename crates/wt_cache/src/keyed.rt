@@ -1,5 +1,5 @@
 // A value that knows its key.
-ghost use Rattle.std.specs.Prelude.{◌≡◌, IfOk, IsOk};
+ghost use Rattle.std.specs.Prelude.{◌≡◌, IfOk, IsOk, true};
 
 use wt_core::Weighs;
 use wt_keys::{Answers, CacheKey, NoMemory, Share};
@@ -18,11 +18,17 @@ pub struct Keyed<K, V> {
 
 /// The share is a copy. Never refused.
 impl<K: CacheKey, V: Copy> Share for Keyed<K, V> {
+    ghost is_copied = { true };
+
     fn share(&self) -> Result<Keyed<K, V>, NoMemory>
         ensures answer { IfOk result (λ second. second ≡ self.now) }
         ensures succeeds { IsOk result }
     {
         Ok(*self)
+    }
+
+    fn is_copied() -> bool {
+        true
     }
 }
 

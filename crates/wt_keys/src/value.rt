@@ -1,5 +1,5 @@
 // What a value offers.
-ghost use Rattle.std.specs.Prelude.{◌≡◌, IfOk, IsOk, Bool};
+ghost use Rattle.std.specs.Prelude.{◌≡◌, IfOk, IsOk, IsTrue, Bool, true, false};
 
 use crate::fault::NoMemory;
 
@@ -8,9 +8,24 @@ use crate::fault::NoMemory;
 /// A share is equal to what it was made from. It is asked for at each hit and for each sharer of a
 /// load, so it should be cheap: a copy, or a further owner as [`Shared`](crate::Shared) makes one.
 pub trait Share: Sized + Drop {
-    /// Returns a second value that equals this one. `NoMemory` where it can't be made now.
+    /// Whether a share is a copy, which is never refused.
+    ghost is_copied: { Bool } = { false };
+
+    /// Returns a second value that equals this one, or `NoMemory` if it can't be made now.
     fn share(&self) -> Result<Self, NoMemory>
-        ensures { IfOk result (λ second. second ≡ self.now) };
+        ensures answer { IfOk result (λ second. second ≡ self.now) }
+        ensures succeeds { IsTrue is_copied → IsOk result };
+
+    /// Returns whether a share is a copy, which is never refused: `false`, unless the type says
+    /// otherwise.
+    ///
+    /// A cache looks such a value up once for a hit, and any other value twice. Takes no memory.
+    /// O(1).
+    fn is_copied() -> bool
+        ensures { IsTrue result → IsTrue is_copied }
+    {
+        false
+    }
 }
 
 /// A value that knows which keys it may stand for: those for which a loader may answer it.
@@ -24,10 +39,16 @@ pub trait Answers<K> {
 
 /// The share of a number is the number. Never refused.
 impl Share for u64 {
+    ghost is_copied = { true };
+
     fn share(&self) -> Result<u64, NoMemory>
         ensures answer { IfOk result (λ second. second ≡ self.now) }
         ensures succeeds { IsOk result }
     {
         Ok(*self)
+    }
+
+    fn is_copied() -> bool {
+        true
     }
 }

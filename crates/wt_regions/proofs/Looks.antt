@@ -1,6 +1,6 @@
 -- What a look finds, and what the use of it leaves.
-use Rattle.std.proofs.Common.{◌≡◌, ℕ, Bool, true, false, cond, List, ◌++◌, Option, Some, None, refl}
-use Rattle.std.specs.Option.{option_map_or, is_some}
+use Rattle.std.proofs.Common.{◌≡◌, ℕ, Bool, true, false, cond, List, ◌++◌, Option, Some, None, refl, subst, ◌||◌}
+use Rattle.std.specs.Option.{option_map, option_map_or, is_some}
 use Rattle.std.specs.List.{IsDistinct}
 use Rattle.std.specs.Map.{keys_of, lookup}
 use Rattle.std.specs.Prelude.{IsSome}
@@ -11,7 +11,7 @@ use Rattle.wt_regions.specs.declared.touch.Found.TheVariants.{Hit, Absent, Expir
 use Rattle.wt_regions.specs.declared.held.Held.{Held}
 use Rattle.wt_regions.specs.declared.touch.Seen.{Seen}
 use Rattle.wt_regions.specs.declared.touch.Seen.TheVariants.{InWindow, InProbation, InProtected, Nowhere, Expired}
-use Rattle.wt_regions.specs.Lists.{Entry, Lists, lists_of, held_for, found_at, has_at, is_expired, used, weight_of}
+use Rattle.wt_regions.specs.Lists.{Entry, Lists, lists_of, held_for, found_at, has_at, gone_by, is_expired, used, weight_of}
 use Rattle.wt_regions.specs.Touch.{looked_at, touched, used_if}
 use Rattle.wt_regions.specs.Lawful.{IsLawful}
 use Rattle.wt_regions.specs.Moves.{in_front, seen_at}
@@ -44,6 +44,12 @@ module _ {K V : Type 0} (eq : K → K → Bool) (k : K) (now : ℕ) where
     -- what is in neither part of main is what window has
     pub held-outside : lookup (eq k) ps ≡ None → lookup (eq k) qs ≡ None → held_for eq k (lists_of c ws ps qs) ≡ lookup (eq k) ws
     held-outside np nq = last_if (lookup (eq k) ws) refl np nq
+
+-- no time has gone by for durations that aren't set
+never-gone : (a b : Option ℕ) (w u now : ℕ) → is_some a || is_some b ≡ false → gone_by a w now || gone_by b u now ≡ false
+never-gone None None w u now e = refl
+never-gone (Some d) b w u now e = cc
+never-gone None (Some d) w u now e = cc
 
 module _ {K V : Type 0} (eq : K → K → Bool) (laws : IsEquivalence eq) (same : (a b : K) → eq a b ≡ true → a ≡ b) (k : K) (now : ℕ) (c : Caps) (ws ps qs : List (Entry K V)) (once : IsDistinct eq (keys_of (ws ++ (ps ++ qs)))) where
   abbrev r : Lists K V
@@ -83,6 +89,9 @@ module _ {K V : Type 0} (eq : K → K → Bool) (laws : IsEquivalence eq) (same 
       let is = held-protected eq k now c ws ps qs h nw np at in
       (rw (is, e) refl, rw (is, e) (touched-protected eq k (used now) c ws ps qs nw np))
 
+  nowhere : lookup (eq k) ws ≡ None → lookup (eq k) ps ≡ None → lookup (eq k) qs ≡ None → IsLook Nowhere
+  nowhere iw ip iq = let is = held-nowhere eq k now c ws ps qs iw ip iq in (rw is refl, rw is refl)
+
   look_at : (oq op ow : Option (Held V)) → lookup (eq k) qs ≡ oq → lookup (eq k) ps ≡ op → lookup (eq k) ws ≡ ow
       → IsLook (option_map_or (λ (h : Held V). cond (is_expired c now h) Expired (InProtected h.value)) oq
       (option_map_or (λ (h : Held V). cond (is_expired c now h) Expired (InProbation h.value (used now h))) op
@@ -90,7 +99,40 @@ module _ {K V : Type 0} (eq : K → K → Bool) (laws : IsEquivalence eq) (same 
   look_at (Some h) op ow iq ip iw = let off = above-protected eq laws k ws ps qs h once iq in protected_if h (is_expired c now h) off.0 off.1 iq refl
   look_at None (Some h) ow iq ip iw = probation_if h (is_expired c now h) (above-probation eq laws k ws ps qs h once ip) ip refl
   look_at None None (Some h) iq ip iw = window_if h (is_expired c now h) iw refl
-  look_at None None None iq ip iw = let is = held-nowhere eq k now c ws ps qs iw ip iq in (rw is refl, rw is refl)
+  look_at None None None iq ip iw = nowhere iw ip iq
+
+  -- the same if no entry expires, by the region that has the key
+  module _ (unaging : is_some c.after_write || is_some c.after_access ≡ false) where
+    fresh : (h : Held V) → is_expired c now h ≡ false
+    fresh h = never-gone c.after_write c.after_access h.written h.accessed now unaging
+
+    protected_of : (o : Option (Held V)) (v : V) → lookup (eq k) qs ≡ o → option_map (λ (h : Held V). h.value) o ≡ Some v → IsLook (InProtected v)
+    protected_of None v at is = cc
+    protected_of (Some h) v at is =
+        let off = above-protected eq laws k ws ps qs h once at in
+        let value : h.value ≡ v = cc in
+        subst (λ w. IsLook (InProtected w)) value (protected_if h false off.0 off.1 at (fresh h))
+
+    pub copied-protected : (v : V) → option_map (λ (h : Held V). h.value) (lookup (eq k) qs) ≡ Some v → IsLook (InProtected v)
+    copied-protected v is = protected_of (lookup (eq k) qs) v refl is
+
+    pub copied-probation : (h : Held V) → lookup (eq k) ps ≡ Some h → IsLook (InProbation h.value (used now h))
+    copied-probation h at = probation_if h false (above-probation eq laws k ws ps qs h once at) at (fresh h)
+
+    window_of : (o : Option (Held V)) (v : V) → lookup (eq k) ws ≡ o → option_map (λ (h : Held V). h.value) o ≡ Some v → IsLook (InWindow v)
+    window_of None v at is = cc
+    window_of (Some h) v at is = let value : h.value ≡ v = cc in subst (λ w. IsLook (InWindow w)) value (window_if h false at (fresh h))
+
+    pub copied-window : (v : V) → option_map (λ (h : Held V). h.value) (lookup (eq k) ws) ≡ Some v → IsLook (InWindow v)
+    copied-window v is = window_of (lookup (eq k) ws) v refl is
+
+  unmapped : (o : Option (Held V)) → None ≡ option_map (λ (h : Held V). h.value) o → o ≡ None
+  unmapped None is = refl
+  unmapped (Some h) is = cc
+
+  -- the same for what three caches don't give
+  pub copied-nowhere : None ≡ option_map (λ (h : Held V). h.value) (lookup (eq k) ws) → lookup (eq k) ps ≡ None → None ≡ option_map (λ (h : Held V). h.value) (lookup (eq k) qs) → IsLook Nowhere
+  copied-nowhere iw ip iq = nowhere (unmapped (lookup (eq k) ws) iw) ip (unmapped (lookup (eq k) qs) iq)
 
   pub look-is : IsLook (seen_at eq k now r)
   look-is = look_at (lookup (eq k) qs) (lookup (eq k) ps) (lookup (eq k) ws) refl refl refl

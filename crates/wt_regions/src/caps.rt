@@ -1,5 +1,5 @@
 // The limits of the regions: what they allow, and what is expired by them.
-ghost use Rattle.std.specs.Prelude.{◌≡◌, ◌&&◌, not, if◌then◌else◌};
+ghost use Rattle.std.specs.Prelude.{◌≡◌, ◌&&◌, ◌||◌, not, is_some, if◌then◌else◌};
 ghost use Rattle.wt_regions.specs.declared.notices.Cause.TheVariants.{Expired};
 ghost use Rattle.wt_regions.specs.Lists.{gone_by, is_expired, is_due, main_cap, protected_cap};
 ghost use Rattle.wt_regions.specs.Lawful.{IsFit, caps_fault};
@@ -74,6 +74,13 @@ impl Caps {
         ensures { result ≡ protected_cap self.now }
     {
         (4 * (self.entries - self.window) / 5) as usize
+    }
+
+    // Whether no entry expires: neither duration is set.
+    pub(crate) fn never_expires(&self) -> bool
+        ensures { result ≡ not (is_some self.now.after_write || is_some self.now.after_access) }
+    {
+        self.after_write.is_none() && self.after_access.is_none()
     }
 
     // Whether an entry is too old, since it was written or since it was used.

@@ -1,6 +1,6 @@
 // What a region holds, and shares of it: a move puts a share in the new place before the old one
 // goes.
-ghost use Rattle.std.specs.Prelude.{◌≡◌, IfOk};
+ghost use Rattle.std.specs.Prelude.{◌≡◌, IfOk, IsOk, IsTrue};
 ghost use Rattle.wt_regions.specs.Lists.{used};
 
 use wt_keys::{NoMemory, Share};
@@ -30,7 +30,8 @@ impl<V: Share> Held<V> {
 
     // A share of it that is used now.
     pub(crate) fn share_used(&self, now: u64) -> Result<Held<V>, NoMemory>
-        ensures { IfOk result (λ shared. shared ≡ used now self.now) }
+        ensures answer { IfOk result (λ shared. shared ≡ used now self.now) }
+        ensures succeeds { IsTrue V.Share.is_copied → IsOk result }
     {
         let value = self.value.share()?;
         Ok(Held {

@@ -1,8 +1,9 @@
 // What the regions do with one `LruCache`. Window and protected have the places that they may hold:
 // a push into a full one hands its last out, and keeps the block of memory that held it. Probation
 // has one more, as its last may only leave once another has come.
-ghost use Rattle.std.specs.Prelude.{◌≡◌, ◌+◌, ◌<◌, ◌≤◌, ◌∷◌, [], length, None, IfOk, OnOk, OnErr, IsSome, is_some, option_copied};
+ghost use Rattle.std.specs.Prelude.{◌≡◌, ◌+◌, ◌<◌, ◌≤◌, ◌∷◌, [], length, None, IfOk, OnOk, OnErr, IsSome, IsNone, is_some, IsTrue, option_copied};
 ghost use Rattle.std.specs.Map.{keys_of, lookup};
+ghost use Rattle.std.specs.Option.{option_map};
 ghost use Rattle.lru.specs.LruCache.{last_entry, lru_cache};
 ghost use Rattle.wt_regions.specs.Lists.{all_but_last, used};
 ghost use Rattle.wt_regions.specs.Moves.{in_front, places_of};
@@ -11,7 +12,7 @@ use crate::held::Held;
 use lru::LruCache;
 use std::alloc::Global;
 use std::num::NonZeroUsize;
-use wt_keys::{CacheKey, NoMemory};
+use wt_keys::{CacheKey, NoMemory, Share};
 
 // An empty cache of `most` places, or of one if `most` is 0.
 pub(crate) fn empty_cache<K: CacheKey, V>(
@@ -88,6 +89,32 @@ pub(crate) fn freshen<K: CacheKey, V>(cache: &mut LruCache<K, Held<V>>, key: K, 
             true
         }
         None => false,
+    }
+}
+
+// Brings the entry of the key to the front, used now, and returns a copy of its value, if there is
+// one. Takes no memory.
+pub(crate) fn use_in<K: CacheKey, V: Share>(
+    cache: &mut LruCache<K, Held<V>>,
+    key: K,
+    now: u64,
+) -> Option<V>
+    requires { IsTrue V.Share.is_copied }
+    ensures answer { result ≡ option_map (λ h. h.value) (lookup (K.eq key) cache.old.entries) }
+    ensures state { cache.new
+        ≡ lru_cache (in_front K.eq key (used now) cache.old.entries) cache.old.cap }
+    ensures missed { IsNone result → cache.new ≡ cache.old }
+{
+    if cache.is_empty() {
+        return None;
+    }
+    let Some(held) = cache.get_mut(&key) else {
+        return None;
+    };
+    held.accessed = now;
+    match held.value.share() {
+        Ok(value) => Some(value),
+        Err(_) => unreachable!(),
     }
 }
 

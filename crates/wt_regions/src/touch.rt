@@ -5,7 +5,7 @@
 //   protected  ──► protected's front
 //
 // A look first finds the region, and makes the shares that the move needs; then the entry moves.
-ghost use Rattle.std.specs.Prelude.{◌≡◌, false, None, IfOk, OnOk, OnErr, IsOk, IsSome};
+ghost use Rattle.std.specs.Prelude.{◌≡◌, false, None, IfOk, OnOk, OnErr, IsOk, IsSome, IsTrue, is_some, ◌||◌};
 ghost use Rattle.std.specs.List.{IsDistinct};
 ghost use Rattle.std.specs.Map.{keys_of, lookup};
 ghost use Rattle.wt_regions.specs.Lists.{all_entries, found_at, has_at};
@@ -14,7 +14,7 @@ ghost use Rattle.wt_regions.specs.Touch.{looked_at, touched};
 
 use crate::caches::Caches;
 use crate::held::Held;
-use crate::lru_cache::{freshen, held_in, push_new, push_past, replace_in};
+use crate::lru_cache::{freshen, held_in, push_new, push_past, replace_in, use_in};
 use crate::weighs::Weighs;
 use wt_keys::{CacheKey, NoMemory, Share};
 
@@ -78,6 +78,9 @@ impl<K: CacheKey, V: Share + Weighs> Caches<K, V> {
         ensures miss_succeeds { has_at K.eq key now self.old ≡ false → IsOk result }
         ensures err { OnErr result (self.new ≡ self.old) }
     {
+        if V::is_copied() && self.caps.never_expires() {
+            return self.get_copied(key, now);
+        }
         match self.look(key, now)? {
             Seen::InWindow(value) => {
                 freshen(&mut self.window, key, now);
@@ -94,6 +97,33 @@ impl<K: CacheKey, V: Share + Weighs> Caches<K, V> {
             Seen::Nowhere => Ok(Found::Absent),
             Seen::Expired => Ok(Found::Expired),
         }
+    }
+
+    // The same if a share is a copy and no entry expires: the look itself brings an entry of
+    // protected to the front.
+    fn get_copied(&mut self, key: K, now: u64) -> Result<Found<V>, NoMemory>
+        requires placed { IsPlaced K.eq V.weight self.old }
+        requires copied { IsTrue V.Share.is_copied }
+        requires unaging { is_some self.old.caps.after_write || is_some self.old.caps.after_access
+            ≡ false }
+        ensures found { IfOk result (λ found. found ≡ found_at K.eq key now self.old) }
+        ensures state { OnOk result (self.new ≡ looked_at K.eq key now self.old) }
+        ensures miss_succeeds { has_at K.eq key now self.old ≡ false → IsOk result }
+        ensures err { OnErr result (self.new ≡ self.old) }
+    {
+        if let Some(value) = use_in(&mut self.protected, key, now) {
+            return Ok(Found::Hit(value));
+        }
+        if let Some(held) = held_in(&self.probation, key) {
+            let value = held.value.share()?;
+            let moved = held.share_used(now)?;
+            drop(self.promote(key, moved)?);
+            return Ok(Found::Hit(value));
+        }
+        if let Some(value) = use_in(&mut self.window, key, now) {
+            return Ok(Found::Hit(value));
+        }
+        Ok(Found::Absent)
     }
 
     // Brings the key's entry from probation to protected's front, with other contents, and answers

@@ -1,5 +1,5 @@
 // What a trace stores: the key, and the line that made it.
-ghost use Rattle.std.specs.Prelude.{◌≡◌, IfOk, IsOk};
+ghost use Rattle.std.specs.Prelude.{◌≡◌, IfOk, IsOk, true};
 
 use wt_core::Weighs;
 use wt_keys::{Answers, CacheKey, NoMemory, Share};
@@ -17,11 +17,17 @@ pub struct Version<K> {
 
 /// The share of a version is the version. Never refused.
 impl<K: CacheKey> Share for Version<K> {
+    ghost is_copied = { true };
+
     fn share(&self) -> Result<Version<K>, NoMemory>
         ensures answer { IfOk result (λ second. second ≡ self.now) }
         ensures succeeds { IsOk result }
     {
         Ok(*self)
+    }
+
+    fn is_copied() -> bool {
+        true
     }
 }
 

@@ -18,11 +18,11 @@ returns-in-InWindow-clause-found g c =
 
 pub returns-in-InWindow-clause-state : goal.returns-in-InWindow-clause-state
 returns-in-InWindow-clause-state g c =
-    let i = c.self.inside in
-    let once = (rw (← c.self.view_is) at c.requires).distinct in
-    let is = rw (← c.self.view_is) at (sym c.in_ok-value.ensures.found ∙ c.in-InWindow.is) in
+    let i = c.self-2.inside in
+    let once = (rw (← c.self-2.view_is) at c.requires).distinct in
+    let is = rw (← c.self-2.view_is) at (sym c.in_ok-value.ensures.found ∙ c.in-InWindow.is) in
     let look = subst (IsLook g.K.PartialEq.eq (g.met.K.Eq g.world.𝓛 g.world.𝓜 g.world.𝓡 ((λ s x. x), (λ x. x), (λ x. x), λ x. x)).laws (g.met.K.CacheKey g.world.𝓛 g.world.𝓜 g.world.𝓡 ((λ s x. x), (λ x. x), (λ x. x), λ x. x)).same c.args.key c.args.now i.caps i.window.entries i.probation.entries i.protected.entries once) is (look-is g.K.PartialEq.eq (g.met.K.Eq g.world.𝓛 g.world.𝓜 g.world.𝓡 ((λ s x. x), (λ x. x), (λ x. x), λ x. x)).laws (g.met.K.CacheKey g.world.𝓛 g.world.𝓜 g.world.𝓡 ((λ s x. x), (λ x. x), (λ x. x), λ x. x)).same c.args.key c.args.now i.caps i.window.entries i.probation.entries i.protected.entries once) in
-    rw (c.freshen.ensures.state, ← c.self.view_is) (sym look.1)
+    rw (c.freshen.ensures.state, ← c.self-2.view_is) (sym look.1)
 
 pub returns-in-InProtected-clause-found : goal.returns-in-InProtected-clause-found
 returns-in-InProtected-clause-found g c =
@@ -33,11 +33,11 @@ returns-in-InProtected-clause-found g c =
 
 pub returns-in-InProtected-clause-state : goal.returns-in-InProtected-clause-state
 returns-in-InProtected-clause-state g c =
-    let i = c.self.inside in
-    let once = (rw (← c.self.view_is) at c.requires).distinct in
-    let is = rw (← c.self.view_is) at (sym c.in_ok-value.ensures.found ∙ c.in-InProtected.is) in
+    let i = c.self-2.inside in
+    let once = (rw (← c.self-2.view_is) at c.requires).distinct in
+    let is = rw (← c.self-2.view_is) at (sym c.in_ok-value.ensures.found ∙ c.in-InProtected.is) in
     let look = subst (IsLook g.K.PartialEq.eq (g.met.K.Eq g.world.𝓛 g.world.𝓜 g.world.𝓡 ((λ s x. x), (λ x. x), (λ x. x), λ x. x)).laws (g.met.K.CacheKey g.world.𝓛 g.world.𝓜 g.world.𝓡 ((λ s x. x), (λ x. x), (λ x. x), λ x. x)).same c.args.key c.args.now i.caps i.window.entries i.probation.entries i.protected.entries once) is (look-is g.K.PartialEq.eq (g.met.K.Eq g.world.𝓛 g.world.𝓜 g.world.𝓡 ((λ s x. x), (λ x. x), (λ x. x), λ x. x)).laws (g.met.K.CacheKey g.world.𝓛 g.world.𝓜 g.world.𝓡 ((λ s x. x), (λ x. x), (λ x. x), λ x. x)).same c.args.key c.args.now i.caps i.window.entries i.probation.entries i.protected.entries once) in
-    rw (c.freshen-in-InProtected.ensures.state, ← c.self.view_is) (sym look.1)
+    rw (c.freshen-in-InProtected.ensures.state, ← c.self-2.view_is) (sym look.1)
 
 pub returns-in_ok-promote-in-InProbation-clause-found : goal.returns-in_ok-promote-in-InProbation-clause-found
 returns-in_ok-promote-in-InProbation-clause-found g c =

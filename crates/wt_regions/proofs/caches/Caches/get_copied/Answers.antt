@@ -1,0 +1,105 @@
+use Rattle.std.proofs.Common.{◌≡◌, Some, None, refl, sym, rules}
+use Rattle.std.specs.Map.{lookup}
+use Rattle.wt_regions.proofs.Looks.{copied-protected, copied-probation, copied-window, copied-nowhere}
+use Rattle.wt_regions.proofs.caches.Caches.get_copied.Goals as goal
+
+pub returns-in-Some-clause-found : goal.returns-in-Some-clause-found
+returns-in-Some-clause-found g c =
+    let i = c.self.inside in
+    let once = (rw (← c.self.view_is) at c.requires.placed).distinct in
+    let unaging = rw (← c.self.view_is) at c.requires.unaging in
+    let look = copied-protected g.K.PartialEq.eq (g.met.K.Eq g.world.𝓛 g.world.𝓜 g.world.𝓡 ((λ s x. x), (λ x. x), (λ x. x), λ x. x)).laws (g.met.K.CacheKey g.world.𝓛 g.world.𝓜 g.world.𝓡 ((λ s x. x), (λ x. x), (λ x. x), λ x. x)).same c.args.key c.args.now i.caps i.window.entries i.probation.entries i.protected.entries once unaging c.in-Some.value (sym c.in-Some.ensures.answer) in
+    rw (← c.self.view_is) (sym look.0)
+
+pub returns-in-Some-clause-state : goal.returns-in-Some-clause-state
+returns-in-Some-clause-state g c =
+    let i = c.self.inside in
+    let once = (rw (← c.self.view_is) at c.requires.placed).distinct in
+    let unaging = rw (← c.self.view_is) at c.requires.unaging in
+    let look = copied-protected g.K.PartialEq.eq (g.met.K.Eq g.world.𝓛 g.world.𝓜 g.world.𝓡 ((λ s x. x), (λ x. x), (λ x. x), λ x. x)).laws (g.met.K.CacheKey g.world.𝓛 g.world.𝓜 g.world.𝓡 ((λ s x. x), (λ x. x), (λ x. x), λ x. x)).same c.args.key c.args.now i.caps i.window.entries i.probation.entries i.protected.entries once unaging c.in-Some.value (sym c.in-Some.ensures.answer) in
+    rw (c.in-Some.ensures.state, ← c.self.view_is) (sym look.1)
+
+pub promote-requires-clause-placed : goal.promote-requires-clause-placed
+promote-requires-clause-placed g c κs within =
+    let i = c.self.inside in
+    let gone : c.use_in.new.cache ≡ i.protected = c.in_default.ensures.missed refl in
+    rw gone (rw (← c.self.view_is) at c.requires.placed)
+
+pub promote-requires-clause-elsewhere : goal.promote-requires-clause-elsewhere
+promote-requires-clause-elsewhere g c κs within =
+    let i = c.self.inside in
+    let once = (rw (← c.self.view_is) at c.requires.placed).distinct in
+    let unaging = rw (← c.self.view_is) at c.requires.unaging in
+    let at : lookup (g.K.PartialEq.eq c.args.key) i.probation.entries ≡ Some c.in-Some-held_in.held.now = search rules in
+    let look = copied-probation g.K.PartialEq.eq (g.met.K.Eq g.world.𝓛 g.world.𝓜 g.world.𝓡 ((λ s x. x), (λ x. x), (λ x. x), λ x. x)).laws (g.met.K.CacheKey g.world.𝓛 g.world.𝓜 g.world.𝓡 ((λ s x. x), (λ x. x), (λ x. x), λ x. x)).same c.args.key c.args.now i.caps i.window.entries i.probation.entries i.protected.entries once unaging c.in-Some-held_in.held.now at in
+    look.2
+
+pub returns-in_err-promote-clause-miss_succeeds : goal.returns-in_err-promote-clause-miss_succeeds
+returns-in_err-promote-clause-miss_succeeds g c =
+    let i = c.self.inside in
+    let once = (rw (← c.self.view_is) at c.requires.placed).distinct in
+    let unaging = rw (← c.self.view_is) at c.requires.unaging in
+    let at : lookup (g.K.PartialEq.eq c.args.key) i.probation.entries ≡ Some c.in-Some-held_in.held.now = search rules in
+    let look = copied-probation g.K.PartialEq.eq (g.met.K.Eq g.world.𝓛 g.world.𝓜 g.world.𝓡 ((λ s x. x), (λ x. x), (λ x. x), λ x. x)).laws (g.met.K.CacheKey g.world.𝓛 g.world.𝓜 g.world.𝓡 ((λ s x. x), (λ x. x), (λ x. x), λ x. x)).same c.args.key c.args.now i.caps i.window.entries i.probation.entries i.protected.entries once unaging c.in-Some-held_in.held.now at in
+    λ miss. let never = rw (← c.self.view_is, look.0) at miss in cc
+
+pub returns-in_err-promote-clause-err : goal.returns-in_err-promote-clause-err
+returns-in_err-promote-clause-err g c =
+    let i = c.self.inside in
+    let gone : c.use_in.new.cache ≡ i.protected = c.in_default.ensures.missed refl in
+    let still : c.promote.new.self ≡ c.args.self.now = rw (c.in_err-promote.ensures.err, gone, ← c.self.view_is) refl in
+    search rules
+
+pub returns-in-Some-held_in-clause-found : goal.returns-in-Some-held_in-clause-found
+returns-in-Some-held_in-clause-found g c =
+    let i = c.self.inside in
+    let once = (rw (← c.self.view_is) at c.requires.placed).distinct in
+    let unaging = rw (← c.self.view_is) at c.requires.unaging in
+    let at : lookup (g.K.PartialEq.eq c.args.key) i.probation.entries ≡ Some c.in-Some-held_in.held.now = search rules in
+    let look = copied-probation g.K.PartialEq.eq (g.met.K.Eq g.world.𝓛 g.world.𝓜 g.world.𝓡 ((λ s x. x), (λ x. x), (λ x. x), λ x. x)).laws (g.met.K.CacheKey g.world.𝓛 g.world.𝓜 g.world.𝓡 ((λ s x. x), (λ x. x), (λ x. x), λ x. x)).same c.args.key c.args.now i.caps i.window.entries i.probation.entries i.protected.entries once unaging c.in-Some-held_in.held.now at in
+    rw (c.in_ok-value.ensures.answer, ← c.self.view_is) (sym look.0)
+
+pub returns-in-Some-held_in-clause-state : goal.returns-in-Some-held_in-clause-state
+returns-in-Some-held_in-clause-state g c =
+    let i = c.self.inside in
+    let once = (rw (← c.self.view_is) at c.requires.placed).distinct in
+    let unaging = rw (← c.self.view_is) at c.requires.unaging in
+    let gone : c.use_in.new.cache ≡ i.protected = c.in_default.ensures.missed refl in
+    let at : lookup (g.K.PartialEq.eq c.args.key) i.probation.entries ≡ Some c.in-Some-held_in.held.now = search rules in
+    let look = copied-probation g.K.PartialEq.eq (g.met.K.Eq g.world.𝓛 g.world.𝓜 g.world.𝓡 ((λ s x. x), (λ x. x), (λ x. x), λ x. x)).laws (g.met.K.CacheKey g.world.𝓛 g.world.𝓜 g.world.𝓡 ((λ s x. x), (λ x. x), (λ x. x), λ x. x)).same c.args.key c.args.now i.caps i.window.entries i.probation.entries i.protected.entries once unaging c.in-Some-held_in.held.now at in
+    rw (c.in_ok-promote.ensures.state, c.in_ok-moved.ensures.answer, gone, ← c.self.view_is) (sym look.1)
+
+pub returns-in-Some-use_in-clause-found : goal.returns-in-Some-use_in-clause-found
+returns-in-Some-use_in-clause-found g c =
+    let i = c.self.inside in
+    let once = (rw (← c.self.view_is) at c.requires.placed).distinct in
+    let unaging = rw (← c.self.view_is) at c.requires.unaging in
+    let look = copied-window g.K.PartialEq.eq (g.met.K.Eq g.world.𝓛 g.world.𝓜 g.world.𝓡 ((λ s x. x), (λ x. x), (λ x. x), λ x. x)).laws (g.met.K.CacheKey g.world.𝓛 g.world.𝓜 g.world.𝓡 ((λ s x. x), (λ x. x), (λ x. x), λ x. x)).same c.args.key c.args.now i.caps i.window.entries i.probation.entries i.protected.entries once unaging c.in-Some-use_in.value (sym c.in-Some-use_in.ensures.answer) in
+    rw (← c.self.view_is) (sym look.0)
+
+pub returns-in-Some-use_in-clause-state : goal.returns-in-Some-use_in-clause-state
+returns-in-Some-use_in-clause-state g c =
+    let i = c.self.inside in
+    let once = (rw (← c.self.view_is) at c.requires.placed).distinct in
+    let unaging = rw (← c.self.view_is) at c.requires.unaging in
+    let gone : c.use_in.new.cache ≡ i.protected = c.in_default.ensures.missed refl in
+    let look = copied-window g.K.PartialEq.eq (g.met.K.Eq g.world.𝓛 g.world.𝓜 g.world.𝓡 ((λ s x. x), (λ x. x), (λ x. x), λ x. x)).laws (g.met.K.CacheKey g.world.𝓛 g.world.𝓜 g.world.𝓡 ((λ s x. x), (λ x. x), (λ x. x), λ x. x)).same c.args.key c.args.now i.caps i.window.entries i.probation.entries i.protected.entries once unaging c.in-Some-use_in.value (sym c.in-Some-use_in.ensures.answer) in
+    rw (c.in-Some-use_in.ensures.state, gone, ← c.self.view_is) (sym look.1)
+
+pub returns-clause-found : goal.returns-clause-found
+returns-clause-found g c =
+    let i = c.self.inside in
+    let once = (rw (← c.self.view_is) at c.requires.placed).distinct in
+    let none : lookup (g.K.PartialEq.eq c.args.key) i.probation.entries ≡ None = search rules in
+    let look = copied-nowhere g.K.PartialEq.eq (g.met.K.Eq g.world.𝓛 g.world.𝓜 g.world.𝓡 ((λ s x. x), (λ x. x), (λ x. x), λ x. x)).laws (g.met.K.CacheKey g.world.𝓛 g.world.𝓜 g.world.𝓡 ((λ s x. x), (λ x. x), (λ x. x), λ x. x)).same c.args.key c.args.now i.caps i.window.entries i.probation.entries i.protected.entries once c.in_default-use_in.ensures.answer none c.in_default.ensures.answer in
+    rw (← c.self.view_is) (sym look.0)
+
+pub returns-clause-state : goal.returns-clause-state
+returns-clause-state g c =
+    let i = c.self.inside in
+    let once = (rw (← c.self.view_is) at c.requires.placed).distinct in
+    let gone : c.use_in.new.cache ≡ i.protected = c.in_default.ensures.missed refl in
+    let none : lookup (g.K.PartialEq.eq c.args.key) i.probation.entries ≡ None = search rules in
+    let still : c.use_in-2.new.cache ≡ i.window = c.in_default-use_in.ensures.missed refl in
+    let look = copied-nowhere g.K.PartialEq.eq (g.met.K.Eq g.world.𝓛 g.world.𝓜 g.world.𝓡 ((λ s x. x), (λ x. x), (λ x. x), λ x. x)).laws (g.met.K.CacheKey g.world.𝓛 g.world.𝓜 g.world.𝓡 ((λ s x. x), (λ x. x), (λ x. x), λ x. x)).same c.args.key c.args.now i.caps i.window.entries i.probation.entries i.protected.entries once c.in_default-use_in.ensures.answer none c.in_default.ensures.answer in
+    rw (still, gone, ← c.self.view_is) (sym look.1)
