@@ -1,5 +1,5 @@
 -- The rule of the job line.
-use Rattle.std.specs.Prelude.{◌≡◌, ℕ, ◌+◌, ◌≤◌, List, [], ◌∷◌, length, drop, map, eqb, ltb, cond}
+use Rattle.std.specs.Prelude.{◌≡◌, ℕ, ◌+◌, ◌≤◌, List, [], ◌∷◌, ◌++◌, length, drop, map, eqb, ltb, cond, Option, MatchOption}
 use mathlib.Core.Option.{some}
 use lib.ListN.{get_elem?}
 use Rattle.wt_cache.specs.declared.hand.Hand.{Hand}
@@ -13,6 +13,18 @@ module _ {K : Type 0} where
   -- what a line pass put and what it took, as pairs of a number and a name
   abbrev pub hand : List (ℕ × (ℕ × K)) → List (ℕ × (ℕ × K)) → Hand K
   hand puts takes = record { puts = puts; takes = takes }
+
+  -- a pass put one load more, of this lead's name
+  abbrev pub HasPutOne : Leading K → Hand K → Hand K → Type 0
+  HasPutOne lead old new = (n : ℕ) × (new ≡ hand (old.puts ++ (n, name lead) ∷ []) old.takes)
+
+  -- a pass took one load more, of this lead's name
+  abbrev pub HasTakenOne : Leading K → Hand K → Hand K → Type 0
+  HasTakenOne lead old new = (n : ℕ) × (new ≡ hand old.puts (old.takes ++ (n, name lead) ∷ []))
+
+  -- a take by this pass: of this load, or of none
+  abbrev pub IsTake : Option (Leading K) → Hand K → Hand K → Type 0
+  IsTake taken old new = MatchOption taken (new ≡ old) (λ lead. HasTakenOne lead old new)
 
   -- how often a number stands in pairs
   abbrev pub times : ℕ → List (ℕ × (ℕ × K)) → ℕ

@@ -5,22 +5,23 @@
 // mark before the push and after it: a mark that is set by then may mean that no worker comes any
 // more, so that poster runs what is in the line itself.
 //
-//   worker   look ── lock the bell ── look again ── sleep, which gives the lock back ──► look
+//   worker   look for a while ── lock the bell ── look again ── sleep, giving the lock back ──► look
 //   poster   push ── lock the bell ── wake one worker
 //   closer   mark ── lock the bell ── wake all workers
 //
-// A worker looks for the last time under the bell's lock, which a poster takes after its push. A
-// push that this look missed is rung once the worker sleeps, so it isn't slept through.
-ghost use Rattle.std.specs.Prelude.{◌≡◌, ◌<◌, ◌≤◌, ◌⊎◌, ◌++◌, ◌∷◌, [], ℕ, IfOk, IfErr, Err, IsOkUnless, MatchOption, MatchResult};
+// A worker first looks for some 20 microseconds, since a sleep and a wake take as long. It looks for
+// the last time under the bell's lock, which a poster takes after its push. A push that this look
+// missed is rung once the worker sleeps, so it isn't slept through.
+ghost use Rattle.std.specs.Prelude.{◌≡◌, ◌<◌, ◌≤◌, ◌⊎◌, [], IfOk, IfErr, Err, IsOkUnless, MatchResult};
 ghost use Rattle.wt_keys.specs.declared.fault.Fault.TheVariants as fault;
 ghost use Rattle.wt_keys.specs.declared.fault.Field.TheVariants as field;
-ghost use Rattle.wt_cache.specs.Line.{hand, name};
+ghost use Rattle.wt_cache.specs.Line.{hand, HasPutOne, IsTake};
 
 use crate::line_pass::{First, LinePass};
 use std::alloc::Global;
 use std::sync::atomic::{AtomicBool, Ordering};
 use std::sync::{Condvar, Mutex, Wait};
-use wt_flights::Lead;
+use wt_flights::{LOOKS, Lead, pause};
 use wt_keys::{Fault, Field, NoMemory};
 
 // The most jobs that a line may hold, as many as loads may be open in one shard.
@@ -106,8 +107,7 @@ impl<K: Copy + Drop, V: Drop> JobLine<K, V> {
         pass: &mut LinePass<K, V>,
         lead: Lead<K, V>,
     ) -> Result<Posted, Back<K, V>>
-        ensures moved { MatchResult result
-            (λ _. (n : ℕ) × (pass.new ≡ hand (pass.old.puts ++ (n, name lead) ∷ []) pass.old.takes))
+        ensures moved { MatchResult result (λ _. HasPutOne lead pass.old pass.new)
             (λ back. (back.lead ≡ lead) × (pass.new ≡ pass.old)) }
         ensures faults { IfErr result (λ back.
             (back.fault ≡ fault.LineFull) ⊎ (back.fault ≡ fault.LineClosed)) }
@@ -134,19 +134,30 @@ impl<K: Copy + Drop, V: Drop> JobLine<K, V> {
     /// Whoever takes it is to run it. A closed line is taken from like an open one. Takes no memory
     /// and no lock.
     pub fn take<R: Wait>(&self, rt: &R, pass: &mut LinePass<K, V>) -> Option<Lead<K, V>>
-        ensures moved { MatchOption result (pass.new ≡ pass.old) (λ lead.
-            (n : ℕ) × (pass.new ≡ hand pass.old.puts (pass.old.takes ++ (n, name lead) ∷ []))) }
+        ensures moved { IsTake result pass.old pass.new }
     {
         pass.pop(rt)
+    }
+
+    // Takes the load that stands first in the line, or `None` if there was none for a while.
+    fn take_soon<R: Wait>(&self, rt: &R, pass: &mut LinePass<K, V>) -> Option<Lead<K, V>>
+        ensures moved { IsTake result pass.old pass.new }
+    {
+        for turn in 0..LOOKS {
+            if let Some(lead) = self.take(rt, pass) {
+                return Some(lead);
+            }
+            pause(turn);
+        }
+        None
     }
 
     // Takes the load that stands first in the line, and sleeps as long as there is none. `None` once
     // the line was read as closed and a take after that found none.
     pub(crate) fn next<R: Wait>(&self, rt: &R, pass: &mut LinePass<K, V>) -> Option<Lead<K, V>>
-        ensures moved { MatchOption result (pass.new ≡ pass.old) (λ lead.
-            (n : ℕ) × (pass.new ≡ hand pass.old.puts (pass.old.takes ++ (n, name lead) ∷ []))) }
+        ensures moved { IsTake result pass.old pass.new }
     {
-        if let Some(lead) = self.take(rt, pass) {
+        if let Some(lead) = self.take_soon(rt, pass) {
             return Some(lead);
         }
         let mut gate = self.gate.lock(rt);

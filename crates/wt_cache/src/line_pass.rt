@@ -4,12 +4,12 @@
 // takes of every pass that was ever made: each put has a number of its own, each take the number
 // and the name of one put, in the order of the puts, and what was put and not taken is in the line.
 // Every push and every pop keeps the rule, so it holds at each atomic step of every schedule.
-ghost use Rattle.std.specs.Prelude.{◌≡◌, ◌<◌, ◌++◌, ◌∷◌, [], ℕ, IfOk, MatchOption, MatchResult};
+ghost use Rattle.std.specs.Prelude.{◌≡◌, ◌<◌, [], IfOk, MatchResult};
 ghost use Rattle.std.specs.Arc.{arc_value};
 ghost use Rattle.crossbeam_queue.specs.Passes.{view as known_by, IsPassOf};
 ghost use Rattle.wt_flights.specs.Outcomes.{Leading};
 ghost use Rattle.wt_cache.specs.declared.hand.Hand.{Hand};
-ghost use Rattle.wt_cache.specs.Line.{hand, name, Numbered};
+ghost use Rattle.wt_cache.specs.Line.{hand, HasPutOne, HasTakenOne, IsTake, Numbered};
 
 use crate::hand::Hand;
 use crossbeam_queue::protocol::{Lesson, Outcome, Protocol, Split};
@@ -33,7 +33,7 @@ impl<K, V> Protocol<Lead<K, V>, Hand<K>> for Numbers {
 pub struct Puts;
 
 impl<K, V> Outcome<Lead<K, V>, Hand<K>> for Puts {
-    ghost then = { λ v x w. (n : ℕ) × (w ≡ hand (v.puts ++ (n, name x) ∷ []) v.takes) };
+    ghost then = { λ v x w. HasPutOne x v w };
 }
 
 impl<K, V> Lesson<Lead<K, V>, Hand<K>> for Puts {
@@ -44,7 +44,7 @@ impl<K, V> Lesson<Lead<K, V>, Hand<K>> for Puts {
 pub struct Takes;
 
 impl<K, V> Outcome<Lead<K, V>, Hand<K>> for Takes {
-    ghost then = { λ v x w. (n : ℕ) × (w ≡ hand v.puts (v.takes ++ (n, name x) ∷ [])) };
+    ghost then = { λ v x w. HasTakenOne x v w };
 }
 
 impl<K, V> Lesson<Lead<K, V>, Hand<K>> for Takes {
@@ -76,8 +76,7 @@ impl<K, V> Model for LinePass<K, V> {
 impl<K: Copy + Drop, V: Drop> LinePass<K, V> {
     // Pushes a load to the queue's end, or hands it back where the queue is full.
     pub(crate) fn push<R: Wait>(&mut self, rt: &R, lead: Lead<K, V>) -> Result<(), Lead<K, V>>
-        ensures moved { MatchResult result
-            (λ _. (n : ℕ) × (self.new ≡ hand (self.old.puts ++ (n, name lead) ∷ []) self.old.takes))
+        ensures moved { MatchResult result (λ _. HasPutOne lead self.old self.new)
             (λ back. (back ≡ lead) × (self.new ≡ self.old)) }
     {
         self.queue.push_as::<Puts, R>(rt, &mut self.pass, lead)
@@ -85,8 +84,7 @@ impl<K: Copy + Drop, V: Drop> LinePass<K, V> {
 
     // Pops the load at the queue's front, if there is one.
     pub(crate) fn pop<R: Wait>(&mut self, rt: &R) -> Option<Lead<K, V>>
-        ensures moved { MatchOption result (self.new ≡ self.old) (λ lead.
-            (n : ℕ) × (self.new ≡ hand self.old.puts (self.old.takes ++ (n, name lead) ∷ []))) }
+        ensures moved { IsTake result self.old self.new }
     {
         self.queue.pop_as::<Takes, R>(rt, &mut self.pass)
     }
