@@ -1,18 +1,9 @@
 // A thread's way to a cache: its pass, and the list of what left.
-ghost use Rattle.std.specs.Prelude.{◌≡◌, ◌*◌, ◌<◌, ◌≤◌, ◌+◌, length, Err, IsTrue, IfOk, IfErr, true};
-ghost use Rattle.wt_keys.specs.declared.fault.Fault.TheVariants as fault;
-ghost use Rattle.wt_regions.specs.Notices.{emptied};
-ghost use Rattle.wt_core.specs.Faults.{is_step_fault};
+ghost use Rattle.std.specs.Prelude.{◌≡◌, ◌*◌, ◌≤◌, ◌+◌, length, IsTrue, IfOk};
 ghost use Rattle.wt_core.specs.declared.calls.Call.TheVariants as call;
 ghost use Rattle.wt_core.specs.declared.calls.Reply.TheVariants as reply;
 ghost use Rattle.wt_shards.specs.Asked.{ReplyAnswers};
-ghost use Rattle.wt_shards.specs.Contract.{IsHomeCall, IsSweepCall};
-ghost use Rattle.wt_shards.specs.Outer.{HasCause};
-ghost use Rattle.wt_shards.specs.Passes.{steps_at};
-ghost use Rattle.wt_shards.specs.Place.{home_of, place_of};
-ghost use Rattle.wt_shards.specs.Told.{HasTold};
-ghost use Rattle.wt_cache.specs.Gets.{IsSought, is_get_fault};
-ghost use Rattle.wt_cache.specs.Moves.{HasGot, HasTried};
+ghost use Rattle.wt_cache.specs.Contract.{IsLentCall, IsLentGet, IsLentPut, IsLentSweep};
 
 use crate::cache::LoadingCache;
 use crate::callers::Callers;
@@ -107,25 +98,7 @@ impl<
     ///
     /// `now` is in milliseconds. First the list of what left is emptied.
     pub fn get(&mut self, key: K, now: u64) -> Result<Got<V>, Fault>
-        ensures answers { IfOk result (λ got. IsTrue (V.answers got.value key)) }
-        ensures moved { IfOk result (λ got. HasGot self.old.cache.lined
-            (home_of K.word key self.old.cache.layout) got.how self.old.pass self.new.pass) }
-        ensures later { IfOk result (λ got.
-            steps_at (home_of K.word key self.old.cache.layout) self.old.pass < got.step) }
-        ensures sought { IfOk result (λ got. IsSought K.eq K.word V.weight V.answers
-            (place_of (home_of K.word key self.old.cache.layout) self.old.cache.layout)
-            key now got.how got.value got.step (emptied self.old.left) self.new.left) }
-
-        ensures told { HasTold (2 * self.old.cache.layout.config.entries)
-            (emptied self.old.left) self.new.left }
-        ensures faults { IfErr result (λ fault. is_get_fault fault ≡ true) }
-        ensures err { IfErr result (λ fault. HasTried self.old.cache.lined
-            (home_of K.word key self.old.cache.layout)
-            (HasCause K.eq K.word V.weight V.answers
-            (place_of (home_of K.word key self.old.cache.layout) self.old.cache.layout)
-            (call.Seek key now) fault × (self.new.left ≡ emptied self.old.left))
-            fault self.old.pass self.new.pass) }
-        ensures same { self.new.cache ≡ self.old.cache }
+        ensures made { IsLentGet K.eq K.word V.weight V.answers key now self.old self.new result }
     {
         self.left.empty();
         let cache = self.callers.cache();
@@ -137,11 +110,9 @@ impl<
     ///
     /// `now` is in milliseconds. First the list of what left is emptied.
     pub fn get_if_present(&mut self, key: K, now: u64) -> Result<Done<Reply<V>>, Fault>
-        ensures made { IsHomeCall K.eq K.word V.weight V.answers self.old.cache.layout key
-            (call.Look key now) (λ reply. reply) self.old.pass self.new.pass
-            (emptied self.old.left) self.new.left result }
+        ensures made { IsLentCall K.eq K.word V.weight V.answers key (call.Look key now)
+            (λ reply. reply) self.old self.new result }
         ensures answers { IfOk result (λ done. ReplyAnswers V.answers key done.reply) }
-        ensures same { self.new.cache ≡ self.old.cache }
     {
         self.left.empty();
         let cache = self.callers.cache();
@@ -154,15 +125,8 @@ impl<
     /// `now` is in milliseconds. First the list of what left is emptied.
     pub fn put(&mut self, key: K, value: V, now: u64) -> Result<Done<()>, Fault>
         requires answers { IsTrue (V.answers value key) }
-
-        ensures made { IsHomeCall K.eq K.word V.weight V.answers self.old.cache.layout key
-            (call.Put key value now) (λ _. reply.Stored) self.old.pass self.new.pass
-            (emptied self.old.left) self.new.left result }
-        ensures heavy { self.old.cache.layout.config.bound < V.weight value
-            → result ≡ Err (fault.TooHeavy (V.weight value) self.old.cache.layout.config.bound) }
-        ensures light { V.weight value ≤ self.old.cache.layout.config.bound
-            → IfErr result (λ f. is_step_fault f ≡ true) }
-        ensures same { self.new.cache ≡ self.old.cache }
+        ensures made { IsLentPut K.eq K.word V.weight V.answers key value now self.old self.new
+            result }
     {
         self.left.empty();
         let cache = self.callers.cache();
@@ -174,10 +138,8 @@ impl<
     ///
     /// `now` is in milliseconds. First the list of what left is emptied.
     pub fn invalidate(&mut self, key: K, now: u64) -> Result<Done<bool>, Fault>
-        ensures made { IsHomeCall K.eq K.word V.weight V.answers self.old.cache.layout key
-            (call.DropKey key now) reply.Dropped self.old.pass self.new.pass
-            (emptied self.old.left) self.new.left result }
-        ensures same { self.new.cache ≡ self.old.cache }
+        ensures made { IsLentCall K.eq K.word V.weight V.answers key (call.DropKey key now)
+            reply.Dropped self.old self.new result }
     {
         self.left.empty();
         let cache = self.callers.cache();
@@ -189,10 +151,8 @@ impl<
     ///
     /// `now` is in milliseconds. First the list of what left is emptied.
     pub fn forget(&mut self, key: K, now: u64) -> Result<Done<bool>, Fault>
-        ensures made { IsHomeCall K.eq K.word V.weight V.answers self.old.cache.layout key
-            (call.Forget key now) reply.Forgot self.old.pass self.new.pass
-            (emptied self.old.left) self.new.left result }
-        ensures same { self.new.cache ≡ self.old.cache }
+        ensures made { IsLentCall K.eq K.word V.weight V.answers key (call.Forget key now)
+            reply.Forgot self.old self.new result }
     {
         self.left.empty();
         let cache = self.callers.cache();
@@ -207,10 +167,8 @@ impl<
     pub fn invalidate_all(&mut self, now: u64, notices: &mut Notices<K, V>) -> Result<(), Fault>
         requires room { self.old.cache.layout.shards * self.old.cache.layout.config.entries
             ≤ notices.old.room }
-
-        ensures made { IsSweepCall K.eq K.word V.weight V.answers self.old.cache.layout
-            (call.Clear now) self.old.pass self.new.pass notices.old notices.new result }
-        ensures same { (self.new.cache ≡ self.old.cache) × (self.new.left ≡ self.old.left) }
+        ensures made { IsLentSweep K.eq K.word V.weight V.answers (call.Clear now) self.old self.new
+            notices.old notices.new result }
     {
         let cache = self.callers.cache();
         cache.invalidate_all(self.rt, &mut self.pass, now, notices)
@@ -223,10 +181,8 @@ impl<
     pub fn clean_up(&mut self, now: u64, notices: &mut Notices<K, V>) -> Result<(), Fault>
         requires room { self.old.cache.layout.shards * self.old.cache.layout.config.entries
             ≤ notices.old.room }
-
-        ensures made { IsSweepCall K.eq K.word V.weight V.answers self.old.cache.layout
-            (call.Clean now) self.old.pass self.new.pass notices.old notices.new result }
-        ensures same { (self.new.cache ≡ self.old.cache) × (self.new.left ≡ self.old.left) }
+        ensures made { IsLentSweep K.eq K.word V.weight V.answers (call.Clean now) self.old self.new
+            notices.old notices.new result }
     {
         let cache = self.callers.cache();
         cache.clean_up(self.rt, &mut self.pass, now, notices)

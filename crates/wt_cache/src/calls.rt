@@ -1,11 +1,10 @@
 // The calls that load nothing: each is the shards' own.
-ghost use Rattle.std.specs.Prelude.{◌≡◌, ◌*◌, ◌<◌, ◌≤◌, Err, IsTrue, IfOk, IfErr, true};
-ghost use Rattle.wt_keys.specs.declared.fault.Fault.TheVariants as fault;
-ghost use Rattle.wt_core.specs.Faults.{is_step_fault};
+ghost use Rattle.std.specs.Prelude.{◌*◌, ◌≤◌, IsTrue, IfOk};
 ghost use Rattle.wt_core.specs.declared.calls.Call.TheVariants as call;
 ghost use Rattle.wt_core.specs.declared.calls.Reply.TheVariants as reply;
 ghost use Rattle.wt_shards.specs.Contract.{IsHomeCall, IsSweepCall};
 ghost use Rattle.wt_shards.specs.Asked.{ReplyAnswers};
+ghost use Rattle.wt_cache.specs.Contract.{IsPutCall};
 
 use crate::cache::LoadingCache;
 use crate::loader::Loader;
@@ -61,14 +60,8 @@ impl<
         requires answers { IsTrue (V.answers value key) }
         requires room { self.now.layout.config.entries ≤ notices.old.room }
 
-        ensures made { IsHomeCall K.eq K.word V.weight V.answers self.now.layout key
-            (call.Put key value now) (λ _. reply.Stored) pass.old pass.new notices.old notices.new
-            result }
-        ensures heavy { self.now.layout.config.bound < V.weight value
-            → result ≡ Err (fault.TooHeavy (V.weight value) self.now.layout.config.bound) }
-        // No other value is too heavy.
-        ensures light { V.weight value ≤ self.now.layout.config.bound
-            → IfErr result (λ f. is_step_fault f ≡ true) }
+        ensures made { IsPutCall K.eq K.word V.weight V.answers self.now.layout key value now
+            pass.old pass.new notices.old notices.new result }
     {
         self.shards.put(rt, pass, key, value, now, notices)
     }

@@ -6,16 +6,13 @@
 // load is landed before it is published, and both for each lead once: landing borrows the lead,
 // publishing takes it away. So who is told a value finds it in the cache, unless it has left
 // meanwhile.
-ghost use Rattle.std.specs.Prelude.{◌≡◌, ◌≤◌, false, true, IsTrue, IfOk, IfErr, OnOk, OnErr, MatchResult};
+ghost use Rattle.std.specs.Prelude.{◌≡◌, ◌≤◌, true, IsTrue, IfOk, IfErr};
 ghost use Rattle.wt_flights.specs.Outcomes.{outcome_answers};
 ghost use Rattle.wt_shards.specs.Asked.{LandAnswers};
-ghost use Rattle.wt_core.specs.Faults.{is_step_fault};
 ghost use Rattle.wt_core.specs.declared.calls.Land.{Land as Landing};
 ghost use Rattle.wt_core.specs.declared.calls.Land.TheVariants as land;
-ghost use Rattle.wt_shards.specs.Passes.{with_step};
-ghost use Rattle.wt_shards.specs.Place.{home_of};
-ghost use Rattle.wt_shards.specs.Told.{HasTold};
-ghost use Rattle.wt_cache.specs.Gets.{IsSomeLanding, value_in};
+ghost use Rattle.wt_cache.specs.Contract.{IsLandCall};
+ghost use Rattle.wt_cache.specs.Gets.{value_in};
 ghost use Rattle.wt_cache.specs.Moves.{HasLanded, is_late_fault};
 
 use crate::cache::LoadingCache;
@@ -88,14 +85,8 @@ impl<
     ) -> Result<(), Fault>
         requires room { self.now.layout.config.entries ≤ notices.old.room }
         requires answers { LandAnswers V.answers lead.now.key what }
-        ensures moved { OnOk result
-            (pass.new ≡ with_step (home_of K.word lead.now.key self.now.layout) false pass.old) }
-        // At the moment of the seek.
-        ensures step { OnOk result (IsSomeLanding K.eq K.word V.weight V.answers self.now.layout
-            lead.now what notices.old notices.new) }
-        ensures told { HasTold self.now.layout.config.entries notices.old notices.new }
-        ensures faults { IfErr result (λ fault. is_step_fault fault ≡ true) }
-        ensures err { OnErr result ((pass.new ≡ pass.old) × (notices.new ≡ notices.old)) }
+        ensures made { IsLandCall K.eq K.word V.weight V.answers self.now.layout lead.now what
+            pass.old pass.new notices.old notices.new result }
     {
         let moment = lead.moment();
         self.shards.land(rt, pass, lead, what, moment, notices)?;
@@ -113,13 +104,8 @@ impl<
     ) -> Result<(), Fault>
         requires room { self.now.layout.config.entries ≤ notices.old.room }
         requires answers { IsTrue (V.answers value.now lead.now.key) }
-        ensures moved { OnOk result
-            (pass.new ≡ with_step (home_of K.word lead.now.key self.now.layout) false pass.old) }
-        ensures step { OnOk result ((what : Landing V) × IsSomeLanding K.eq K.word V.weight
-            V.answers self.now.layout lead.now what notices.old notices.new) }
-        ensures told { HasTold self.now.layout.config.entries notices.old notices.new }
-        ensures faults { IfErr result (λ fault. is_step_fault fault ≡ true) }
-        ensures err { OnErr result ((pass.new ≡ pass.old) × (notices.new ≡ notices.old)) }
+        ensures made { (what : Landing V) × IsLandCall K.eq K.word V.weight V.answers
+            self.now.layout lead.now what pass.old pass.new notices.old notices.new result }
     {
         let Ok(kept) = value.share() else {
             return self.land(rt, pass, lead, Land::Loose, notices);
@@ -140,14 +126,9 @@ impl<
         notices: &mut Notices<K, V>,
     ) -> Ran
         requires room { self.now.layout.config.entries ≤ notices.old.room }
-        ensures moved { MatchResult result.landed
-            (λ _. pass.new ≡ with_step (home_of K.word lead.key self.now.layout) false pass.old)
-            (λ _. pass.new ≡ pass.old) }
-        ensures step { OnOk result.landed ((what : Landing V) × IsSomeLanding K.eq K.word V.weight
-            V.answers self.now.layout lead what notices.old notices.new) }
+        ensures made { (what : Landing V) × IsLandCall K.eq K.word V.weight V.answers
+            self.now.layout lead what pass.old pass.new notices.old notices.new result.landed }
         ensures few { HasLanded 1 pass.old pass.new }
-        ensures told { HasTold self.now.layout.config.entries notices.old notices.new }
-        ensures faults { IfErr result.landed (λ fault. is_step_fault fault ≡ true) }
     {
         let key = lead.key();
         match self.loader.load(&key) {
@@ -180,15 +161,8 @@ impl<
         notices: &mut Notices<K, V>,
     ) -> Result<(), Fault>
         requires room { self.now.layout.config.entries ≤ notices.old.room }
-
-        ensures moved { OnOk result
-            (pass.new ≡ with_step (home_of K.word lead.key self.now.layout) false pass.old) }
-        ensures step { OnOk result (IsSomeLanding K.eq K.word V.weight V.answers self.now.layout
-            lead land.Failed notices.old notices.new) }
-
-        ensures told { HasTold self.now.layout.config.entries notices.old notices.new }
-        ensures faults { IfErr result (λ fault. is_step_fault fault ≡ true) }
-        ensures err { OnErr result ((pass.new ≡ pass.old) × (notices.new ≡ notices.old)) }
+        ensures made { IsLandCall K.eq K.word V.weight V.answers self.now.layout lead land.Failed
+            pass.old pass.new notices.old notices.new result }
     {
         let landed = self.land(rt, pass, &lead, Land::Failed, notices);
         announce(rt, lead, Outcome::Abandoned);

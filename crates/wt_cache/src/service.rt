@@ -1,7 +1,7 @@
 // One call that makes a cache, and runs threads over it.
-ghost use Rattle.std.specs.Prelude.{◌≡◌, ◌<◌, ℕ, Err, IfOk, IsOkUnless, MatchOption, slice_index_or, vec_len};
-ghost use Rattle.wt_keys.specs.declared.fault.Fault.TheVariants as fault;
-ghost use Rattle.wt_shards.specs.Opening.{AreBlanksOf, layout_fault};
+ghost use Rattle.std.specs.Prelude.{◌≡◌, IfOk, vec_len};
+ghost use Rattle.wt_shards.specs.Opening.{AreBlanksOf};
+ghost use Rattle.wt_cache.specs.Contract.{AreBrought, IsBrought, IsServed};
 
 use crate::cache::LoadingCache;
 use crate::caller::Caller;
@@ -18,8 +18,14 @@ use wt_shards::{Blanks, Books, Names, Of, Shards};
 
 /// A source of values, and what each thread does with a cache before it.
 pub trait Service<K: CacheKey, V: Share + Weighs + Answers<K> + Send + Sync>: Loader<K, V> {
+    ghost use Rattle.std.specs.Prelude.{⊤, ℕ, Result};
+    ghost use Rattle.wt_keys.specs.declared.fault.Fault.{Fault};
+
     /// What a thread returns.
     type Answer: Send + Drop;
+
+    /// What the work of a thread may return, by its number: anything, unless the service says it.
+    ghost gives: { Self → ℕ → Result Self.Answer Fault → Type 0 } = { λ _ _ _. ⊤ };
 
     /// Does the work of one thread, by its number from 0. What it returns, `serve` returns for it.
     ///
@@ -28,7 +34,8 @@ pub trait Service<K: CacheKey, V: Share + Weighs + Answers<K> + Send + Sync>: Lo
         &self,
         thread: usize,
         caller: &mut Caller<K, V, &Self, B, R>,
-    ) -> Result<Self::Answer, Fault>;
+    ) -> Result<Self::Answer, Fault>
+        ensures { gives self.now thread result };
 }
 
 /// Makes a cache of `shards` shards before the service, 1, 2 or 4 of them, each for this
@@ -51,9 +58,7 @@ pub fn serve<
     threads: usize,
     service: &S,
 ) -> Result<Vec<Result<S::Answer, Fault>>, Fault>
-    ensures len { IfOk result (λ answers. vec_len answers ≡ threads) }
-    ensures refusal { MatchOption (layout_fault shards config.now)
-        (IsOkUnless result fault.NoMemory) (λ field. result ≡ Err (fault.BadConfig field)) }
+    ensures made { IsServed (S.gives service.now) config.now shards threads result }
 {
     serve_as::<K, V, S, Brand, R>(rt, alloc, Blanks::new(), config, shards, threads, service)
 }
@@ -76,9 +81,7 @@ fn serve_as<
 ) -> Result<Vec<Result<S::Answer, Fault>>, Fault>
     requires layout { N.layout ≡ record { shards = shards; config = config.now } }
     requires blanks { AreBlanksOf N.name blanks }
-    ensures len { IfOk result (λ answers. vec_len answers ≡ threads) }
-    ensures refusal { MatchOption (layout_fault shards config.now)
-        (IsOkUnless result fault.NoMemory) (λ field. result ≡ Err (fault.BadConfig field)) }
+    ensures made { IsServed (S.gives service.now) config.now shards threads result }
 {
     match Shards::<K, V, Of<N>>::new(rt, alloc, blanks, config, shards) {
         Ok(made) => match serve_over(rt, alloc, made, threads, service) {
@@ -103,7 +106,9 @@ fn serve_over<
     threads: usize,
     service: &S,
 ) -> Result<Vec<Result<S::Answer, Fault>>, NoMemory>
-    ensures { IfOk result (λ answers. vec_len answers ≡ threads) }
+    ensures len { IfOk result (λ answers. vec_len answers ≡ threads) }
+    ensures each { IfOk result (λ answers.
+        AreBrought (S.gives service.now) threads answers.items) }
 {
     let cache: LoadingCache<K, V, &S, Of<N>> = LoadingCache::new(shards, service, None);
     let callers = Callers::new(alloc, cache);
@@ -112,7 +117,9 @@ fn serve_over<
         rt,
         alloc,
         threads,
-        &|thread: usize| -> Result<S::Answer, Fault> { work_at(rt, shared, service, thread) },
+        &|thread: usize| -> Result<S::Answer, Fault>
+            ensures { IsBrought (S.gives service.entry.now thread) result }
+        { work_at(rt, shared, service, thread) },
     )?;
     Ok(answers)
 }
@@ -124,7 +131,9 @@ fn work_at<
     S: Service<K, V>,
     B: Books,
     R: Wait,
->(rt: &R, callers: &Callers<K, V, &S, B>, service: &S, thread: usize) -> Result<S::Answer, Fault> {
+>(rt: &R, callers: &Callers<K, V, &S, B>, service: &S, thread: usize) -> Result<S::Answer, Fault>
+    ensures { IsBrought (S.gives service.now thread) result }
+{
     let mut caller = callers.lend(rt)?;
     let answer = service.work(thread, &mut caller);
     caller.give_back();

@@ -4,11 +4,23 @@ use Rattle.wt_shards.specs.Opening.{layout_fault}
 use Rattle.wt_cache.proofs.Refusals.{passed-on, accepted}
 use Rattle.wt_cache.proofs.service.serve_as.Goals as goal
 
-pub returns-in-Ok-serve_over-clause-refusal : goal.returns-in-Ok-serve_over-clause-refusal
-returns-in-Ok-serve_over-clause-refusal g c = accepted _ _ (layout_fault c.args.shards c.args.config.now) c.in-Ok.made (Ok c.in-Ok-serve_over.answers) c.in-Ok.ensures.refusal tt
+pub returns-in-Ok-serve_over : goal.returns-in-Ok-serve_over
+returns-in-Ok-serve_over g c = record {
+  len = c.in-Ok-serve_over.ensures.len;
+  each = c.in-Ok-serve_over.ensures.each;
+  refusal = accepted _ _ (layout_fault c.args.shards c.args.config.now) c.in-Ok.made (Ok c.in-Ok-serve_over.answers) c.in-Ok.ensures.refusal tt;
+}
 
-pub returns-in-Err-serve_over-clause-refusal : goal.returns-in-Err-serve_over-clause-refusal
-returns-in-Err-serve_over-clause-refusal g c = accepted _ _ (layout_fault c.args.shards c.args.config.now) c.in-Ok.made (Err fault.NoMemory) c.in-Ok.ensures.refusal refl
+pub returns-in-Err-serve_over : goal.returns-in-Err-serve_over
+returns-in-Err-serve_over g c = record {
+  len = tt;
+  each = tt;
+  refusal = accepted _ _ (layout_fault c.args.shards c.args.config.now) c.in-Ok.made (Err fault.NoMemory) c.in-Ok.ensures.refusal refl;
+}
 
-pub returns-in-Err-clause-refusal : goal.returns-in-Err-clause-refusal
-returns-in-Err-clause-refusal g c = passed-on _ _ (layout_fault c.args.shards c.args.config.now) c.in-Err.fault c.in-Err.ensures.refusal
+pub returns-in-Err : goal.returns-in-Err
+returns-in-Err g c = record {
+  len = tt;
+  each = tt;
+  refusal = passed-on _ _ (layout_fault c.args.shards c.args.config.now) c.in-Err.fault c.in-Err.ensures.refusal;
+}
