@@ -28,6 +28,8 @@ impl<K: CacheKey, V: Share + Weighs> Core<K, V> {
     ///
     /// `NoMemory` alone is an error, and then nothing has changed. Takes what the call's own step
     /// takes.
+    // Inlined, so that the kind of call is known where its caller makes it.
+    #[inline(always)]
     pub fn take(
         &mut self,
         call: Call<K, V>,
