@@ -103,6 +103,7 @@ pub(crate) fn find_kept<K: Copy, V: Drop>(
 }
 
 // Takes the landing out that the call closes, and adds the one that it opens.
+#[inline(always)]
 pub(crate) fn change<K: CacheKey, V: Drop>(
     landings: &mut Vec<Kept<K, V>>,
     call: &Call<K, Shade>,
@@ -122,6 +123,7 @@ pub(crate) fn change<K: CacheKey, V: Drop>(
 }
 
 // Takes the landing out that the call closes.
+#[inline(always)]
 fn close<K: CacheKey, V: Drop>(landings: &mut Vec<Kept<K, V>>, call: &Call<K, Shade>)
     requires rising { AreRising landings.old.items }
     ensures items { landings.new.items ≡ still_open K.eq call.now landings.old.items }

@@ -80,6 +80,7 @@ impl<K: CacheKey, V: Share + Weighs + Answers<K>, S: ShardLedger, H: Ledger> Sha
     }
 
     // Makes the step of a call that the state doesn't refuse, after which so many loads are open.
+    #[inline(always)]
     #[tactic(auto, using(crate::proofs::Told::told_none, crate::proofs::Loads::empty_takes_none))]
     pub(crate) fn make_allowed(
         &mut self,
@@ -146,6 +147,7 @@ impl<K: CacheKey, V: Share + Weighs + Answers<K>, S: ShardLedger, H: Ledger> Sha
 
     // Moves the fewest oldest records over, so that one is recorded and so many loads have a place
     // after it.
+    #[inline(always)]
     pub(crate) fn make_room(&mut self, rows: usize) -> Result<(), NoMemory>
         requires rows { rows ≤ self.old.config.flights }
         ensures ok { OnOk result
@@ -170,6 +172,7 @@ impl<K: CacheKey, V: Share + Weighs + Answers<K>, S: ShardLedger, H: Ledger> Sha
 }
 
 // Whether a reply counts as a hit.
+#[inline(always)]
 fn hits<V>(reply: &Reply<V>) -> bool
     ensures { result ≡ is_hit reply.now }
 {
