@@ -14,7 +14,7 @@ use Rattle.wt_shards.specs.Counts.{Counted, counted, is_hit}
 use Rattle.wt_shards.specs.Outer.{IsSomeStep, HasCause}
 use Rattle.wt_shards.specs.Passes.{Passed, with_step, with_steps, steps_at}
 use Rattle.wt_shards.specs.Place.{Layout, Place, home_of, place_of}
-use Rattle.wt_shards.specs.Sweeps.{AreSwept}
+use Rattle.wt_shards.specs.Sweeps.{AreSwept, IsSwept}
 use Rattle.wt_shards.specs.Told.{HasTold}
 use Rattle.wt_shards.specs.declared.done.Done.{Done}
 
@@ -81,6 +81,25 @@ pub record IsHomeCall {K V R : Type 0} (eq : K → K → Bool) (word : K → ℕ
   -- whatever is returned: few notices, and no room lost
   pub told : HasTold l.config.entries before list
   -- a fault leaves the pass and the notices
+  pub err : OnErr result ((new ≡ old) × (list ≡ before))
+
+-- what a sweep promises at one shard: a step there of some lawful state, or a refusal that moves nothing. `next` is what the caller's
+-- shares, or the pass, come to by that step
+pub record IsSweptCall {K V M : Type 0} (eq : K → K → Bool) (word : K → ℕ) (weight : V → ℕ) (answers : V → K → Bool) (p : Place) (c : Call K V)
+    (next old new : M) (before list : NoticeList K V) (result : Result (Unit {0}) Fault) : Type 0 where
+  -- the caller's shares, or the pass, count the step
+  pub moved : OnOk result (new ≡ next)
+  -- in some lawful state of the shard the call makes its step, with these notices
+  pub step : OnOk result (IsSwept eq word weight answers p c before list)
+  -- at least so much room is left
+  pub few : OnOk result (before.room ≤ list.room + p.config.entries)
+  -- no other fault comes than a step's
+  pub faults : IfErr result (λ f. is_step_fault f ≡ true)
+  -- memory is refused, or some lawful state of the shard refuses the call by this fault
+  pub cause : IfErr result (HasCause eq word weight answers p c)
+  -- whatever is returned: few notices, and no room lost
+  pub told : HasTold p.config.entries before list
+  -- a fault leaves the caller's shares, or the pass, and the notices
   pub err : OnErr result ((new ≡ old) × (list ≡ before))
 
 -- what a call promises that goes to each shard in turn, and stops at the first fault

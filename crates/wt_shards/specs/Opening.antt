@@ -1,11 +1,12 @@
 -- What shards are made of.
-use Rattle.std.specs.Prelude.{ℕ, ◌==◌, ◌||◌, if◌then◌else◌, Option, Some, [], ◌∷◌, slice_index_or}
+use Rattle.std.specs.Prelude.{◌≡◌, ℕ, ◌==◌, ◌||◌, if◌then◌else◌, Option, Some, [], ◌∷◌, slice_index_or}
 use Rattle.std.specs.declared.sync.ledger.Blank.{Blank}
 use Rattle.wt_keys.specs.declared.fault.Field.{Field}
 use Rattle.wt_keys.specs.declared.fault.Field.TheVariants.{Shards}
 use Rattle.wt_core.specs.declared.config.Config.{Config}
 use Rattle.wt_core.specs.State.{config_fault}
 use Rattle.wt_shards.specs.Counts.{IsBlankOf}
+use Rattle.wt_shards.specs.Place.{Layout, Place, place_of}
 use Rattle.wt_shards.specs.declared.books.Blanks.{Blanks}
 
 -- the first field that is out of its range
@@ -31,3 +32,8 @@ AreBlanksOf name b =
     × IsBlankOf b.s1 (name 2) 65536 × IsBlankOf b.h1 (name 3) 65536
     × IsBlankOf b.s2 (name 4) 65536 × IsBlankOf b.h2 (name 5) 65536
     × IsBlankOf b.s3 (name 6) 65536 × IsBlankOf b.h3 (name 7) 65536
+
+-- the four places of shards that are laid out so
+abbrev pub ArePlacesOf : Layout → Place → Place → Place → Place → Type 0
+ArePlacesOf l zero one two three =
+    (zero ≡ place_of 0 l) × (one ≡ place_of 1 l) × (two ≡ place_of 2 l) × (three ≡ place_of 3 l)

@@ -12,7 +12,7 @@ const LONGEST_PAUSE: u32 = 7;
 // Takes a shard's lock. A step under it takes less time than going to sleep and being woken, and
 // once a caller sleeps each release of the lock is a call of the system. So a caller that finds the
 // lock held tries again, after pauses that grow, and sleeps only if all tries fail.
-#[inline]
+#[inline(always)]
 pub(crate) fn hold<'a, T, R: Wait>(rt: &R, shard: &'a Mutex<T>) -> MutexGuard<'a, T> {
     if let Some(guard) = shard.try_lock() {
         return guard;

@@ -18,9 +18,9 @@ use wt_core::{Call, Foreseen, Notices, Reply, Weighs};
 use wt_keys::{Answers, CacheKey, Fault, Share};
 
 impl<K: CacheKey, V: Share + Weighs + Answers<K>, S: ShardLedger, H: Ledger> Shard<K, V, S, H> {
-    ghost use Rattle.wt_shards.specs.Asked.{ReplyAnswers};
+    ghost use Rattle.wt_shards.specs.Asked.{MayAsk, ReplyAnswers};
     ghost use Rattle.wt_core.specs.Step.{step, refusal_of};
-    ghost use Rattle.wt_shards.specs.Audited.{IsCaughtUp, IsHome, shard_step};
+    ghost use Rattle.wt_shards.specs.Audited.{IsCaughtUp, shard_step};
     ghost use Rattle.wt_shards.specs.Sought.{IsOfLandings, opened_by, reply_of};
 
     /// Looks the key up at the moment `now`, in milliseconds, and answers `Hit` with a share of its
@@ -35,8 +35,8 @@ impl<K: CacheKey, V: Share + Weighs + Answers<K>, S: ShardLedger, H: Ledger> Sha
         now: u64,
         notices: &mut Notices<K, V>,
     ) -> Result<Reply<V>, Fault>
-        requires home { IsHome K.word S.ShardLedger.place.shards S.ShardLedger.place.index key }
-        requires room { S.ShardLedger.place.config.entries ≤ notices.old.room }
+        requires asked { MayAsk V.answers K.word S.ShardLedger.place
+            (call.Look key now) notices.old }
 
         ensures made { IsShardCall K.eq K.word V.weight S.ShardLedger.place.config.entries
             (call.Look key now) (λ reply. reply) (λ _. []) self.old self.new mine.old mine.new
@@ -61,8 +61,8 @@ impl<K: CacheKey, V: Share + Weighs + Answers<K>, S: ShardLedger, H: Ledger> Sha
         now: u64,
         notices: &mut Notices<K, V>,
     ) -> Result<Sought<K, V>, Fault>
-        requires home { IsHome K.word S.ShardLedger.place.shards S.ShardLedger.place.index key }
-        requires room { S.ShardLedger.place.config.entries ≤ notices.old.room }
+        requires asked { MayAsk V.answers K.word S.ShardLedger.place
+            (call.Seek key now) notices.old }
 
         ensures state { IfOk result (λ sought. self.new
             ≡ shard_step K.eq K.word V.weight (call.Seek key now) (opened_by sought) self.old) }

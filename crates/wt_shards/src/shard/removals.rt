@@ -12,7 +12,7 @@ use wt_core::{Call, Notices, Reply, Weighs};
 use wt_keys::{Answers, CacheKey, Fault, Share};
 
 impl<K: CacheKey, V: Share + Weighs + Answers<K>, S: ShardLedger, H: Ledger> Shard<K, V, S, H> {
-    ghost use Rattle.wt_shards.specs.Audited.{IsHome};
+    ghost use Rattle.wt_shards.specs.Asked.{MayAsk};
 
     /// Takes the key's entry out, and answers whether an unexpired one left. Its current load is no
     /// longer joined.
@@ -27,8 +27,8 @@ impl<K: CacheKey, V: Share + Weighs + Answers<K>, S: ShardLedger, H: Ledger> Sha
         now: u64,
         notices: &mut Notices<K, V>,
     ) -> Result<bool, Fault>
-        requires home { IsHome K.word S.ShardLedger.place.shards S.ShardLedger.place.index key }
-        requires room { S.ShardLedger.place.config.entries ≤ notices.old.room }
+        requires asked { MayAsk V.answers K.word S.ShardLedger.place
+            (call.DropKey key now) notices.old }
 
         ensures made { IsShardCall K.eq K.word V.weight S.ShardLedger.place.config.entries
             (call.DropKey key now) reply.Dropped (λ _. []) self.old self.new mine.old mine.new
@@ -73,8 +73,8 @@ impl<K: CacheKey, V: Share + Weighs + Answers<K>, S: ShardLedger, H: Ledger> Sha
         now: u64,
         notices: &mut Notices<K, V>,
     ) -> Result<bool, Fault>
-        requires home { IsHome K.word S.ShardLedger.place.shards S.ShardLedger.place.index key }
-        requires room { S.ShardLedger.place.config.entries ≤ notices.old.room }
+        requires asked { MayAsk V.answers K.word S.ShardLedger.place
+            (call.Forget key now) notices.old }
 
         ensures made { IsShardCall K.eq K.word V.weight S.ShardLedger.place.config.entries
             (call.Forget key now) reply.Forgot (λ _. []) self.old self.new mine.old mine.new

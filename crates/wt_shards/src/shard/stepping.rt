@@ -21,7 +21,7 @@ use wt_keys::{Answers, CacheKey, Fault, NoMemory, Share};
 impl<K: CacheKey, V: Share + Weighs + Answers<K>, S: ShardLedger, H: Ledger> Shard<K, V, S, H> {
     ghost use Rattle.wt_core.specs.Landings.{IsLanding, IsEmptyLanding, TakesNone};
     ghost use Rattle.wt_core.specs.Step.{step, refusal_of};
-    ghost use Rattle.wt_shards.specs.Asked.{AnswersAsked, IsAsked};
+    ghost use Rattle.wt_shards.specs.Asked.{AnswersAsked, MayAsk};
     ghost use Rattle.wt_shards.specs.Audited.{IsAudited, IsCaughtUp, excess, load_at, load_of, moved, need, places, shard_step, still_open};
 
     // Makes the call's step and records it; the landing is that of the load which the step opens.
@@ -35,9 +35,7 @@ impl<K: CacheKey, V: Share + Weighs + Answers<K>, S: ShardLedger, H: Ledger> Sha
         opened: Option<Kept<K, V>>,
         notices: &mut Notices<K, V>,
     ) -> Result<Reply<V>, Fault>
-        requires asked { IsAsked V.answers K.word
-            S.ShardLedger.place.shards S.ShardLedger.place.index call }
-        requires room { S.ShardLedger.place.config.entries ≤ notices.old.room }
+        requires asked { MayAsk V.answers K.word S.ShardLedger.place call notices.old }
         // Where each open load has one landing, each has one after the call.
         requires landed { refusal_of K.eq K.word V.weight self.old.core call ≡ None
             → IsAudited K.eq K.word V.weight V.answers
@@ -90,9 +88,7 @@ impl<K: CacheKey, V: Share + Weighs + Answers<K>, S: ShardLedger, H: Ledger> Sha
         opened: Option<Kept<K, V>>,
         notices: &mut Notices<K, V>,
     ) -> Result<Reply<V>, Fault>
-        requires asked { IsAsked V.answers K.word
-            S.ShardLedger.place.shards S.ShardLedger.place.index call }
-        requires room { S.ShardLedger.place.config.entries ≤ notices.old.room }
+        requires asked { MayAsk V.answers K.word S.ShardLedger.place call notices.old }
         requires allowed { refusal_of K.eq K.word V.weight self.old.core call ≡ None }
         requires rows { rows
             ≡ length (step K.eq K.word V.weight self.old.core call).state.flights.rows }

@@ -1,5 +1,5 @@
 // Stores of a shard: by a caller, and by the landing of a load.
-ghost use Rattle.std.specs.Prelude.{◌≡◌, ◌≤◌, [], IsOk, IsTrue, is_some};
+ghost use Rattle.std.specs.Prelude.{◌≡◌, [], IsOk, IsTrue, is_some};
 ghost use Rattle.wt_core.specs.declared.calls.Call.TheVariants as call;
 ghost use Rattle.wt_core.specs.declared.calls.Reply.TheVariants as reply;
 ghost use Rattle.wt_flights.specs.Rows.{row_of};
@@ -14,8 +14,8 @@ use wt_core::{Call, Land, Notices, Reply, Weighs};
 use wt_keys::{Answers, CacheKey, Fault, Share};
 
 impl<K: CacheKey, V: Share + Weighs + Answers<K>, S: ShardLedger, H: Ledger> Shard<K, V, S, H> {
-    ghost use Rattle.wt_shards.specs.Asked.{LandAnswers};
-    ghost use Rattle.wt_shards.specs.Audited.{IsHome, excess};
+    ghost use Rattle.wt_shards.specs.Asked.{MayAsk};
+    ghost use Rattle.wt_shards.specs.Audited.{excess};
 
     /// Stores the value under the key, in place of one that is there.
     ///
@@ -30,9 +30,8 @@ impl<K: CacheKey, V: Share + Weighs + Answers<K>, S: ShardLedger, H: Ledger> Sha
         now: u64,
         notices: &mut Notices<K, V>,
     ) -> Result<(), Fault>
-        requires home { IsHome K.word S.ShardLedger.place.shards S.ShardLedger.place.index key }
-        requires answers { IsTrue (V.answers value key) }
-        requires room { S.ShardLedger.place.config.entries ≤ notices.old.room }
+        requires asked { MayAsk V.answers K.word S.ShardLedger.place
+            (call.Put key value now) notices.old }
 
         ensures made { IsShardCall K.eq K.word V.weight S.ShardLedger.place.config.entries
             (call.Put key value now) (λ _. reply.Stored) (λ _. []) self.old self.new mine.old
@@ -58,9 +57,8 @@ impl<K: CacheKey, V: Share + Weighs + Answers<K>, S: ShardLedger, H: Ledger> Sha
         now: u64,
         notices: &mut Notices<K, V>,
     ) -> Result<Reply<V>, Fault>
-        requires home { IsHome K.word S.ShardLedger.place.shards S.ShardLedger.place.index key }
-        requires answers { LandAnswers V.answers key what }
-        requires room { S.ShardLedger.place.config.entries ≤ notices.old.room }
+        requires asked { MayAsk V.answers K.word S.ShardLedger.place
+            (call.Land id key what now) notices.old }
 
         ensures made { IsShardCall K.eq K.word V.weight S.ShardLedger.place.config.entries
             (call.Land id key what now) (λ reply. reply) (λ _. []) self.old self.new mine.old

@@ -1,12 +1,11 @@
 // One step at one shard, under its lock.
-ghost use Rattle.std.specs.Prelude.{◌≡◌, ◌<◌, ◌≤◌, Err, IsTrue, IfOk, IfErr, true};
+ghost use Rattle.std.specs.Prelude.{◌≡◌, ◌<◌, ◌≤◌, Err, IfOk, IfErr, true};
 ghost use Rattle.wt_keys.specs.declared.fault.Fault.TheVariants as fault;
 ghost use Rattle.wt_core.specs.Faults.{is_step_fault};
 ghost use Rattle.wt_core.specs.declared.calls.Call.TheVariants as call;
 ghost use Rattle.wt_core.specs.declared.calls.Reply.TheVariants as reply;
 ghost use Rattle.wt_shards.specs.Contract.{IsLockedCall};
-ghost use Rattle.wt_shards.specs.Asked.{LandAnswers, ReplyAnswers};
-ghost use Rattle.wt_shards.specs.Audited.{IsHome};
+ghost use Rattle.wt_shards.specs.Asked.{MayAsk, ReplyAnswers};
 ghost use Rattle.wt_shards.specs.Outer.{IsOfKey};
 ghost use Rattle.wt_shards.specs.Sought.{reply_of};
 
@@ -37,8 +36,7 @@ pub(crate) fn look_at<
     now: u64,
     notices: &mut Notices<K, V>,
 ) -> Result<Done<Reply<V>>, Fault>
-    requires home { IsHome K.word S.ShardLedger.place.shards S.ShardLedger.place.index key }
-    requires room { S.ShardLedger.place.config.entries ≤ notices.old.room }
+    requires asked { MayAsk V.answers K.word S.ShardLedger.place (call.Look key now) notices.old }
     ensures made { IsLockedCall K.eq K.word V.weight V.answers S.ShardLedger.place
         (call.Look key now) (λ reply. reply) mine.old mine.new notices.old notices.new result }
     ensures answers { IfOk result (λ done. ReplyAnswers V.answers key done.reply) }
@@ -68,8 +66,7 @@ pub(crate) fn seek_at<
     now: u64,
     notices: &mut Notices<K, V>,
 ) -> Result<Done<Sought<K, V>>, Fault>
-    requires home { IsHome K.word S.ShardLedger.place.shards S.ShardLedger.place.index key }
-    requires room { S.ShardLedger.place.config.entries ≤ notices.old.room }
+    requires asked { MayAsk V.answers K.word S.ShardLedger.place (call.Seek key now) notices.old }
     ensures made { IsLockedCall K.eq K.word V.weight V.answers S.ShardLedger.place
         (call.Seek key now) reply_of mine.old mine.new notices.old notices.new result }
     ensures answers { IfOk result (λ done. ReplyAnswers V.answers key (reply_of done.reply)) }
@@ -101,10 +98,8 @@ pub(crate) fn land_at<
     now: u64,
     notices: &mut Notices<K, V>,
 ) -> Result<Done<Reply<V>>, Fault>
-    requires home { IsHome K.word S.ShardLedger.place.shards S.ShardLedger.place.index
-        lead.now.key }
-    requires room { S.ShardLedger.place.config.entries ≤ notices.old.room }
-    requires answers { LandAnswers V.answers lead.now.key what }
+    requires asked { MayAsk V.answers K.word S.ShardLedger.place
+        (call.Land lead.now.id lead.now.key what now) notices.old }
     ensures made { IsLockedCall K.eq K.word V.weight V.answers S.ShardLedger.place
         (call.Land lead.now.id lead.now.key what now) (λ reply. reply) mine.old mine.new
         notices.old notices.new result }
@@ -135,9 +130,8 @@ pub(crate) fn put_at<
     now: u64,
     notices: &mut Notices<K, V>,
 ) -> Result<Done<()>, Fault>
-    requires home { IsHome K.word S.ShardLedger.place.shards S.ShardLedger.place.index key }
-    requires room { S.ShardLedger.place.config.entries ≤ notices.old.room }
-    requires answers { IsTrue (V.answers value key) }
+    requires asked { MayAsk V.answers K.word S.ShardLedger.place
+        (call.Put key value now) notices.old }
     ensures made { IsLockedCall K.eq K.word V.weight V.answers S.ShardLedger.place
         (call.Put key value now) (λ _. reply.Stored) mine.old mine.new notices.old notices.new
         result }
@@ -171,8 +165,8 @@ pub(crate) fn drop_key_at<
     now: u64,
     notices: &mut Notices<K, V>,
 ) -> Result<Done<bool>, Fault>
-    requires home { IsHome K.word S.ShardLedger.place.shards S.ShardLedger.place.index key }
-    requires room { S.ShardLedger.place.config.entries ≤ notices.old.room }
+    requires asked { MayAsk V.answers K.word S.ShardLedger.place
+        (call.DropKey key now) notices.old }
     ensures made { IsLockedCall K.eq K.word V.weight V.answers S.ShardLedger.place
         (call.DropKey key now) reply.Dropped mine.old mine.new notices.old notices.new result }
 {
@@ -201,8 +195,7 @@ pub(crate) fn forget_at<
     now: u64,
     notices: &mut Notices<K, V>,
 ) -> Result<Done<bool>, Fault>
-    requires home { IsHome K.word S.ShardLedger.place.shards S.ShardLedger.place.index key }
-    requires room { S.ShardLedger.place.config.entries ≤ notices.old.room }
+    requires asked { MayAsk V.answers K.word S.ShardLedger.place (call.Forget key now) notices.old }
     ensures made { IsLockedCall K.eq K.word V.weight V.answers S.ShardLedger.place
         (call.Forget key now) reply.Forgot mine.old mine.new notices.old notices.new result }
 {

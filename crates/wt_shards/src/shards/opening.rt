@@ -3,7 +3,7 @@ ghost use Rattle.std.specs.Prelude.{◌≡◌, ◌+◌, ◌*◌, ◌<◌, ◌≤
 ghost use Rattle.wt_keys.specs.declared.fault.Fault.TheVariants as fault;
 ghost use Rattle.wt_shards.specs.Counts.{IsBlankOf, no_steps};
 ghost use Rattle.wt_core.specs.Lawful.{AreSmall};
-ghost use Rattle.wt_shards.specs.Opening.{AreBlanks, layout_fault};
+ghost use Rattle.wt_shards.specs.Opening.{AreBlanks, ArePlacesOf, layout_fault};
 ghost use Rattle.wt_shards.specs.Passes.{counts_of, new_pass};
 ghost use Rattle.wt_shards.specs.Place.{place_of};
 
@@ -76,22 +76,13 @@ impl<K: CacheKey, V: Share + Weighs + Answers<K> + Send + Sync, B: Books> Shards
         config: &Config,
         shards: usize,
     ) -> Result<Shards<K, V, B>, Fault>
-        requires zero { B.S0.ShardLedger.place
-            ≡ place_of 0 (record { shards = shards; config = config.now }) }
-        requires one { B.S1.ShardLedger.place
-            ≡ place_of 1 (record { shards = shards; config = config.now }) }
-        requires two { B.S2.ShardLedger.place
-            ≡ place_of 2 (record { shards = shards; config = config.now }) }
-        requires three { B.S3.ShardLedger.place
-            ≡ place_of 3 (record { shards = shards; config = config.now }) }
-        requires blanks { AreBlanks B.S0.Ledger.name B.S0.Ledger.parts
-            B.H0.name B.H0.parts blanks.s0 blanks.h0 }
-        requires blanks_1 { AreBlanks B.S1.Ledger.name B.S1.Ledger.parts
-            B.H1.name B.H1.parts blanks.s1 blanks.h1 }
-        requires blanks_2 { AreBlanks B.S2.Ledger.name B.S2.Ledger.parts
-            B.H2.name B.H2.parts blanks.s2 blanks.h2 }
-        requires blanks_3 { AreBlanks B.S3.Ledger.name B.S3.Ledger.parts
-            B.H3.name B.H3.parts blanks.s3 blanks.h3 }
+        requires layout { ArePlacesOf (record { shards = shards; config = config.now })
+            B.S0.ShardLedger.place B.S1.ShardLedger.place B.S2.ShardLedger.place
+            B.S3.ShardLedger.place }
+        requires blanks { AreBlanks B.S0.Ledger.name B.S0.Ledger.parts B.H0.name B.H0.parts blanks.s0 blanks.h0
+            × AreBlanks B.S1.Ledger.name B.S1.Ledger.parts B.H1.name B.H1.parts blanks.s1 blanks.h1
+            × AreBlanks B.S2.Ledger.name B.S2.Ledger.parts B.H2.name B.H2.parts blanks.s2 blanks.h2
+            × AreBlanks B.S3.Ledger.name B.S3.Ledger.parts B.H3.name B.H3.parts blanks.s3 blanks.h3 }
 
         ensures ok { IfOk result (λ made. made ≡ record { shards = shards; config = config.now }) }
         ensures refusal { MatchOption (layout_fault shards config.now)
@@ -119,22 +110,13 @@ impl<K: CacheKey, V: Share + Weighs + Answers<K> + Send + Sync, B: Books> Shards
         shards: usize,
     ) -> Result<Shards<K, V, B>, Fault>
         requires number { IsTrue (shards == 1 || (shards == 2 || shards == 4)) }
-        requires zero { B.S0.ShardLedger.place
-            ≡ place_of 0 (record { shards = shards; config = config.now }) }
-        requires one { B.S1.ShardLedger.place
-            ≡ place_of 1 (record { shards = shards; config = config.now }) }
-        requires two { B.S2.ShardLedger.place
-            ≡ place_of 2 (record { shards = shards; config = config.now }) }
-        requires three { B.S3.ShardLedger.place
-            ≡ place_of 3 (record { shards = shards; config = config.now }) }
-        requires blanks { AreBlanks B.S0.Ledger.name B.S0.Ledger.parts
-            B.H0.name B.H0.parts blanks.s0 blanks.h0 }
-        requires blanks_1 { AreBlanks B.S1.Ledger.name B.S1.Ledger.parts
-            B.H1.name B.H1.parts blanks.s1 blanks.h1 }
-        requires blanks_2 { AreBlanks B.S2.Ledger.name B.S2.Ledger.parts
-            B.H2.name B.H2.parts blanks.s2 blanks.h2 }
-        requires blanks_3 { AreBlanks B.S3.Ledger.name B.S3.Ledger.parts
-            B.H3.name B.H3.parts blanks.s3 blanks.h3 }
+        requires layout { ArePlacesOf (record { shards = shards; config = config.now })
+            B.S0.ShardLedger.place B.S1.ShardLedger.place B.S2.ShardLedger.place
+            B.S3.ShardLedger.place }
+        requires blanks { AreBlanks B.S0.Ledger.name B.S0.Ledger.parts B.H0.name B.H0.parts blanks.s0 blanks.h0
+            × AreBlanks B.S1.Ledger.name B.S1.Ledger.parts B.H1.name B.H1.parts blanks.s1 blanks.h1
+            × AreBlanks B.S2.Ledger.name B.S2.Ledger.parts B.H2.name B.H2.parts blanks.s2 blanks.h2
+            × AreBlanks B.S3.Ledger.name B.S3.Ledger.parts B.H3.name B.H3.parts blanks.s3 blanks.h3 }
         ensures { IfOk result (λ made. made ≡ record { shards = shards; config = config.now }) }
     {
         let Blanks {

@@ -1,14 +1,11 @@
 // Steps at every shard, one after the other.
-ghost use Rattle.std.specs.Prelude.{◌≡◌, ◌+◌, ◌*◌, ◌<◌, ◌≤◌, false, true, IfErr, OnOk, OnErr};
+ghost use Rattle.std.specs.Prelude.{◌*◌, ◌<◌, ◌≤◌, false};
 ghost use Rattle.wt_core.specs.declared.calls.Call.TheVariants as call;
-ghost use Rattle.wt_shards.specs.Contract.{IsSweepCall};
+ghost use Rattle.wt_shards.specs.Contract.{IsSweepCall, IsSweptCall};
 ghost use Rattle.wt_shards.specs.Counts.{counted};
-ghost use Rattle.wt_shards.specs.Outer.{HasCause};
 ghost use Rattle.wt_shards.specs.Place.{place_of};
 ghost use Rattle.wt_shards.specs.Passes.{with_step};
-ghost use Rattle.wt_core.specs.Faults.{is_step_fault};
-ghost use Rattle.wt_shards.specs.Told.{HasTold};
-ghost use Rattle.wt_shards.specs.Sweeps.{IsSwept, call_of};
+ghost use Rattle.wt_shards.specs.Sweeps.{call_of};
 
 use crate::at_home::at_home;
 use crate::books::Books;
@@ -41,16 +38,9 @@ fn sweep_at<
     notices: &mut Notices<K, V>,
 ) -> Result<(), Fault>
     requires room { S.ShardLedger.place.config.entries ≤ notices.old.room }
-    ensures moved { OnOk result (mine.new ≡ counted false mine.old) }
-    ensures step { OnOk result (IsSwept K.eq K.word V.weight V.answers
-        S.ShardLedger.place (call_of sweep now) notices.old notices.new) }
-    ensures few { OnOk result
-        (notices.old.room ≤ notices.new.room + S.ShardLedger.place.config.entries) }
-    ensures err { OnErr result ((mine.new ≡ mine.old) × (notices.new ≡ notices.old)) }
-    ensures told { HasTold S.ShardLedger.place.config.entries notices.old notices.new }
-    ensures faults { IfErr result (λ fault. is_step_fault fault ≡ true) }
-    ensures cause { IfErr result (HasCause K.eq K.word V.weight V.answers
-        S.ShardLedger.place (call_of sweep now)) }
+    ensures made { IsSweptCall K.eq K.word V.weight V.answers S.ShardLedger.place
+        (call_of sweep now) (counted false mine.old) mine.old mine.new notices.old notices.new
+        result }
 {
     let mut shard = hold(rt, shard);
     // For the prover: shows what holds of the shard.
@@ -80,16 +70,9 @@ impl<K: CacheKey, V: Share + Weighs + Answers<K> + Send + Sync, B: Books> Shards
     ) -> Result<(), Fault>
         requires within { home < self.now.shards }
         requires room { self.now.config.entries ≤ notices.old.room }
-        ensures moved { OnOk result (pass.new ≡ with_step home false pass.old) }
-        ensures step { OnOk result (IsSwept K.eq K.word V.weight V.answers
-            (place_of home self.now) (call_of sweep now) notices.old notices.new) }
-        ensures few { OnOk result
-            (notices.old.room ≤ notices.new.room + self.now.config.entries) }
-        ensures err { OnErr result ((pass.new ≡ pass.old) × (notices.new ≡ notices.old)) }
-        ensures told { HasTold self.now.config.entries notices.old notices.new }
-        ensures faults { IfErr result (λ fault. is_step_fault fault ≡ true) }
-        ensures cause { IfErr result (HasCause K.eq K.word V.weight V.answers
-            (place_of home self.now) (call_of sweep now)) }
+        ensures made { IsSweptCall K.eq K.word V.weight V.answers (place_of home self.now)
+            (call_of sweep now) (with_step home false pass.old) pass.old pass.new notices.old
+            notices.new result }
     {
         at_home!(
             home,

@@ -103,7 +103,7 @@ invariant_of-self-2 g c =
     let whole = noted eq word weight answers shards index s2 (record { config = b.config; core = c.take.new.self; lagging = b.lagging; records = c.push_back-dropped.new.self.items; landings = c.change.new.landings.items; given = b.given }) call opened some refl made refl records landings refl in
     let same = (g.met.K.CacheKey g.world.𝓛 g.world.𝓜 g.world.𝓡 ((λ s x. x), (λ x. x), (λ x. x), λ x. x)).same in
     let law = subst (λ (x : State K V). IsLawful eq weight x) made c.stats-stats.ensures.lawful in
-    let state = shard_state-step eq same word weight answers shards index s2.core call inv.0.state c.requires.asked law in
+    let state = shard_state-step eq same word weight answers shards index s2.core call inv.0.state c.requires.asked.0 law in
     let limit = limit-step eq word weight s2.core call ∙ inv.0.limit in
     let caps = ap (λ (x : State K V). x.regions.caps) (sym made) ∙ c.in-Ok-take.ensures.same in (
       subst (IsAudited eq word weight answers shards index) (sym whole) (audited-recorded eq word weight answers shards index s2 call opened inv.0 allowed2 room state limit caps landed),
