@@ -1,12 +1,13 @@
 -- What several calls of a replay promise alike, and what they ask for: one record for each.
 use Rattle.std.specs.Prelude.{◌≡◌, ◌++◌, ◌+◌, ◌<◌, ◌≤◌, ◌^◌, ℕ, Bool, true, false, All, List, Vec, length, map, Option, None, Result, Err, IfOk, IfErr, OnOk, MatchOption}
 use Rattle.std.specs.List.{range_with_len}
+use Rattle.std.specs.Io.KnownBytes.{Appends}
 use Rattle.wt_keys.specs.declared.fault.Fault.TheVariants as cache
 use Rattle.wt_trace.specs.Answers.{Answers, Shown, Work, answers, belongs}
 use Rattle.wt_trace.specs.Keys.{Keys}
 use Rattle.wt_trace.specs.Options.{option_fault}
 use Rattle.wt_trace.specs.Parts.{IsPart}
-use Rattle.wt_trace.specs.Replayed.{Rises, ShutsOnly, is_config_fault}
+use Rattle.wt_trace.specs.Replayed.{AppendsPrefix, Rises, ShutsOnly, is_config_fault}
 use Rattle.wt_trace.specs.Report.{Report, IsReport}
 use Rattle.wt_trace.specs.Standing.{Standing, lines_by, standings_after}
 use Rattle.wt_trace.specs.Stops.{AllAsked, AreAsked, IsStop}
@@ -91,12 +92,25 @@ module _ {K : Type 0} (keys : Keys K) (o : Options) (gate : ℕ → Bool → Typ
     -- there is no memory, or the gate was shut before a line
     pub err : IfErr result (IsStop (λ n. gate n false))
 
--- what is promised of the report of a trace
-pub record IsReported {Z : Type 0} (meant : Report) (stops : ℕ → Type 0) (result : Result (Vec ℕ Z × Verdict) ReplayFault) : Type 0 where
+-- what is promised of the report of a trace, whose text is seen so
+pub record IsReported {T : Type 0} (text : T → List ℕ) (meant : Report) (stops : ℕ → Type 0) (result : Result (T × Verdict) ReplayFault) : Type 0 where
   -- the text and the verdict are those of the report that is meant
-  pub report : IfOk result (λ r. IsReport meant r.0.items r.1)
+  pub report : IfOk result (λ r. IsReport meant (text r.0) r.1)
   -- there is no memory, or the gate was shut before a line
   pub err : IfErr result (IsStop stops)
+
+-- what is promised of bytes that are written
+pub record IsWritten {W : Type 0} (contents : W → Option (List ℕ)) (old new : Tally W) (bytes : List ℕ) (result : Result (Unit {0}) ReplayFault) : Type 0 where
+  -- all of them were written
+  pub ok : OnOk result (Appends (contents old.inner) (contents new.inner) bytes)
+  -- or a prefix of them was
+  pub err : IfErr result (λ e. (e ≡ fault.WriteFault) × AppendsPrefix (contents old.inner) (contents new.inner) bytes)
+  -- no fault is one of the options
+  pub kind : IfErr result (λ e. is_config_fault e ≡ false)
+  -- the fault comes exactly where the writer failed
+  pub failed : Rises old.failures new.failures result fault.WriteFault
+  -- where all were written no failure was counted
+  pub fine : OnOk result (new.failures ≡ old.failures)
 
 -- what each replay promises of its reader and its writer, of which it did what `Did` says
 pub record IsRun {R W : Type 0} (Did : Option (List ℕ) → Option (List ℕ) → Option (List ℕ) → Option (List ℕ) → Result (Unit {0}) ReplayFault → Type 0)

@@ -1,5 +1,10 @@
 -- A text in pieces that stand one after another.
 use Rattle.std.specs.Prelude.{ℕ, ◌≤◌, List, [], ◌∷◌, slice_range}
+use Rattle.std.specs.List.{flat_map}
+
+-- the text of pieces
+abbrev pub whole : List (List ℕ) → List ℕ
+whole pieces = flat_map (λ piece. piece) pieces
 
 -- the pieces from start on that end at these places
 abbrev pub pieces : List ℕ → ℕ → List ℕ → List (List ℕ)

@@ -1,5 +1,5 @@
 -- A trace: the lines up to the first fault.
-use Rattle.std.specs.Prelude.{◌≡◌, ℕ, ◌+◌, ◌==◌, nat_eq, nat_lt, Bool, false, if◌then◌else◌, List, [], ◌∷◌, length, Option, None, Some, Result, Ok, Err, codes}
+use Rattle.std.specs.Prelude.{◌≡◌, ℕ, ◌+◌, ◌==◌, ◌<◌, nat_eq, nat_lt, Bool, false, if◌then◌else◌, List, [], ◌∷◌, length, get_or, Option, IfSome, None, Some, Result, Ok, Err, codes}
 use Rattle.std.specs.List.{onto_first, flat_map}
 use Rattle.std.specs.Cmp.Lexicographic.{pointwise}
 use Rattle.wt_trace.specs.declared.line.Line.{Line}
@@ -73,3 +73,11 @@ module _ {K : Type 0} (read : List ℕ → Option K) where
   abbrev pub trace_from : ℕ → List (List ℕ) → Trace K
   trace_from n [] = record { lines = []; verdict = Ok tt }
   trace_from n (bytes ∷ more) = onto_trace (checked n bytes) (trace_from (n + 1) more)
+
+  -- of bytes whose first line is line n: their lines, of which none is at fault, or nothing
+  abbrev pub AreLines : ℕ → List ℕ → Option (List (Line K)) → Type 0
+  AreLines n bytes lines = IfSome lines (IsFaultless (trace_from n (lines_of bytes)))
+
+  -- and so of each piece of bytes, by itself
+  abbrev pub AreAlone : ℕ → List (List ℕ) → List (Option (List (Line K))) → Type 0
+  AreAlone n pieces all = (t : ℕ) → t < length pieces → AreLines n (get_or pieces t []) (get_or all t None)

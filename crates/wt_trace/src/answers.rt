@@ -7,12 +7,12 @@ use wt_core::Stats;
 
 /// What a shard answers: the text that it adds to each line, and its numbers at the end.
 ///
-/// The texts stand one behind the other, so that a line costs its bytes and a number.
+/// The texts stand one behind the other, so that a line costs its bytes and 4 more.
 #[derive(Drop)]
 pub struct Answers {
     pub(crate) text: Vec<u8>,
     // where the text of each line ends
-    pub(crate) ends: Vec<usize>,
+    pub(crate) ends: Vec<u32>,
     pub(crate) stats: Stats,
 }
 
@@ -50,23 +50,23 @@ impl Answers {
 }
 
 // Where the piece before the i-th ends, from 0.
-fn start_of(ends: &[usize], i: usize) -> usize
+fn start_of(ends: &[u32], i: usize) -> usize
     requires { i ≤ length ends.now }
     ensures { result ≡ get_or (0 ∷ ends.now) i 0 }
 {
     if i == 0 {
         return 0;
     }
-    ends[i - 1]
+    ends[i - 1] as usize
 }
 
 // The i-th piece of a text.
-fn piece<'a>(text: &'a [u8], ends: &[usize], i: usize) -> &'a [u8]
+fn piece<'a>(text: &'a [u8], ends: &[u32], i: usize) -> &'a [u8]
     requires ends { AreEnds (length text.now) 0 ends.now }
     requires within { i < length ends.now }
     ensures { result.now ≡ get_or (pieces text.now 0 ends.now) i [] }
 {
-    part(text, start_of(ends, i), ends[i])
+    part(text, start_of(ends, i), ends[i] as usize)
 }
 
 // What stands from one place to another.

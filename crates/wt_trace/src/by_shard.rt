@@ -5,9 +5,8 @@ ghost use Rattle.wt_trace.specs.Contract.{AreOfShards, IsPartOf, IsReadyOn, IsRe
 ghost use Rattle.wt_trace.specs.Keys.{keys_by};
 ghost use Rattle.wt_trace.specs.Options.{option_fault};
 ghost use Rattle.wt_trace.specs.Parts.{place_at, without};
-ghost use Rattle.wt_trace.specs.Report.{report, report_from};
+ghost use Rattle.wt_trace.specs.Report.{IsVerdict, report, report_of};
 ghost use Rattle.wt_trace.specs.Stops.{AllAsked, Asked};
-ghost use Rattle.wt_trace.specs.Trace.{lines_of, trace_from, line_end};
 
 use crate::answers::Answers;
 use crate::fault::ReplayFault;
@@ -19,6 +18,7 @@ use crate::parsing::read_on_threads;
 use crate::pieces::Pieces;
 use crate::printing::text_on_threads;
 use crate::shard::shard_answers;
+use crate::texts::Texts;
 use std::alloc::{AllocError, Global};
 use std::marker::Model;
 use std::thread;
@@ -148,52 +148,58 @@ fn answers_by_shard<H: Threads + Sync, K: TraceKey, G: Gate>(
     Ok(all)
 }
 
-// The report of a trace whose first line is line `first`, whatever its keys are. So many threads
-// read and print it, too.
+// The report of lines, the first of which is line `first`, whatever their keys are. They are given
+// back before it is printed.
 fn report_of<H: Threads + Sync, K: TraceKey, G: Gate>(
     rt: &H,
     alloc: Global,
     options: &Options,
     first: u64,
-    bytes: &[u8],
+    read: Pieces<K>,
     gate: &G,
     threads: usize,
-) -> Result<(Vec<u8>, Result<(), ReplayFault>), ReplayFault>
-    requires options { option_fault options.now ≡ None }
-    requires first { first ≤ line_end }
-    requires threads { (0 < threads) × (threads ≤ 64) }
-    ensures made { IsReported (report_from (keys_by K.eq K.word K.read K.shown) options.now first
-        bytes.now) (λ n. G.answers gate.now n false) result }
+) -> Result<(Texts, Result<(), ReplayFault>), ReplayFault>
+    requires ready { IsReadyOn threads options.now first (length read.lines) }
+    requires most { threads ≤ 64 }
+    requires kind { IsVerdict read.verdict }
+    ensures made { IsReported (λ text. text) (report_of (keys_by K.eq K.word K.read K.shown)
+        options.now first read) (λ n. G.answers gate.now n false) result }
     ensures asked { OnOk result (AllAsked (keys_by K.eq K.word K.read K.shown) options.now
-        (λ n. G.answers gate.now n true) first
-        (trace_from K.read first (lines_of bytes.now)).lines) }
+        (λ n. G.answers gate.now n true) first read.lines) }
 {
-    let read = read_on_threads::<H, K>(rt, alloc, first, bytes, threads)?;
     let all = answers_by_shard(rt, alloc, options, first, &read, gate, threads)?;
-    let text = text_on_threads(rt, alloc, options, first, &read, &all, threads)?;
-    Ok((text, read.verdict()))
+    let count = read.len();
+    let verdict = read.verdict();
+    drop(read);
+    let text = text_on_threads(rt, alloc, first, &all, count, verdict.is_ok(), threads)?;
+    Ok((text, verdict))
 }
 
 /// Returns the report of the bytes of a trace, and the verdict, as `report` does, with the shards
-/// on so many threads.
+/// on so many threads. So many threads read and print the lines, too.
 ///
-/// `GateShut` of a line before which the gate was shut, for a thread that stopped there.
+/// `GateShut` of a line before which the gate was shut, for a thread that stopped there. Gives the
+/// bytes back once the lines are read, and these before the report is printed.
 pub fn report_by_shard<H: Threads + Sync, G: Gate>(
     rt: &H,
     alloc: Global,
-    bytes: &[u8],
+    bytes: Vec<u8>,
     options: &Options,
     threads: usize,
     gate: &G,
-) -> Result<(Vec<u8>, Result<(), ReplayFault>), ReplayFault>
+) -> Result<(Texts, Result<(), ReplayFault>), ReplayFault>
     requires options { option_fault options.now ≡ None }
     requires threads { (0 < threads) × (threads ≤ 64) }
-    ensures made { IsReported (report options.now bytes.now) (λ n. G.answers gate.now n false)
-        result }
-    ensures asked { OnOk result (Asked options.now (λ n. G.answers gate.now n true) bytes.now) }
+    ensures made { IsReported (λ text. text) (report options.now bytes.items)
+        (λ n. G.answers gate.now n false) result }
+    ensures asked { OnOk result (Asked options.now (λ n. G.answers gate.now n true) bytes.items) }
 {
-    let Some(rest) = behind_header(bytes) else {
-        return report_of::<H, u64, G>(rt, alloc, options, 1, bytes, gate, threads);
+    let Some(rest) = behind_header(&bytes) else {
+        let read = read_on_threads::<H, u64>(rt, alloc, 1, &bytes, threads)?;
+        drop(bytes);
+        return report_of(rt, alloc, options, 1, read, gate, threads);
     };
-    report_of::<H, Name, G>(rt, alloc, options, 2, rest, gate, threads)
+    let read = read_on_threads::<H, Name>(rt, alloc, 2, rest, threads)?;
+    drop(bytes);
+    report_of(rt, alloc, options, 2, read, gate, threads)
 }

@@ -24,6 +24,7 @@ mod summary;
 mod tallied;
 #[cfg(test)]
 mod tests;
+mod texts;
 mod trace;
 mod version;
 mod words;

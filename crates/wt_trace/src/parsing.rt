@@ -1,9 +1,9 @@
 // The lines of a trace read on threads: each reads a piece of the bytes that ends with a line, and
 // the pieces are put together in their order. A thread doesn't know how many lines there are before
 // its piece, so a piece with a fault is read again, by the numbers of its lines.
-ghost use Rattle.std.specs.Prelude.{◌≡◌, ◌==◌, ◌+◌, ◌<◌, ◌≤◌, ℕ, [], ◌++◌, IfOk, IfSome, None, position, get_or, slice_set, drop, length, vec_len};
+ghost use Rattle.std.specs.Prelude.{◌≡◌, ◌==◌, ◌+◌, ◌<◌, ◌≤◌, [], ◌++◌, IfOk, None, position, get_or, slice_set, drop, length, vec_len};
 ghost use Rattle.wt_trace.specs.Contract.{AreRead};
-ghost use Rattle.wt_trace.specs.Trace.{IsFaultless, lines_of, lines_of_all, trace_from, line_end};
+ghost use Rattle.wt_trace.specs.Trace.{AreAlone, AreLines, lines_of, lines_of_all, trace_from, line_end};
 
 use crate::bytes::place_of;
 use crate::key::TraceKey;
@@ -80,7 +80,7 @@ fn cut_up<'a>(alloc: Global, bytes: &'a [u8], count: usize) -> Result<Vec<Bytes<
 // The lines of a piece, if none is at fault and there is memory for them.
 fn read_piece<K: TraceKey>(alloc: Global, first: u64, bytes: &[u8]) -> Option<Piece<K>>
     requires { first ≤ line_end }
-    ensures { IfSome result (IsFaultless (trace_from K.read first (lines_of bytes.now))) }
+    ensures { AreLines K.read first bytes.now result }
 {
     let Ok(read) = read_lines::<K>(alloc, first, bytes) else {
         return None;
@@ -101,9 +101,7 @@ fn read_pieces<H: Threads + Sync, K: TraceKey>(
 ) -> Result<Vec<Option<Piece<K>>>, AllocError>
     requires { first ≤ line_end }
     ensures len { IfOk result (λ read. vec_len read ≡ length pieces.now) }
-    ensures each { IfOk result (λ read. (t : ℕ) → t < length pieces.now
-        → IfSome (get_or read.items t None)
-        (IsFaultless (trace_from K.read first (lines_of (get_or pieces.now t []))))) }
+    ensures each { IfOk result (λ read. AreAlone K.read first pieces.now read.items) }
 {
     thread::map_indices(
         rt,
@@ -111,8 +109,7 @@ fn read_pieces<H: Threads + Sync, K: TraceKey>(
         pieces.len(),
         &|t: usize| -> Option<Piece<K>>
             requires { (first ≤ line_end) × (t < length pieces.now) }
-            ensures { IfSome result (IsFaultless
-                (trace_from K.read first (lines_of (get_or pieces.entry.now t [])))) }
+            ensures { AreLines K.read first (get_or pieces.entry.now t []) result }
         { read_piece(alloc, first, bytes_at(pieces, t)) },
     )
 }
@@ -126,7 +123,7 @@ fn numbered<K: TraceKey>(
     read: Option<Piece<K>>,
 ) -> Result<Lines<K>, NoMemory>
     requires n { n ≤ line_end }
-    requires sound { IfSome read (IsFaultless (trace_from K.read first (lines_of bytes.now))) }
+    requires sound { AreLines K.read first bytes.now read }
     ensures { AreRead K.read n bytes.now result }
 {
     if let Some(piece) = read {
@@ -159,9 +156,7 @@ fn put_together<K: TraceKey>(
 ) -> Result<Pieces<K>, NoMemory>
     requires first { first ≤ line_end }
     requires len { vec_len read ≡ length pieces.now }
-    requires each { (t : ℕ) → t < length pieces.now
-        → IfSome (get_or read.items t None)
-        (IsFaultless (trace_from K.read first (lines_of (get_or pieces.now t [])))) }
+    requires each { AreAlone K.read first pieces.now read.items }
     ensures few { IfOk result (λ all. first + length all.lines ≤ line_end) }
     ensures lines { IfOk result (λ all. all ≡ trace_from K.read first (lines_of_all pieces.now)) }
 {

@@ -1,27 +1,21 @@
-// Lines of a report printed on threads: each prints a piece, and the pieces are put together in
-// their order.
-ghost use Rattle.std.specs.Prelude.{◌≡◌, ◌++◌, ◌+◌, ◌<◌, ◌≤◌, ◌^◌, ℕ, All, IfOk, OnOk, Err, alloc_error, get_or, length, vec_len, map};
-ghost use Rattle.std.specs.List.{range_with_len};
-ghost use Rattle.wt_trace.specs.Answers.{answers};
-ghost use Rattle.wt_trace.specs.Contract.{IsCut, IsReadyOn};
-ghost use Rattle.wt_trace.specs.Keys.{keys_by};
+// Lines of a report printed on threads: each prints a piece, and the pieces stand in their order.
+ghost use Rattle.std.specs.Prelude.{◌≡◌, ◌++◌, ◌+◌, ◌<◌, ◌≤◌, ◌^◌, ℕ, All, IfOk, OnOk, Err, alloc_error, get_or, length, vec_len};
+ghost use Rattle.wt_trace.specs.Contract.{IsCut};
 ghost use Rattle.wt_trace.specs.Report.{lines_text, piece_text};
 ghost use Rattle.wt_trace.specs.Report as spec;
 ghost use Rattle.wt_trace.specs.Trace.{line_end};
 
 use crate::answers::Answers;
 use crate::digits::show_number;
-use crate::key::TraceKey;
-use crate::options::Options;
-use crate::pieces::Pieces;
 use crate::summary::show_summary;
+use crate::texts::Texts;
 use std::alloc::{AllocError, Global};
 use std::thread;
 use std::thread::Threads;
 use wt_keys::NoMemory;
 
-// A summary has at most so many bytes: eight names and eight numbers of up to 20 digits.
-const MOST_SUMMARY: usize = 256;
+// Bytes that are asked for at once for a printed line. More are asked for where they are needed.
+const PRINTED_A_LINE: usize = 24;
 
 // Appends line i of the report: its number, and what each shard adds to it.
 #[tactic(auto, unfolding(crate::specs::Report::line_text))]
@@ -71,8 +65,9 @@ fn piece(
     ensures { IfOk result (λ out. out.items ≡ piece_text first all.now count most t) }
 {
     let from = (t * most).min(count);
-    let mut out = Vec::new(alloc);
-    show_lines(&mut out, first, all, from, most.min(count - from))?;
+    let len = most.min(count - from);
+    let mut out = Vec::with_capacity(alloc, len.saturating_mul(PRINTED_A_LINE))?;
+    show_lines(&mut out, first, all, from, len)?;
     Ok(out)
 }
 
@@ -104,17 +99,6 @@ fn pieces<H: Threads + Sync>(
     )
 }
 
-// Bytes for all pieces and the summary behind them, so that none is moved twice.
-fn room_for(pieces: &[Result<Vec<u8>, AllocError>]) -> usize {
-    let mut bytes = MOST_SUMMARY;
-    for piece in pieces {
-        if let Ok(piece) = piece {
-            bytes = bytes.saturating_add(piece.len());
-        }
-    }
-    bytes
-}
-
 // The lines of a report, each thread's piece behind the piece before it.
 fn lines_on_threads<H: Threads + Sync>(
     rt: &H,
@@ -123,48 +107,47 @@ fn lines_on_threads<H: Threads + Sync>(
     all: &[Answers],
     count: usize,
     threads: usize,
-) -> Result<Vec<u8>, NoMemory>
+) -> Result<Texts, NoMemory>
     requires whole { All (λ a. length a.texts ≡ count) all.now }
     requires fits { first + count ≤ line_end }
     requires threads { (0 < threads) × (threads ≤ 64) }
-    ensures { IfOk result (λ out. out.items ≡ lines_text first all.now 0 count) }
+    ensures { IfOk result (λ text. text ≡ lines_text first all.now 0 count) }
 {
     let most = count / threads + 1;
     let pieces = pieces(rt, alloc, first, all, count, most, threads)?;
-    let mut out = Vec::with_capacity(alloc, room_for(&pieces))?;
-    for t in 0..pieces.len() {
-        match &pieces[t] {
-            Ok(piece) => out.extend_from_slice(piece.as_slice())?,
-            Err(_) => return Err(NoMemory),
-        }
+    let mut text = Texts::new(alloc);
+    for piece in pieces {
+        text.push(piece?)?;
     }
-    Ok(out)
+    Ok(text)
 }
 
-/// Returns the report of lines, the first of which is line `first`, by what the shards answer to
-/// them, with the lines printed on so many threads.
+/// Returns the report of so many lines, the first of which is line `first`, by what the shards
+/// answer to them, with the lines printed on so many threads: the summary stands behind them if
+/// they are complete.
 ///
-/// Takes memory for the text, and meanwhile for its pieces.
+/// Takes memory for the text.
 #[tactic(auto, unfolding(crate::specs::Report::printed))]
-pub fn text_on_threads<H: Threads + Sync, K: TraceKey>(
+pub fn text_on_threads<H: Threads + Sync>(
     rt: &H,
     alloc: Global,
-    options: &Options,
     first: u64,
-    read: &Pieces<K>,
     all: &[Answers],
+    count: usize,
+    complete: bool,
     threads: usize,
-) -> Result<Vec<u8>, NoMemory>
-    requires ready { IsReadyOn threads options.now first (length read.now.lines) }
-    requires most { threads ≤ 64 }
-    requires all { all.now ≡ map (answers (keys_by K.eq K.word K.read K.shown) options.now first
-        read.now.lines) (range_with_len 0 options.now.shards) }
-    ensures { IfOk result (λ out. out.items
-        ≡ (spec.report_of (keys_by K.eq K.word K.read K.shown) options.now first read.now).text) }
+) -> Result<Texts, NoMemory>
+    requires few { length all.now ≤ 4 }
+    requires whole { All (λ a. length a.texts ≡ count) all.now }
+    requires fits { first + count ≤ line_end }
+    requires threads { (0 < threads) × (threads ≤ 64) }
+    ensures { IfOk result (λ text. text ≡ spec.printed first count complete all.now) }
 {
-    let mut out = lines_on_threads(rt, alloc, first, all, read.len(), threads)?;
-    if read.verdict().is_ok() {
-        show_summary(&mut out, all)?;
+    let mut text = lines_on_threads(rt, alloc, first, all, count, threads)?;
+    if complete {
+        let mut summary = Vec::new(alloc);
+        show_summary(&mut summary, all)?;
+        text.push(summary)?;
     }
-    Ok(out)
+    Ok(text)
 }

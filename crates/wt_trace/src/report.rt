@@ -110,8 +110,8 @@ fn report_of<K: TraceKey>(
 ) -> Result<(Vec<u8>, Result<(), ReplayFault>), ReplayFault>
     requires options { option_fault options.now ≡ None }
     requires first { first ≤ line_end }
-    ensures { IsReported (spec.report_from (keys_by K.eq K.word K.read K.shown) options.now first
-        bytes.now) (λ _. ⊥) result }
+    ensures { IsReported (λ text. text.items) (spec.report_from (keys_by K.eq K.word K.read K.shown)
+        options.now first bytes.now) (λ _. ⊥) result }
 {
     let mut shards = new_shards::<K>(alloc, options)?;
     let mut out = Vec::new(alloc);
@@ -134,7 +134,8 @@ pub fn report(
     options: &Options,
 ) -> Result<(Vec<u8>, Result<(), ReplayFault>), ReplayFault>
     requires { option_fault options.now ≡ None }
-    ensures made { IsReported (spec.report options.now bytes.now) (λ _. ⊥) result }
+    ensures made { IsReported (λ text. text.items) (spec.report options.now bytes.now) (λ _. ⊥)
+        result }
 {
     let Some(rest) = behind_header(bytes) else {
         return report_of::<u64>(alloc, options, 1, bytes);

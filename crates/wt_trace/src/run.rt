@@ -1,8 +1,7 @@
 // From a reader to a writer.
-ghost use Rattle.std.specs.Prelude.{◌≡◌, ◌+◌, ◌<◌, ◌≤◌, ◌⊎◌, IfOk, OnOk, IfErr, true, false};
-ghost use Rattle.std.specs.Io.KnownBytes.{Appends};
-ghost use Rattle.wt_trace.specs.Contract.{IsRun};
-ghost use Rattle.wt_trace.specs.Replayed.{Replayed, AppendsPrefix, GaveUpTo, Rises, LetThrough, is_config_fault};
+ghost use Rattle.std.specs.Prelude.{◌≡◌, ◌+◌, ◌<◌, ◌≤◌, ◌⊎◌, IfOk, IfErr, true, false};
+ghost use Rattle.wt_trace.specs.Contract.{IsRun, IsWritten};
+ghost use Rattle.wt_trace.specs.Replayed.{Replayed, GaveUpTo, Rises, LetThrough, is_config_fault};
 ghost use Rattle.wt_keys.specs.declared.fault.Fault.TheVariants as cache;
 ghost use Rattle.wt_trace.specs.declared.fault.ReplayFault.TheVariants as fault;
 
@@ -12,6 +11,7 @@ use crate::gate::Gate;
 use crate::options::Options;
 use crate::report::report;
 use crate::tallied::Tallied;
+use crate::texts::Texts;
 use std::alloc::Global;
 use std::io::{Read, Write};
 use std::thread::Threads;
@@ -59,12 +59,7 @@ pub fn read_up_to<R: Read>(
 ///
 /// `WriteFault` exactly where the writer failed or took nothing: a prefix of the bytes was written.
 pub fn write_out<W: Write>(writer: &mut Tallied<W>, bytes: &[u8]) -> Result<(), ReplayFault>
-    ensures ok { OnOk result (Appends (W.contents writer.old.inner) (W.contents writer.new.inner)
-        bytes.now) }
-    ensures err { IfErr result (λ e. (e ≡ fault.WriteFault)
-        × AppendsPrefix (W.contents writer.old.inner) (W.contents writer.new.inner) bytes.now) }
-    ensures kind { IfErr result (λ e. is_config_fault e ≡ false) }
-    ensures failed { Rises writer.old.failures writer.new.failures result fault.WriteFault }
+    ensures made { IsWritten W.contents writer.old writer.new bytes.now result }
 {
     let mut rest = bytes;
     while !rest.is_empty() {
@@ -72,6 +67,18 @@ pub fn write_out<W: Write>(writer: &mut Tallied<W>, bytes: &[u8]) -> Result<(), 
             Ok(0) | Err(_) => return Err(ReplayFault::WriteFault),
             Ok(n) => rest = rest.split_at(n).1,
         }
+    }
+    Ok(())
+}
+
+// Writes all pieces of a text, one after another, as `write_out` does.
+fn write_pieces<W: Write>(writer: &mut Tallied<W>, text: &Texts) -> Result<(), ReplayFault>
+    ensures { IsWritten W.contents writer.old writer.new text.now result }
+{
+    let mut rest = text.pieces();
+    while let Some((piece, after)) = rest.split_first() {
+        write_out(writer, piece.as_slice())?;
+        rest = after;
     }
     Ok(())
 }
@@ -130,14 +137,7 @@ pub fn replay_by_shard<H: Threads + Sync, R: Read, W: Write, G: Gate>(
         return Err(ReplayFault::Cache(Fault::BadConfig { field }));
     }
     let bytes = read_up_to(alloc, reader, MOST_BYTES)?;
-    let (text, verdict) = report_by_shard(
-        rt,
-        alloc,
-        bytes.as_slice(),
-        options,
-        threads as usize,
-        gate,
-    )?;
-    write_out(writer, text.as_slice())?;
+    let (text, verdict) = report_by_shard(rt, alloc, bytes, options, threads as usize, gate)?;
+    write_pieces(writer, &text)?;
     verdict
 }

@@ -1,5 +1,5 @@
 // A shard at work on the lines of a trace.
-ghost use Rattle.std.specs.Prelude.{◌≡◌, IfOk, OnOk, IfErr, length, None, true, false};
+ghost use Rattle.std.specs.Prelude.{◌≡◌, IfOk, OnOk, IfErr, length, vec_len, None, true, false};
 ghost use Rattle.wt_trace.specs.Keys.{keys_by};
 ghost use Rattle.wt_trace.specs.Options.{option_fault};
 ghost use Rattle.wt_trace.specs.Answers as spec;
@@ -21,6 +21,10 @@ use std::alloc::Global;
 use std::marker::Model;
 use wt_core::{Call, Core, Notices, Reply, Stats};
 use wt_keys::{NoMemory, shard_of};
+
+// Bytes that are asked for at once for what a shard adds to a line: some 10 to a line that belongs
+// to it, which of four shards is every fourth. More are asked for where they are needed.
+const TEXT_A_LINE: usize = 4;
 
 // A shard with its cache, and what its latest call told.
 #[derive(Drop)]
@@ -225,11 +229,23 @@ fn belongs<K: TraceKey>(options: &Options, shard: usize, act: &Act<K>) -> bool
     }
 }
 
+// How long a text is, in 4 bytes: no memory where they can't hold it.
+fn end_of(text: &Vec<u8>) -> Result<u32, NoMemory>
+    ensures { IfOk result (λ end. end ≡ vec_len text.now) }
+{
+    match u32::try_from(text.len()) {
+        Ok(end) => Ok(end),
+        Err(_) => Err(NoMemory),
+    }
+}
+
 /// Does the lines, the first of which is line `first`, at a new shard of this number, and asks the
 /// gate before each that belongs to it.
 ///
 /// The first line that the gate doesn't let through ends it with `GateShut`. Takes memory for the
-/// shard, for two lists of notices with room for its entries, and for the texts.
+/// shard, for two lists of notices with room for its entries, and for the texts. Texts of 2^32 bytes
+/// or more count as refused memory. No trace makes them: a line stores at most one entry, so that a
+/// shard tells of at most 1,000,000 that left.
 #[tactic(auto, unfolding(crate::specs::Answers::answers))]
 pub fn shard_answers<K: TraceKey, G: Gate>(
     alloc: Global,
@@ -244,13 +260,14 @@ pub fn shard_answers<K: TraceKey, G: Gate>(
         first lines.entry number result }
 {
     let mut shard = Shard::new(alloc, options, number)?;
-    let mut text = Vec::new(alloc);
+    let mut text = Vec::with_capacity(alloc, lines.room().saturating_mul(TEXT_A_LINE))?;
     let mut ends = Vec::with_capacity(alloc, lines.room())?;
     let mut rest = lines;
     let mut n = first;
     while let Some(line) = rest.next() {
         shard.do_line(gate, n, line, &mut text)?;
-        ends.push(text.len())?;
+        let end = end_of(&text)?;
+        ends.push(end)?;
         n += 1;
     }
     Ok(Answers {

@@ -1,8 +1,6 @@
 // A reader or a writer that counts what it is asked and how often it fails.
-ghost use Rattle.std.specs.Prelude.{◌≡◌, ◌+◌, ◌==◌, ◌&&◌, not, nat_lt, length, is_err, is_ok, IfOk, min, ◌^◌, ◌-◌, if◌then◌else◌};
-ghost use Rattle.std.specs.Io.{ReadsAtMost, WritesAtMost};
-ghost use Rattle.std.specs.Io.KnownBytes.{ReadConsumes, WriteAppends, Keeps};
-ghost use Rattle.wt_trace.specs.Tally.{one_more, tally, wrote_nothing};
+ghost use Rattle.std.specs.Prelude.{◌≡◌};
+ghost use Rattle.wt_trace.specs.Tally.{IsTalliedRead, IsTalliedWrite};
 
 use std::io;
 use std::io::{Read, Write};
@@ -70,11 +68,7 @@ impl<T: Read> Read for Tallied<T> {
     ghost remaining = { λ t. T.remaining t.inner };
 
     fn read(&mut self, buf: &mut [u8]) -> io::Result<usize>
-        ensures bound { ReadsAtMost result buf.new }
-        ensures bytes { ReadConsumes (T.remaining self.old.inner) (T.remaining self.new.inner)
-            result buf.new }
-        ensures reads { self.new.reads ≡ one_more self.old.reads }
-        ensures tally { self.new.failures ≡ tally self.old.failures (is_err result) }
+        ensures made { IsTalliedRead T.remaining self.old self.new buf.new result }
     {
         self.reads = self.reads.saturating_add(1);
         let result = self.inner.read(buf);
@@ -89,11 +83,7 @@ impl<T: Write> Write for Tallied<T> {
     ghost contents = { λ t. T.contents t.inner };
 
     fn write(&mut self, buf: &[u8]) -> io::Result<usize>
-        ensures bound { WritesAtMost result buf.now }
-        ensures bytes { WriteAppends (T.contents self.old.inner) (T.contents self.new.inner) result
-            buf.now }
-        ensures same { self.new.reads ≡ self.old.reads }
-        ensures tally { self.new.failures ≡ tally self.old.failures (wrote_nothing result buf.now) }
+        ensures made { IsTalliedWrite T.contents self.old self.new buf.now result }
     {
         let result = self.inner.write(buf);
         let failed = match &result {

@@ -1,26 +1,24 @@
-use Rattle.std.proofs.Common.{true, ap, sym, subst, ◌∙◌}
+use Rattle.std.proofs.Common.{rules, ◌≡◌, ◌∙◌, List, All, length, map, true, ap, sym, subst}
+use Rattle.std.specs.Prelude.{is_ok}
+use Rattle.std.specs.List.{range_with_len}
+use Rattle.wt_trace.specs.Answers.{Answers, answers}
 use Rattle.wt_trace.specs.Keys.{keys_by}
-use Rattle.wt_trace.specs.Report.{IsVerdict, report_of}
-use Rattle.wt_trace.specs.Stops.{AllAsked}
-use Rattle.wt_trace.specs.Trace.{Trace, lines_of}
-use Rattle.wt_trace.proofs.Traces.{verdict_of-trace}
+use Rattle.wt_trace.specs.Report.{IsVerdict, printed}
+use Rattle.wt_trace.proofs.InOrder.{few-answers, whole-answers}
 use Rattle.wt_trace.proofs.by_shard.report_of.Goals as goal
 
-pub returns-clause-made : goal.returns-clause-made
-returns-clause-made g c =
+pub text_on_threads-requires-clause-few : goal.text_on_threads-requires-clause-few
+text_on_threads-requires-clause-few g c =
     let keys = keys_by g.K.PartialEq.eq g.K.CacheKey.word g.K.TraceKey.read g.K.TraceKey.shown in
-    let trace = c.in_ok-read.ensures.lines in
-    let verdict = c.verdict.ensures ∙ ap (λ (t : Trace g.row.K.Denot). t.verdict) trace in
-    record {
-      report = record {
-        text = c.in_ok-text.ensures ∙ ap (λ (t : Trace g.row.K.Denot). (report_of keys c.args.options.now c.args.first t).text) trace;
-        verdict = verdict;
-        kind = subst IsVerdict (sym verdict) (verdict_of-trace g.K.TraceKey.read c.args.first (lines_of c.args.bytes.now));
-      };
-      err = tt;
-    }
+    let are : c.deref.result.now ≡ map (answers keys c.args.options.now c.args.first c.args.read.lines) (range_with_len 0 c.args.options.now.shards) = search rules in
+    few-answers keys c.args.options.now c.args.first c.args.read.lines c.deref.result.now c.requires.ready.options are
 
-pub returns-clause-asked : goal.returns-clause-asked
-returns-clause-asked g c =
+pub text_on_threads-requires-clause-whole : goal.text_on_threads-requires-clause-whole
+text_on_threads-requires-clause-whole g c =
     let keys = keys_by g.K.PartialEq.eq g.K.CacheKey.word g.K.TraceKey.read g.K.TraceKey.shown in
-    subst (λ (t : Trace g.row.K.Denot). AllAsked keys c.args.options.now (λ n. g.G.Gate.answers c.args.gate.now n true) c.args.first t.lines) c.in_ok-read.ensures.lines c.in_ok-all.ensures.asked
+    let are : c.deref.result.now ≡ map (answers keys c.args.options.now c.args.first c.args.read.lines) (range_with_len 0 c.args.options.now.shards) = search rules in
+    let len : length c.args.read.lines ≡ c.len-count.result = search rules in
+    whole-answers keys c.args.options.now c.args.first c.len-count.result c.args.read.lines c.deref.result.now len are
+
+pub returns-clause-made : goal.returns-clause-made
+returns-clause-made g c = ?

@@ -25,7 +25,7 @@ loop-line-preserved g c =
     let text : after ≡ before ++ (line_step keys o c.args.number c.loop-line.n c.in-Some.line.now w.state).text = rw (inv.options, inv.number) at done.made.text in
     let far = more_line keys o c.args.number all before c.loop-line.ends.items c.loop-line.n c.in-Some.line.now c.loop-line.rest c.next.new.self
     w.state t.state after c.in-Some.ensures state text inv.far in
-    let len : c.len.result ≡ length after = search rules in
+    let len : c.in_ok-end.end ≡ length after = search rules in
     let passed : ℕ → Type 0 = λ m. g.G.Gate.answers c.args.gate.now m true in
     let asked : belongs keys o c.args.number c.in-Some.line.now.act ≡ true → passed c.loop-line.n = rw (inv.options, inv.number) at done.asked in
     let left : length c.loop-line.rest ≡ length c.next.new.self + 1 = ap length c.in-Some.ensures ∙ omega arith in
@@ -60,6 +60,11 @@ pub returns-in_err-do_line : goal.returns-in_err-do_line
 returns-in_err-do_line g c =
     let keys = keys_by g.K.PartialEq.eq g.K.CacheKey.word g.K.TraceKey.read g.K.TraceKey.shown in
     record { made = stopped keys c.args.options.now (g.G.Gate.answers c.args.gate.now) c.args.first c.args.lines c.args.number c.from_residual-in_err-do_line.result c.in_err-do_line.field-0.0 c.from_residual-in_err-do_line.ensures.1 c.in_err-do_line.ensures.err }
+
+pub returns-in_err-end_of : goal.returns-in_err-end_of
+returns-in_err-end_of g c =
+    let keys = keys_by g.K.PartialEq.eq g.K.CacheKey.word g.K.TraceKey.read g.K.TraceKey.shown in
+    record { made = stopped keys c.args.options.now (g.G.Gate.answers c.args.gate.now) c.args.first c.args.lines c.args.number c.from_residual-in_err-end_of.result _ c.from_residual-in_err-end_of.ensures.1 (inl refl) }
 
 pub returns-in_err-push : goal.returns-in_err-push
 returns-in_err-push g c =
