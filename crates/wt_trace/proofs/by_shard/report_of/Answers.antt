@@ -26,7 +26,7 @@ returns-clause-made g c =
     let are : c.deref.result.now ≡ map (answers keys c.args.options.now c.args.first c.args.read.lines) (range_with_len 0 c.args.options.now.shards) = search rules in
     let count : c.len-count.result ≡ length c.args.read.lines = search rules in
     let complete : c.is_ok.result ≡ is_ok c.args.read.verdict = search rules in
-    let verdict : c.verdict.result ≡ c.args.read.verdict = search rules in
+    let verdict : c.verdict-verdict.result ≡ c.args.read.verdict = search rules in
     record {
       report = record {
         text = c.in_ok-text.ensures ∙ (λ i. printed c.args.first (count i) (complete i) (are i));

@@ -61,11 +61,6 @@ returns-in_err-do_line g c =
     let keys = keys_by g.K.PartialEq.eq g.K.CacheKey.word g.K.TraceKey.read g.K.TraceKey.shown in
     record { made = stopped keys c.args.options.now (g.G.Gate.answers c.args.gate.now) c.args.first c.args.lines c.args.number c.from_residual-in_err-do_line.result c.in_err-do_line.field-0.0 c.from_residual-in_err-do_line.ensures.1 c.in_err-do_line.ensures.err }
 
-pub returns-in_err-end_of : goal.returns-in_err-end_of
-returns-in_err-end_of g c =
-    let keys = keys_by g.K.PartialEq.eq g.K.CacheKey.word g.K.TraceKey.read g.K.TraceKey.shown in
-    record { made = stopped keys c.args.options.now (g.G.Gate.answers c.args.gate.now) c.args.first c.args.lines c.args.number c.from_residual-in_err-end_of.result _ c.from_residual-in_err-end_of.ensures.1 (inl refl) }
-
 pub returns-in_err-push : goal.returns-in_err-push
 returns-in_err-push g c =
     let keys = keys_by g.K.PartialEq.eq g.K.CacheKey.word g.K.TraceKey.read g.K.TraceKey.shown in
