@@ -1,7 +1,7 @@
-use Rattle.std.proofs.Common.{rules, ◌≡◌, ◌∙◌, List, All, length, map, true, ap, sym, subst}
+use Rattle.std.proofs.Common.{rules, ◌≡◌, ◌∙◌, length, map, sym, subst}
 use Rattle.std.specs.Prelude.{is_ok}
 use Rattle.std.specs.List.{range_with_len}
-use Rattle.wt_trace.specs.Answers.{Answers, answers}
+use Rattle.wt_trace.specs.Answers.{answers}
 use Rattle.wt_trace.specs.Keys.{keys_by}
 use Rattle.wt_trace.specs.Report.{IsVerdict, printed}
 use Rattle.wt_trace.proofs.InOrder.{few-answers, whole-answers}

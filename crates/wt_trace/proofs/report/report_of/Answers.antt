@@ -1,4 +1,4 @@
-use Rattle.std.proofs.Common.{rules, arith, ◌≡◌, ◌++◌, ◌∙◌, List, [], map, length, true, false, ap, sym, subst}
+use Rattle.std.proofs.Common.{rules, arith, ◌≡◌, ◌++◌, ◌∙◌, map, length, ap, sym, subst}
 use Rattle.std.specs.Prelude.{is_ok, take, drop}
 use Rattle.std.proofs.Math.Seq.{take-append_seam}
 use Rattle.std.specs.List.{range_with_len}
@@ -7,7 +7,7 @@ use Rattle.wt_core.specs.Sums.{AreSums}
 use Rattle.wt_trace.specs.Answers.{Work, answers}
 use Rattle.wt_trace.specs.Keys.{keys_by}
 use Rattle.wt_trace.specs.Report.{IsVerdict, printed}
-use Rattle.wt_trace.specs.Standing.{Standing, standing_of, new_standings, lines_by, standings_after}
+use Rattle.wt_trace.specs.Standing.{standing_of, new_standings, lines_by, standings_after}
 use Rattle.wt_trace.specs.Trace.{Trace, lines_of, trace_from}
 use Rattle.wt_trace.proofs.Standings.{not_ok, not_err, printed-whole, printed-cut}
 use Rattle.wt_trace.proofs.Traces.{verdict_of-trace}

@@ -1,8 +1,8 @@
-use Rattle.std.proofs.Common.{rules, ◌≡◌, ◌<◌, ◌∙◌, ◌++◌, List, map, length, get_or, ap, sym, arith}
+use Rattle.std.proofs.Common.{rules, ◌≡◌, ◌<◌, ◌++◌, List, map, length, get_or, ap, arith}
 use Rattle.std.proofs.lemmas.List.{length-map}
 use Rattle.wt_trace.specs.Answers.{Work, line_step}
 use Rattle.wt_trace.specs.Keys.{keys_by}
-use Rattle.wt_trace.specs.Standing.{Standing, standing_of, added_text, next_standing}
+use Rattle.wt_trace.specs.Standing.{Standing, standing_of, added_text}
 use Rattle.wt_trace.proofs.Standings.{one_work}
 use Rattle.wt_trace.proofs.report.show_line.Goals as goal
 

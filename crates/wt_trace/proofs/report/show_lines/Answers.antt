@@ -1,7 +1,7 @@
-use Rattle.std.proofs.Common.{◌≡◌, ◌+◌, ◌<◌, ◌∙◌, ◌++◌, List, map, ap, sym, length, arith}
+use Rattle.std.proofs.Common.{◌≡◌, ◌+◌, ◌<◌, ◌∙◌, map, ap, sym, length, arith}
 use Rattle.std.proofs.lemmas.Bool.Decides.{nat_tests}
 use Rattle.wt_trace.specs.Keys.{keys_by}
-use Rattle.wt_trace.specs.Standing.{Standing, standing_of, lines_by, standings_after}
+use Rattle.wt_trace.specs.Standing.{standing_of}
 use Rattle.wt_trace.specs.Trace.{Trace, lines_of, trace_from}
 use Rattle.wt_trace.proofs.Standings.{next_shown, last_shown}
 use Rattle.wt_trace.proofs.Traces.{trace_from-good, trace_from-faulty, trace_from-none}
