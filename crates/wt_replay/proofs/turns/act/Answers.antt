@@ -39,7 +39,7 @@ returns-in-Ok-put-clause-step g c =
     let options = c.args.loader.now.options in
     let cache = c.args.cache.now in
     let line = c.args.line.now in
-    acted keys options cache c.args.pass.now c.put.new.pass c.args.n line (act.Put c.in-Put.key) (let i = c.in-Put.is in search (rules, i)) (inl (subst (λ (v : Version g.row.K.Denot). HasMade keys options cache c.args.pass.now c.put.new.pass c.in-Put.key (call.Put c.in-Put.key v line.moment)) c.version.ensures (made_of keys options cache c.args.pass.now c.put.new.pass c.in-Put.key (call.Put c.in-Put.key c.version.result line.moment) (λ r. reply.Stored) c.args.notices.now c.put.new.notices c.in-Ok-put.field-0 c.in-Ok-put.ensures.made)))
+    acted keys options cache c.args.pass.now c.put.new.pass c.args.n line (act.Put c.in-Put.key) (let i = c.in-Put.is in search (rules, i)) (inl (subst (λ (v : Version g.row.K.Denot). HasMade keys options cache c.args.pass.now c.put.new.pass c.in-Put.key (call.Put c.in-Put.key v line.moment)) c.version.ensures (made_of keys options cache c.args.pass.now c.put.new.pass c.in-Put.key (call.Put c.in-Put.key c.version.result line.moment) (λ r. reply.Stored) c.args.notices.now c.put.new.notices c.in-Ok-put.field-0 c.in-Ok-put.ensures.made.made)))
 
 pub returns-in-Ok-invalidate-clause-step : goal.returns-in-Ok-invalidate-clause-step
 returns-in-Ok-invalidate-clause-step g c =
