@@ -176,7 +176,7 @@ fn report_of<H: Threads + Sync, K: TraceKey, G: Gate>(
 }
 
 /// Returns the report of the bytes of a trace, and the verdict, as `report` does, with the shards
-/// on so many threads. So many threads read and print the lines, too.
+/// on `threads` threads, which read and print the lines, too.
 ///
 /// `GateShut` of a line before which the gate was shut, for a thread that stopped there. Gives the
 /// bytes back once the lines are read, and these before the report is printed.

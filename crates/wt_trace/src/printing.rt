@@ -122,9 +122,9 @@ fn lines_on_threads<H: Threads + Sync>(
     Ok(text)
 }
 
-/// Returns the report of so many lines, the first of which is line `first`, by what the shards
-/// answer to them, with the lines printed on so many threads: the summary stands behind them if
-/// they are complete.
+/// Returns the report of `count` lines, the first of which is line `first`, by what the shards
+/// answer to them. Prints the lines on `threads` threads, and the summary behind them if they are
+/// complete.
 ///
 /// Takes memory for the text.
 #[tactic(auto, unfolding(crate::specs::Report::printed))]
