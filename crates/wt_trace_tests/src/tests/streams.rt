@@ -2,12 +2,10 @@
 ghost use Rattle.std.specs.Prelude.{◌≤◌, IfOk};
 
 use super::{FIRST, FIRST_REPORT, of};
-use crate::fault::ReplayFault;
-use crate::run::replay;
-use crate::tallied::Tallied;
 use std::io;
 use std::io::{Read, Write};
 use std::test::*;
+use wt_trace::{ReplayFault, Tallied, replay};
 
 // Gives one byte a call, and then an error where it is to.
 #[derive(Drop)]

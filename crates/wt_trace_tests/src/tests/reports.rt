@@ -1,11 +1,10 @@
 // Reports of whole traces, with values from the rules' own text.
 use super::{FIRST, FIRST_REPORT, four, four_but, of, replayed};
-use crate::fault::{ReplayFault, status_and_line};
-use crate::options::Options;
 use std::alloc::Global;
 use std::process::Abort;
 use std::test::*;
 use wt_keys::{Fault, Field};
+use wt_trace::{Options, ReplayFault, status_and_line};
 
 #[test]
 fn a_report_is_written_for_each_trace(rt: HostRuntime) {

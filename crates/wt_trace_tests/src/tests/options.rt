@@ -1,11 +1,8 @@
 // Options out of their ranges.
 use super::{FIRST, four_but};
-use crate::fault::ReplayFault;
-use crate::options::Options;
-use crate::run::replay;
-use crate::tallied::Tallied;
 use std::test::*;
 use wt_keys::{Fault, Field};
+use wt_trace::{Options, ReplayFault, Tallied, replay};
 
 // A field, a value, and whether it is in the field's range.
 const ROWS: [(Field, u64, bool); 40] = [

@@ -1,13 +1,13 @@
 // The line alone: what comes back, in which order, to whom, and what a close does.
 ghost use Rattle.std.specs.Prelude.{◌≡◌};
 
-use crate::{Back, JobLine, LinePass, Posted};
 use std::alloc::Global;
 use std::process::Abort;
 use std::sync::Wait;
 use std::test::Fail;
 use std::thread;
 use std::thread::Threads;
+use wt_cache::{Back, JobLine, LinePass, Posted};
 use wt_flights::{Landing, Lead};
 use wt_keys::Fault;
 

@@ -3,12 +3,9 @@ mod options;
 mod reports;
 mod streams;
 
-use crate::fault::ReplayFault;
-use crate::options::Options;
-use crate::run::replay;
-use crate::tallied::Tallied;
 use std::alloc::Global;
 use wt_keys::Field;
+use wt_trace::{Options, ReplayFault, Tallied, replay};
 
 // So many entries, all in window.
 fn of(entries: u64) -> Options {

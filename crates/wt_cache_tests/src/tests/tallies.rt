@@ -1,6 +1,6 @@
 // What a tally counts, and how it reads.
-use crate::{Got, How, Tally};
 use std::test::Fail;
+use wt_cache::{Got, How, Tally};
 use wt_core::{Cause, Notice, Reply};
 use wt_keys::Fault;
 use wt_shards::Done;
