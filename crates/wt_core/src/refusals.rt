@@ -1,7 +1,7 @@
 // What the state refuses: decided here for the calls, and for a caller that asks beforehand.
 ghost use Rattle.std.specs.Prelude.{◌≡◌, ◌<◌, ◌≤◌, ◌^◌, Some, None, IfOk, IfErr, OnOk, length, true};
 ghost use Rattle.wt_keys.specs.declared.fault.Fault.TheVariants as fault;
-ghost use Rattle.wt_core.specs.declared.calls.Call.TheVariants as call;
+ghost use Rattle.wt_core.specs.declared.calls.Call.TheVariants.{Seek};
 ghost use Rattle.wt_core.specs.Faults.{is_fault_of, is_seek_fault};
 
 use crate::calls::{Call, Foreseen};
@@ -37,8 +37,9 @@ pub(crate) fn within(weight: u32, bound: u64) -> Result<(), Fault>
 }
 
 impl<K: CacheKey, V: Share + Weighs> Core<K, V> {
+    ghost use Rattle.wt_core.specs.Contract.{Allows, Forbids};
     ghost use Rattle.wt_core.specs.Seek.{foreseen_at};
-    ghost use Rattle.wt_core.specs.Step.{refusal_of, spent, step};
+    ghost use Rattle.wt_core.specs.Step.{spent};
 
     // How many loads are open, if a step is left.
     #[inline(always)]
@@ -58,12 +59,8 @@ impl<K: CacheKey, V: Share + Weighs> Core<K, V> {
     #[inline]
     pub fn open_met(&self, key: K, now: u64, met: &Foreseen) -> Result<usize, Fault>
         requires { met.now ≡ foreseen_at K.eq key now self.now }
-        ensures allowed { IfOk result (λ rows.
-            (refusal_of K.eq K.word V.weight self.now (call.Seek key now) ≡ None)
-            × (rows ≡ length
-            (step K.eq K.word V.weight self.now (call.Seek key now)).state.flights.rows)) }
-        ensures refusal { IfErr result (λ f.
-            refusal_of K.eq K.word V.weight self.now (call.Seek key now) ≡ Some f) }
+        ensures allowed { IfOk result (Allows K.eq K.word V.weight (Seek key now) self.now) }
+        ensures refusal { IfErr result (Forbids K.eq K.word V.weight (Seek key now) self.now) }
         ensures faults { IfErr result (λ f. is_seek_fault f ≡ true) }
     {
         // For the prover: shows what holds of the cache, which bounds the open loads.
@@ -91,11 +88,8 @@ impl<K: CacheKey, V: Share + Weighs> Core<K, V> {
     /// unless an attacker chooses the keys (see `Seeded`).
     #[inline(always)]
     pub fn open_after(&self, call: &Call<K, V>) -> Result<usize, Fault>
-        ensures allowed { IfOk result (λ rows.
-            (refusal_of K.eq K.word V.weight self.now call.now ≡ None)
-            × (rows ≡ length (step K.eq K.word V.weight self.now call.now).state.flights.rows)) }
-        ensures refusal { IfErr result (λ f.
-            refusal_of K.eq K.word V.weight self.now call.now ≡ Some f) }
+        ensures allowed { IfOk result (Allows K.eq K.word V.weight call.now self.now) }
+        ensures refusal { IfErr result (Forbids K.eq K.word V.weight call.now self.now) }
         ensures faults { IfErr result (λ f. is_fault_of call.now f ≡ true) }
     {
         // For the prover: shows what holds of the cache, which bounds the open loads.

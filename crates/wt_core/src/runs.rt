@@ -1,7 +1,8 @@
 // Calls as data, and whole runs of them.
-ghost use Rattle.std.specs.Prelude.{◌≡◌, ℕ, ◌+◌, ◌≤◌, IfOk, IfErr, IsOk, IsSome, OnOk, OnErr, length, take};
+ghost use Rattle.std.specs.Prelude.{◌≡◌, ◌+◌, ◌≤◌, IfOk, IfErr, IsOk, IsSome, OnOk, OnErr, length};
 ghost use Rattle.wt_keys.specs.declared.fault.Fault.TheVariants as fault;
 ghost use Rattle.wt_regions.specs.Notices.{appended};
+ghost use Rattle.wt_core.specs.Contract.{KeepsWhole, IsPartRun};
 ghost use Rattle.wt_core.specs.Landings.{TakesNone};
 ghost use Rattle.wt_core.specs.Run.{taken, run, replies, last_notices};
 ghost use Rattle.wt_core.specs.Step.{refusal_of};
@@ -28,6 +29,8 @@ impl<K: CacheKey, V: Share + Weighs> Core<K, V> {
     ///
     /// `NoMemory` alone is an error, and then nothing has changed. Takes what the call's own step
     /// takes.
+    ///
+    /// In use: `uses::plain::take`.
     // Inlined, so that the kind of call is known where its caller makes it.
     #[inline(always)]
     pub fn take(
@@ -38,14 +41,12 @@ impl<K: CacheKey, V: Share + Weighs> Core<K, V> {
         requires room { self.old.regions.caps.entries ≤ notices.old.room }
 
         ensures state { OnOk result (self.new ≡ (taken K.eq K.word V.weight self.old call).state) }
-        ensures answer { IfOk result (λ reply. reply
-            ≡ (taken K.eq K.word V.weight self.old call).reply) }
+        ensures answer { IfOk result (λ r. r ≡ (taken K.eq K.word V.weight self.old call).reply) }
         ensures notices { OnOk result (notices.new
             ≡ appended (taken K.eq K.word V.weight self.old call).notices notices.old) }
 
         ensures same { self.new.regions.caps ≡ self.old.regions.caps }
-        ensures whole { notices.new.room + length notices.new.list
-            ≡ notices.old.room + length notices.old.list }
+        ensures whole { KeepsWhole notices.old notices.new }
         // What the state refuses is refused whatever the memory does, and some calls take none.
         ensures refusal { IsSome (refusal_of K.eq K.word V.weight self.old call) → IsOk result }
         ensures memory { TakesNone K.eq V.weight self.old call → IsOk result }
@@ -78,6 +79,8 @@ impl<K: CacheKey, V: Share + Weighs> Core<K, V> {
 /// The notices are emptied before each call, so those of the last stay. `NoMemory` ends the run;
 /// the cache then stands after a prefix of the calls, and their replies are dropped. Takes memory
 /// for the list of replies, before the first call, and what the calls take.
+///
+/// In use: `uses::plain::run`.
 pub fn run_calls<K: CacheKey, V: Share + Weighs>(
     alloc: Global,
     core: &mut Core<K, V>,
@@ -95,10 +98,8 @@ pub fn run_calls<K: CacheKey, V: Share + Weighs>(
     ensures memory { IfErr result (λ f. f ≡ fault.NoMemory) }
     // Whatever is answered.
     ensures same { core.new.regions.caps ≡ core.old.regions.caps }
-    ensures whole { notices.new.room + length notices.new.list
-        ≡ notices.old.room + length notices.old.list }
-    ensures err { OnErr result ((n : ℕ)
-        × (core.new ≡ run K.eq K.word V.weight core.old (take n calls.items))) }
+    ensures whole { KeepsWhole notices.old notices.new }
+    ensures err { OnErr result (IsPartRun K.eq K.word V.weight calls.items core.old core.new) }
 {
     let mut made = Vec::with_capacity(alloc, calls.len())?;
     for call in calls {

@@ -6,10 +6,10 @@
 //
 // Each of the eight steps is a function of the whole state. What can be refused comes first, and
 // the count of the key last, so that a refused step leaves all as it was.
-ghost use Rattle.std.specs.Prelude.{◌≡◌, ◌≤◌, ◌==◌, IfOk, MatchOption, IsOkUnless, Err, length};
+ghost use Rattle.std.specs.Prelude.{◌≡◌, ◌≤◌, ◌==◌, IfOk, length};
 ghost use Rattle.std.specs.Map.{keys_of};
 ghost use Rattle.std.specs.Option.{option_map};
-ghost use Rattle.wt_keys.specs.declared.fault.Fault.TheVariants as fault;
+ghost use Rattle.wt_regions.specs.Lawful.{FailsByField};
 ghost use Rattle.wt_regions.specs.Lists.{all_entries, region_of, weight_of};
 ghost use Rattle.wt_flights.specs.Rows.{row, row_of, first_of};
 
@@ -29,11 +29,18 @@ use wt_sketch::Sketch;
 /// Moments are milliseconds that the caller hands in; one before the latest counts as the latest.
 #[derive(Drop)]
 pub struct Core<K: CacheKey, V: Share + Weighs> {
+    // The entries. Each step may let some leave; a hit moves one, a put and a landing store one.
     pub(crate) regions: Regions<K, V>,
+    // How often each key was counted. A look, a seek and a put count theirs, last in the step.
     pub(crate) sketch: Sketch,
+    // The open loads. A seek opens or joins one, a landing closes it. After a put, a drop, a forget
+    // or a clear no further caller joins it.
     pub(crate) flights: FlightTable<K>,
+    // Looks and seeks count as look-ups, landings as loads, and in every step what was evicted.
     pub(crate) counts: Counts,
+    // The moment of the last step, in milliseconds; 0 before the first. It never goes back.
     pub(crate) latest: u64,
+    // How many steps were made: one for each call that wasn't refused.
     pub(crate) step: u64,
     // How much the entries may weigh together, as the regions have it; never changes.
     pub(crate) bound: u64,
@@ -75,11 +82,12 @@ impl<K: CacheKey, V: Share + Weighs> Core<K, V> {
     ///
     /// `BadConfig` as [`Config::check`] answers it, before memory is asked for. Takes memory for
     /// the tables of the three regions and the sketch. O(entries).
+    ///
+    /// In use: `uses::plain::new`.
     pub fn new(alloc: Global, config: &Config) -> Result<Core<K, V>, Fault>
         ensures ok { IfOk result (λ core. core ≡ opening config.now) }
         // What the configuration refuses is refused whatever the memory does.
-        ensures refusal { MatchOption (config_fault config.now)
-            (IsOkUnless result fault.NoMemory) (λ field. result ≡ Err (fault.BadConfig field)) }
+        ensures refusal { FailsByField (config_fault config.now) result }
     {
         if let Some(field) = config.fault() {
             return Err(Fault::BadConfig { field });
@@ -107,6 +115,8 @@ impl<K: CacheKey, V: Share + Weighs> Core<K, V> {
     }
 
     /// Returns the numbers of the cache. Takes no memory. O(1).
+    ///
+    /// In use: `uses::plain::stats`.
     pub fn stats(&self) -> Stats
         ensures numbers { result ≡ stats_of self.now }
         // What holds of the cache at all times.
@@ -207,6 +217,8 @@ impl<K: CacheKey, V: Share + Weighs> Core<K, V> {
     /// Returns the keys of a region in a new list, the most recent first.
     ///
     /// Takes memory for that list alone. O(entries of the region).
+    ///
+    /// In use: `uses::plain::order`.
     pub fn order(&self, alloc: Global, region: Region) -> Result<Vec<K>, NoMemory>
         ensures { IfOk result (λ keys. keys.items ≡ keys_of (region_of region self.now.regions)) }
     {
