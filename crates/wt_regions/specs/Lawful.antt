@@ -1,10 +1,10 @@
 -- What holds of the regions at all times.
-use Rattle.std.specs.Prelude.{◌≡◌, ℕ, ◌+◌, ◌≤◌, ◌<◌, Bool, false, ◌||◌, length, All, nat_le, nat_lt, if◌then◌else◌, Option, Some, None}
+use Rattle.std.specs.Prelude.{◌≡◌, ℕ, ◌+◌, ◌≤◌, ◌<◌, Bool, false, ◌||◌, length, All, nat_le, nat_lt, if◌then◌else◌, Option, Some, None, Result, Err, IsOkUnless, MatchOption}
 use Rattle.std.specs.Option.{option_map_or}
 use Rattle.std.specs.List.{IsDistinct}
 use Rattle.std.specs.Map.{keys_of}
 use Rattle.wt_keys.specs.declared.fault.Fault.{Fault}
-use Rattle.wt_keys.specs.declared.fault.Fault.TheVariants.{NoMemory, TooHeavy}
+use Rattle.wt_keys.specs.declared.fault.Fault.TheVariants.{NoMemory, BadConfig, TooHeavy}
 use Rattle.wt_keys.specs.declared.fault.Field.{Field}
 use Rattle.wt_keys.specs.declared.fault.Field.TheVariants.{Entries, Window, Bound, AfterWrite, AfterAccess, Refresh}
 use Rattle.wt_regions.specs.declared.caps.Caps.{Caps}
@@ -31,6 +31,10 @@ caps_fault c =
     if is_zero c.after_access then Some AfterAccess else
     if is_zero c.refresh then Some Refresh else
     None
+
+-- a field that is out of its range is named whatever the memory does; otherwise only memory is refused
+abbrev pub FailsByField : {R : Type 0} → Option Field → Result R Fault → Type 0
+FailsByField field result = MatchOption field (IsOkUnless result NoMemory) (λ f. result ≡ Err (BadConfig f))
 
 -- why a value of this weight isn't stored within the bound
 abbrev pub store_fault : ℕ → ℕ → Fault

@@ -1,12 +1,12 @@
 // What the regions do with one `LruCache`. Window and protected have the places that they may hold:
 // a push into a full one hands its last out, and keeps the block of memory that held it. Probation
 // has one more, as its last may only leave once another has come.
-ghost use Rattle.std.specs.Prelude.{◌≡◌, ◌+◌, ◌<◌, ◌≤◌, ◌∷◌, [], length, None, IfOk, OnOk, OnErr, IsSome, IsNone, is_some, IsTrue, option_copied};
+ghost use Rattle.std.specs.Prelude.{◌≡◌, ◌+◌, ◌<◌, ◌≤◌, [], length, None, IfOk, OnOk, OnErr, IsSome, IsNone, is_some, IsTrue, option_copied};
 ghost use Rattle.std.specs.Map.{keys_of, lookup};
 ghost use Rattle.std.specs.Option.{option_map};
 ghost use Rattle.lru.specs.LruCache.{last_entry, lru_cache};
-ghost use Rattle.wt_regions.specs.Lists.{all_but_last, used};
-ghost use Rattle.wt_regions.specs.Moves.{in_front, places_of};
+ghost use Rattle.wt_regions.specs.Lists.{used};
+ghost use Rattle.wt_regions.specs.Moves.{fronted, places_of, pushed, pushed_past};
 
 use crate::held::Held;
 use lru::LruCache;
@@ -36,8 +36,7 @@ pub(crate) fn push_new<K: CacheKey, V: Drop>(
 ) -> Result<(), NoMemory>
     requires fresh { lookup (K.eq key) cache.old.entries ≡ None }
     requires place { length cache.old.entries < cache.old.cap }
-    ensures state { OnOk result (cache.new
-        ≡ lru_cache ((key, held) ∷ cache.old.entries) cache.old.cap) }
+    ensures state { OnOk result (cache.new ≡ pushed (key, held) cache.old) }
     ensures err { OnErr result (cache.new ≡ cache.old) }
 {
     match cache.push(key, held) {
@@ -56,8 +55,7 @@ pub(crate) fn push_past<K: CacheKey, V: Drop>(
     requires some { 0 < cache.old.cap }
     requires full { length cache.old.entries ≡ cache.old.cap }
     ensures left { IfOk result (λ left. left ≡ last_entry cache.old.entries) }
-    ensures state { OnOk result (cache.new
-        ≡ lru_cache (all_but_last ((key, held) ∷ cache.old.entries)) cache.old.cap) }
+    ensures state { OnOk result (cache.new ≡ pushed_past (key, held) cache.old) }
     ensures err { OnErr result (cache.new ≡ cache.old) }
 {
     match cache.push(key, held) {
@@ -80,8 +78,7 @@ pub(crate) fn held_in<K: CacheKey, V>(cache: &LruCache<K, Held<V>>, key: K) -> O
 // Brings the entry of the key to the front, used now, and answers whether there is one.
 pub(crate) fn freshen<K: CacheKey, V>(cache: &mut LruCache<K, Held<V>>, key: K, now: u64) -> bool
     ensures answer { result ≡ is_some (lookup (K.eq key) cache.old.entries) }
-    ensures state { cache.new
-        ≡ lru_cache (in_front K.eq key (used now) cache.old.entries) cache.old.cap }
+    ensures state { cache.new ≡ fronted K.eq key (used now) cache.old }
 {
     match cache.get_mut(&key) {
         Some(held) => {
@@ -101,8 +98,7 @@ pub(crate) fn use_in<K: CacheKey, V: Share>(
 ) -> Option<V>
     requires { IsTrue V.Share.is_copied }
     ensures answer { result ≡ option_map (λ h. h.value) (lookup (K.eq key) cache.old.entries) }
-    ensures state { cache.new
-        ≡ lru_cache (in_front K.eq key (used now) cache.old.entries) cache.old.cap }
+    ensures state { cache.new ≡ fronted K.eq key (used now) cache.old }
     ensures missed { IsNone result → cache.new ≡ cache.old }
 {
     if cache.is_empty() {
@@ -127,8 +123,7 @@ pub(crate) fn replace_in<K: CacheKey, V: Drop>(
 ) -> Option<Held<V>>
     requires { IsSome (lookup (K.eq key) cache.old.entries) }
     ensures old { result ≡ lookup (K.eq key) cache.old.entries }
-    ensures state { cache.new
-        ≡ lru_cache (in_front K.eq key (λ _. held) cache.old.entries) cache.old.cap }
+    ensures state { cache.new ≡ fronted K.eq key (λ _. held) cache.old }
 {
     match cache.put(key, held) {
         Ok(old) => old,

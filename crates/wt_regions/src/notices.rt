@@ -1,8 +1,8 @@
 // Why an entry left, and the list of notices, whose room is made before the steps that tell.
 ghost use Rattle.std.specs.Prelude.{◌≡◌, ◌<◌, ◌+◌, ◌∷◌, [], IfOk, IsSome, length, nat_le};
 ghost use Rattle.std.specs.Option.{option_map_or};
-ghost use Rattle.wt_regions.specs.Lists.{is_eviction, notice};
-ghost use Rattle.wt_regions.specs.Moves.{heft};
+ghost use Rattle.wt_regions.specs.Lists.{is_eviction};
+ghost use Rattle.wt_regions.specs.Moves.{heft, told_held, told_left};
 ghost use Rattle.wt_regions.specs.Notices.{appended, emptied, no_notices};
 
 use crate::held::Held;
@@ -116,8 +116,7 @@ pub(crate) fn tell_left<K: CacheKey, V: Drop>(
 ) -> u64
     requires { 0 < notices.old.room }
     ensures weight { result ≡ option_map_or (λ e. e.1.weight) left 0 }
-    ensures notices { notices.new
-        ≡ appended (option_map_or (λ e. notice cause e ∷ []) left []) notices.old }
+    ensures notices { notices.new ≡ appended (told_left cause left) notices.old }
 {
     match left {
         Some((key, held)) => {
@@ -142,8 +141,7 @@ pub(crate) fn tell_held<K: CacheKey, V: Drop>(
 ) -> u64
     requires { IsSome held → 0 < notices.old.room }
     ensures weight { result ≡ heft held }
-    ensures notices { notices.new
-        ≡ appended (option_map_or (λ h. notice cause (key, h) ∷ []) held []) notices.old }
+    ensures notices { notices.new ≡ appended (told_held cause key held) notices.old }
 {
     match held {
         Some(held) => tell_left(notices, Some((key, held)), cause),

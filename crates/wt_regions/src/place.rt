@@ -8,16 +8,11 @@
 //
 // In the last case the old entry is taken out last of all, since what left a cache can't be put
 // back where it was after a refusal.
-ghost use Rattle.std.specs.Prelude.{◌≡◌, ◌+◌, ◌≤◌, ◌∷◌, ◌++◌, [], length, Some, None, IfOk, OnOk, OnErr, IsSome, IfSome, if◌then◌else◌};
-ghost use Rattle.std.specs.Map.{lookup, remove_entry};
-ghost use Rattle.std.specs.Option.{option_map_or};
-ghost use Rattle.lru.specs.LruCache.{last_entry};
-ghost use Rattle.wt_regions.specs.declared.notices.Cause.TheVariants.{Expired};
-ghost use Rattle.wt_regions.specs.Lists.{without, all_but_last, is_expired, lists_of, main_cap, notice, weight_of};
-ghost use Rattle.wt_regions.specs.Moves.{IsPlaced, estimates};
+ghost use Rattle.std.specs.Prelude.{◌≡◌, ◌+◌, ◌≤◌, ◌++◌, length, None, IfOk, OnOk, OnErr, IsSome};
+ghost use Rattle.std.specs.Map.{lookup};
+ghost use Rattle.wt_regions.specs.Lists.{weight_of};
+ghost use Rattle.wt_regions.specs.Moves.{IsPlaced, WeighsUp, last_expired, passed_live, placing, settled_past, without_below};
 ghost use Rattle.wt_regions.specs.Notices.{appended};
-ghost use Rattle.wt_regions.specs.Settle.{settled};
-ghost use Rattle.wt_regions.specs.Steps.{placed};
 
 use crate::caches::Caches;
 use crate::held::Held;
@@ -31,9 +26,7 @@ impl<K: CacheKey, V: Share + Weighs> Caches<K, V> {
     // Takes what is held for the key out of probation or protected.
     pub(crate) fn take_below(&mut self, key: K) -> Option<Held<V>>
         ensures held { result ≡ lookup (K.eq key) (self.old.probation ++ self.old.protected) }
-        ensures state { self.new ≡ lists_of self.old.caps self.old.window
-            (remove_entry (K.eq key) self.old.probation)
-            (remove_entry (K.eq key) self.old.protected) }
+        ensures state { self.new ≡ without_below K.eq key self.old }
     {
         let first = self.probation.pop(&key);
         let second = self.protected.pop(&key);
@@ -49,16 +42,8 @@ impl<K: CacheKey, V: Share + Weighs> Caches<K, V> {
         requires placed { IsPlaced K.eq V.weight self.old }
         requires elsewhere { lookup (K.eq key) self.old.window ≡ None }
         requires full { self.old.caps.window ≤ length self.old.window }
-        ensures left { IfOk result (λ left. left ≡ option_map_or
-            (λ e. if is_expired self.old.caps held.written e.1 then Some e else None)
-            (last_entry ((key, held) ∷ self.old.window)) None) }
-        ensures state { OnOk result (self.new
-            ≡ lists_of self.old.caps (all_but_last ((key, held) ∷ self.old.window))
-            (option_map_or
-            (λ e. if is_expired self.old.caps held.written e.1 then self.old.probation
-            else e ∷ self.old.probation)
-            (last_entry ((key, held) ∷ self.old.window)) self.old.probation)
-            self.old.protected) }
+        ensures left { IfOk result (λ r. r ≡ last_expired held.written (key, held) self.old) }
+        ensures state { OnOk result (self.new ≡ passed_live held.written (key, held) self.old) }
         ensures err { OnErr result (self.new ≡ self.old) }
     {
         let Some((_, last)) = self.window.peek_lru() else {
@@ -86,15 +71,10 @@ impl<K: CacheKey, V: Share + Weighs> Caches<K, V> {
         requires elsewhere { lookup (K.eq key) self.old.window ≡ None }
         requires there { IsSome (lookup (K.eq key) (self.old.probation ++ self.old.protected)) }
         requires room { self.old.caps.entries ≤ notices.old.room }
-        ensures state { OnOk result (self.new
-            ≡ (settled (λ k. 0) held.written (key, held) (without K.eq key self.old)).0) }
-        ensures notices { OnOk result (notices.new ≡ appended
-            (option_map_or (λ h. notice Expired (key, h) ∷ [])
-            (lookup (K.eq key) (self.old.probation ++ self.old.protected)) []
-            ++ (settled (λ k. 0) held.written (key, held) (without K.eq key self.old)).1)
-            notices.old) }
-        ensures weight { IfOk result (λ gone.
-            weight_of self.new + gone ≡ weight_of self.old + held.weight) }
+        ensures state { OnOk result (self.new ≡ (settled_past K.eq key held self.old).0) }
+        ensures notices { OnOk result (notices.new
+            ≡ appended (settled_past K.eq key held self.old).1 notices.old) }
+        ensures weight { IfOk result (WeighsUp (weight_of self.old + held.weight) self.new) }
         ensures err { OnErr result ((self.new ≡ self.old) × (notices.new ≡ notices.old)) }
     {
         if self.window.len() < self.caps.window as usize {
@@ -120,12 +100,10 @@ impl<K: CacheKey, V: Share + Weighs> Caches<K, V> {
         requires placed { IsPlaced K.eq V.weight self.old }
         requires room { self.old.caps.entries ≤ notices.old.room }
         ensures state { OnOk result (self.new
-            ≡ (placed K.eq (estimates sketch.now K.word) held.written (key, held) self.old).0) }
-        ensures notices { OnOk result (notices.new ≡ appended
-            (placed K.eq (estimates sketch.now K.word) held.written (key, held) self.old).1
-            notices.old) }
-        ensures weight { IfOk result (λ gone.
-            weight_of self.new + gone ≡ weight_of self.old + held.weight) }
+            ≡ (placing K.word sketch.now key K.eq held self.old).0) }
+        ensures notices { OnOk result (notices.new
+            ≡ appended (placing K.word sketch.now key K.eq held self.old).1 notices.old) }
+        ensures weight { IfOk result (WeighsUp (weight_of self.old + held.weight) self.new) }
         ensures err { OnErr result ((self.new ≡ self.old) × (notices.new ≡ notices.old)) }
     {
         let now = held.written;

@@ -1,12 +1,10 @@
 // The three regions and their running weight, with what callers see of them.
-ghost use Rattle.std.specs.Prelude.{◌≡◌, ◌≤◌, false, IfOk, IfErr, OnOk, OnErr, IsOk, IsOkUnless, MatchOption};
-ghost use Rattle.wt_keys.specs.declared.fault.Fault.{Fault};
-ghost use Rattle.wt_keys.specs.declared.fault.Fault.TheVariants as fault;
-ghost use Rattle.wt_sketch.specs.Sketch.{estimate_of};
-ghost use Rattle.wt_regions.specs.Lawful.{caps_fault, store_fault};
+ghost use Rattle.std.specs.Prelude.{◌≡◌, ◌≤◌, false, IfOk, IfErr, OnOk, OnErr, IsOk};
+ghost use Rattle.wt_regions.specs.Lawful.{FailsByField, caps_fault, store_fault};
 ghost use Rattle.wt_regions.specs.Lists.{found_at, has_at, no_entries};
+ghost use Rattle.wt_regions.specs.Moves.{storing};
 ghost use Rattle.wt_regions.specs.Notices.{appended};
-ghost use Rattle.wt_regions.specs.Steps.{cleaned, cleared, new_entry, removed, stored};
+ghost use Rattle.wt_regions.specs.Steps.{cleaned, cleared, removed};
 ghost use Rattle.wt_regions.specs.Touch.{looked_at};
 
 mod reads;
@@ -59,8 +57,7 @@ impl<K: CacheKey, V: Share + Weighs> Regions<K, V> {
     pub fn new(alloc: Global, caps: &Caps) -> Result<Self, Fault>
         ensures ok { IfOk result (λ regions. regions ≡ no_entries caps.now) }
         // What the limits refuse is refused whatever the memory does.
-        ensures refusal { MatchOption (caps_fault caps.now)
-            (IsOkUnless result fault.NoMemory) (λ field. result ≡ Err (fault.BadConfig field)) }
+        ensures refusal { FailsByField (caps_fault caps.now) result }
     {
         if let Some(field) = caps.fault() {
             return Err(Fault::BadConfig { field });
@@ -110,15 +107,12 @@ impl<K: CacheKey, V: Share + Weighs> Regions<K, V> {
 
         ensures ok { OnOk result (V.weight value ≤ self.old.caps.bound) }
         ensures state { OnOk result (self.new
-            ≡ (stored K.eq (λ k. estimate_of sketch.now (K.word k)) now
-            (new_entry V.weight key value now stamp) self.old).0) }
+            ≡ (storing K.word sketch.now key K.eq V.weight value now stamp self.old).0) }
         ensures notices { OnOk result (notices.new ≡ appended
-            (stored K.eq (λ k. estimate_of sketch.now (K.word k)) now
-            (new_entry V.weight key value now stamp) self.old).1 notices.old) }
+            (storing K.word sketch.now key K.eq V.weight value now stamp self.old).1 notices.old) }
         ensures same { self.new.caps ≡ self.old.caps }
 
-        ensures refusal { IfErr result (λ fault. fault
-            ≡ store_fault (V.weight value) self.old.caps.bound) }
+        ensures refusal { IfErr result (λ f. f ≡ store_fault (V.weight value) self.old.caps.bound) }
         ensures err { OnErr result ((self.new ≡ self.old) × (notices.new ≡ notices.old)) }
     {
         let weight = value.weight();

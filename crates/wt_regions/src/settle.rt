@@ -9,15 +9,13 @@
 //             was counted as often, or more often ────► stays; the candidate leaves
 //
 // A read-only function decides first, and a mover goes by what it answers.
-ghost use Rattle.std.specs.Prelude.{◌≡◌, ◌+◌, ◌<◌, ◌≤◌, ◌∷◌, length, None, IfOk, OnOk, OnErr};
+ghost use Rattle.std.specs.Prelude.{◌≡◌, ◌+◌, ◌<◌, ◌≤◌, length, None, IfOk, OnOk, OnErr};
 ghost use Rattle.std.specs.Map.{lookup};
-ghost use Rattle.std.specs.Option.{option_map_or};
-ghost use Rattle.lru.specs.LruCache.{last_entry};
 ghost use Rattle.wt_sketch.specs.Sketch.{estimate_of};
-ghost use Rattle.wt_regions.specs.Lists.{all_but_last, held_for, lists_of, weight_of};
-ghost use Rattle.wt_regions.specs.Moves.{IsPlaced, estimates};
+ghost use Rattle.wt_regions.specs.Lists.{held_for, weight_of};
+ghost use Rattle.wt_regions.specs.Moves.{IsPlaced, WeighsUp, estimates, overflowing, passed_on, settling};
 ghost use Rattle.wt_regions.specs.Notices.{appended};
-ghost use Rattle.wt_regions.specs.Settle.{fate, grown, overflowed, settled};
+ghost use Rattle.wt_regions.specs.Settle.{fate, grown};
 
 use crate::caches::Caches;
 use crate::held::Held;
@@ -81,11 +79,7 @@ impl<K: CacheKey, V: Share + Weighs> Caches<K, V> {
         requires placed { IsPlaced K.eq V.weight self.old }
         requires elsewhere { lookup (K.eq key) self.old.window ≡ None }
         requires full { self.old.caps.window ≤ length self.old.window }
-        ensures state { OnOk result (self.new ≡ lists_of self.old.caps
-            (all_but_last ((key, held) ∷ self.old.window))
-            (option_map_or (λ e. e ∷ self.old.probation)
-            (last_entry self.old.window) self.old.probation)
-            self.old.protected) }
+        ensures state { OnOk result (self.new ≡ passed_on (key, held) self.old) }
         ensures err { OnErr result (self.new ≡ self.old) }
     {
         let Some((last_key, last)) = self.window.peek_lru() else {
@@ -113,13 +107,11 @@ impl<K: CacheKey, V: Share + Weighs> Caches<K, V> {
         requires elsewhere { lookup (K.eq key) self.old.window ≡ None }
         requires full { self.old.caps.window ≤ length self.old.window }
         requires room { 0 < notices.old.room }
-        ensures state { OnOk result (self.new ≡ (overflowed (estimates sketch.now K.word)
-            held.written (grown (key, held) self.old)).0) }
-        ensures notices { OnOk result (notices.new ≡ appended
-            (overflowed (estimates sketch.now K.word) held.written (grown (key, held) self.old)).1
-            notices.old) }
-        ensures weight { IfOk result (λ gone.
-            weight_of self.new + gone ≡ weight_of (grown (key, held) self.old)) }
+        ensures state { OnOk result (self.new
+            ≡ (overflowing K.word sketch.now key held self.old).0) }
+        ensures notices { OnOk result (notices.new
+            ≡ appended (overflowing K.word sketch.now key held self.old).1 notices.old) }
+        ensures weight { IfOk result (WeighsUp (weight_of (grown (key, held) self.old)) self.new) }
         ensures err { OnErr result ((self.new ≡ self.old) × (notices.new ≡ notices.old)) }
     {
         let Some((last_key, last)) = self.window.peek_lru() else {
@@ -153,13 +145,10 @@ impl<K: CacheKey, V: Share + Weighs> Caches<K, V> {
         requires placed { IsPlaced K.eq V.weight self.old }
         requires elsewhere { held_for K.eq key self.old ≡ None }
         requires room { 0 < notices.old.room }
-        ensures state { OnOk result (self.new
-            ≡ (settled (estimates sketch.now K.word) held.written (key, held) self.old).0) }
-        ensures notices { OnOk result (notices.new ≡ appended
-            (settled (estimates sketch.now K.word) held.written (key, held) self.old).1
-            notices.old) }
-        ensures weight { IfOk result (λ gone.
-            weight_of self.new + gone ≡ weight_of self.old + held.weight) }
+        ensures state { OnOk result (self.new ≡ (settling K.word sketch.now key held self.old).0) }
+        ensures notices { OnOk result (notices.new
+            ≡ appended (settling K.word sketch.now key held self.old).1 notices.old) }
+        ensures weight { IfOk result (WeighsUp (weight_of self.old + held.weight) self.new) }
         ensures err { OnErr result ((self.new ≡ self.old) × (notices.new ≡ notices.old)) }
     {
         if self.window.len() < self.caps.window as usize {
