@@ -1,6 +1,5 @@
 -- What one shard answers to the lines of a trace.
 use Rattle.std.specs.Prelude.{ℕ, ◌+◌, ◌%◌, ◌==◌, Bool, true, false, if◌then◌else◌, List, [], ◌∷◌, ◌++◌, codes}
-use Rattle.std.specs.List.{flat_map}
 use Rattle.std.specs.Option.{option_map_or}
 use Rattle.wt_keys.specs.Hash.{shard_of}
 use Rattle.wt_regions.specs.declared.notices.Notice.{Notice}
@@ -21,7 +20,7 @@ use Rattle.wt_trace.specs.declared.options.Options.{Options}
 use Rattle.wt_trace.specs.declared.version.Version.{Version}
 use Rattle.wt_trace.specs.Keys.{Keys}
 use Rattle.wt_trace.specs.Line.{key_of}
-use Rattle.wt_trace.specs.Words.{words_of, loaded_words, notice_text}
+use Rattle.wt_trace.specs.Words.{words_of, loaded_words, notices_text}
 use Rattle.wt_trace.specs.Options.{config_of}
 
 -- what a shard answers: the text that it adds to each line, of another shard's line nothing, and its numbers at the end
@@ -48,7 +47,7 @@ module _ {K : Type 0} (keys : Keys K) where
 
   -- the words, then the notices
   abbrev pub shown : List ℕ → List (Notice K (Version K)) → State K (Version K) → Shown K
-  shown words notices s = record { state = s; text = words ++ flat_map (notice_text keys) notices }
+  shown words notices s = record { state = s; text = words ++ notices_text keys.shown notices }
 
   -- one call: its words and its notices
   abbrev pub one_call : ℕ → State K (Version K) → Call K (Version K) → Shown K

@@ -3,7 +3,7 @@ use Rattle.std.specs.Prelude.{◌≡◌, ℕ, ◌^◌, ◌<◌, ◌≤◌, ◌==
 use Rattle.std.specs.List.{list_all}
 use Rattle.std.specs.Cmp.Lexicographic.{pointwise}
 use Rattle.std.specs.Str.{all_ascii_digits}
-use Rattle.std.specs.Str.Parse.{digits_value}
+use Rattle.std.specs.Str.Parse.{AllDigits, digits_value}
 use Rattle.wt_keys.specs.Hash.{word_of_name}
 
 -- a kind of keys: when two are equal, the word of one, how it is read, and how it is printed
@@ -16,6 +16,18 @@ pub record Keys (K : Type 0) : Type 0 where
 -- the kind of keys that have these
 abbrev pub keys_by : {K : Type 0} → (K → K → Bool) → (K → ℕ) → (List ℕ → Option K) → (K → List ℕ) → Keys K
 keys_by eq word read shown = record { eq = eq; word = word; read = read; shown = shown }
+
+-- what a clause has as K.TraceKey: all members of a key
+abbrev pub KeyMembers : Type 0 → Type 0
+KeyMembers K = record { hash_input : K → List (List ℕ); eq : K → K → Bool; word : K → ℕ; read : List ℕ → Option K; shown : K → List ℕ }
+
+-- the kind of keys that has these
+abbrev pub keys_of : {K : Type 0} → KeyMembers K → Keys K
+keys_of m = keys_by m.eq m.word m.read m.shown
+
+-- digits have this value, which is below 2^64
+abbrev pub IsValueOf : List ℕ → ℕ → Type 0
+IsValueOf digits n = AllDigits 10 digits × (n ≡ digits_value 10 digits) × (n < 2 ^ 64)
 
 -- 1 to 20 decimal digits, whose value is below 2^64
 pub record IsNumber (digits : List ℕ) (n : ℕ) : Type 0 where

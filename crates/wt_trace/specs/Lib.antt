@@ -8,6 +8,7 @@ pub mod Words
 pub mod Answers
 pub mod Standing
 pub mod Calls
+pub mod Laws
 pub mod Pieces
 pub mod Report
 pub mod Stops

@@ -1,5 +1,5 @@
 -- What threads make of the shards, and how it is put together.
-use Rattle.std.specs.Prelude.{◌≡◌, ℕ, ◌%◌, ◌<◌, ◌==◌, if◌then◌else◌, List, map, get_or, slice_set, Option, None, Some, Result, Ok, Err, IfOk, OnOk, IfErr}
+use Rattle.std.specs.Prelude.{◌≡◌, ℕ, ◌%◌, ◌<◌, ◌==◌, if◌then◌else◌, List, [], map, get_or, slice_set, Option, None, Some, Result, Ok, Err, IfOk, OnOk, IfErr}
 use Rattle.std.specs.List.{range_with_len}
 use Rattle.wt_trace.specs.Answers.{Answers}
 use Rattle.wt_trace.specs.Stops.{IsStop}
@@ -18,6 +18,11 @@ place_at shard (Err fault) = Err fault
 abbrev pub without : ℕ → Result (List (Option Answers)) ReplayFault → Result (List (Option Answers)) ReplayFault
 without shard (Ok places) = Ok (slice_set places shard None)
 without shard (Err fault) = Err fault
+
+-- what all threads made, once the place of a shard in the t-th part was emptied
+abbrev pub all_without : ℕ → ℕ → List (Result (List (Option Answers)) ReplayFault)
+    → List (Result (List (Option Answers)) ReplayFault)
+all_without t shard parts = slice_set parts t (without shard (get_or parts t (Ok [])))
 
 -- what thread t promises of its part
 pub record IsPart (answer : ℕ → Answers) (stops passed : ℕ → Type 0) (shards threads t : ℕ) (part : Result (List (Option Answers)) ReplayFault) : Type 0 where

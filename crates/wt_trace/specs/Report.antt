@@ -1,5 +1,6 @@
 -- The report of a trace.
-use Rattle.std.specs.Prelude.{◌≡◌, ℕ, ◌+◌, ◌-◌, ◌*◌, min, Bool, true, false, if◌then◌else◌, List, [], ◌++◌, map, length, get_or, drop, sum_by, is_ok, Ok, Err, codes, decimal}
+use Rattle.std.specs.Prelude.{◌≡◌, ℕ, ◌+◌, ◌-◌, ◌*◌, ◌<◌, min, Bool, true, false, if◌then◌else◌, List, [], ◌++◌, Vec, map, length, get_or, drop, sum_by, is_ok, Result, Ok, Err, IfOk, alloc_error, codes, decimal}
+use Rattle.std.specs.declared.alloc.AllocError.{AllocError}
 use Rattle.std.specs.List.{flat_map, range_with_len}
 use Rattle.wt_core.specs.declared.stats.Stats.{Stats}
 use Rattle.wt_trace.specs.declared.fault.ReplayFault.TheVariants.{BadLine, LineTooLong, TooManyLines}
@@ -24,6 +25,11 @@ lines_text first all i len = flat_map (line_text first all) (range_with_len i le
 -- piece t of so many lines, of at most so many each
 abbrev pub piece_text : ℕ → List Answers → ℕ → ℕ → ℕ → List ℕ
 piece_text first all count most t = lines_text first all (min (t * most) count) (min most (count - min (t * most) count))
+
+-- what threads print: each its piece, if there was memory for it
+abbrev pub ArePieces : {Z : Type 0} → ℕ → List Answers → ℕ → ℕ → ℕ → List (Result (Vec ℕ Z) AllocError) → Type 0
+ArePieces first all count most threads pieces =
+    (t : ℕ) → t < threads → IfOk (get_or pieces t (Err alloc_error)) (λ out. out.items ≡ piece_text first all count most t)
 
 -- a label with a number
 unfoldable pub count_text : List ℕ → ℕ → List ℕ

@@ -1,5 +1,5 @@
 -- A trace: the lines up to the first fault.
-use Rattle.std.specs.Prelude.{◌≡◌, ℕ, ◌+◌, ◌==◌, ◌<◌, nat_eq, nat_lt, Bool, false, if◌then◌else◌, List, [], ◌∷◌, length, get_or, Option, IfSome, None, Some, Result, Ok, Err, codes}
+use Rattle.std.specs.Prelude.{◌≡◌, ℕ, ◌+◌, ◌==◌, ◌<◌, ◌++◌, nat_eq, nat_lt, Bool, true, false, if◌then◌else◌, List, [], ◌∷◌, length, get_or, drop, Option, IfSome, None, Some, Result, Ok, Err, codes}
 use Rattle.std.specs.List.{onto_first, flat_map}
 use Rattle.std.specs.Cmp.Lexicographic.{pointwise}
 use Rattle.wt_trace.specs.declared.line.Line.{Line}
@@ -37,6 +37,10 @@ abbrev pub is_header : List (List ℕ) → Bool
 is_header [] = false
 is_header (l ∷ ls) = pointwise nat_eq l (codes "wt 2")
 
+-- the first line of the bytes is that line, and the rest is what stands behind it
+abbrev pub IsBehindHeader : List ℕ → List ℕ → Type 0
+IsBehindHeader bytes rest = (is_header (lines_of bytes) ≡ true) × (drop 1 (lines_of bytes) ≡ lines_of rest)
+
 -- the lines up to the first fault, and that fault
 pub record Trace (K : Type 0) : Type 0 where
   pub lines : List (Line K)
@@ -50,6 +54,10 @@ module _ {K : Type 0} where
   -- these are its lines, and none is at fault
   abbrev pub IsFaultless : Trace K → List (Line K) → Type 0
   IsFaultless t lines = (t.lines ≡ lines) × (t.verdict ≡ Ok tt)
+
+  -- a trace with further lines, and their verdict
+  abbrev pub trace_with : Trace K → List (Line K) → Verdict → Trace K
+  trace_with t lines verdict = record { lines = t.lines ++ lines; verdict = verdict }
 
   -- a line that isn't there is a bad one
   abbrev pub or_bad : ℕ → Option (Line K) → Result (Line K) ReplayFault

@@ -1,5 +1,6 @@
 -- The words of a report.
 use Rattle.std.specs.Prelude.{ℕ, ◌==◌, if◌then◌else◌, List, [], ◌++◌, codes, decimal}
+use Rattle.std.specs.List.{flat_map}
 use Rattle.wt_keys.specs.declared.fault.Fault.TheVariants.{TooHeavy, TooManyFlights}
 use Rattle.wt_regions.specs.declared.notices.Cause.{Cause}
 use Rattle.wt_regions.specs.declared.notices.Cause.TheVariants.{Explicit, Replaced, Expired, Size}
@@ -7,7 +8,6 @@ use Rattle.wt_regions.specs.declared.notices.Notice.{Notice}
 use Rattle.wt_core.specs.declared.calls.Reply.{Reply}
 use Rattle.wt_core.specs.declared.calls.Reply.TheVariants as reply
 use Rattle.wt_trace.specs.declared.version.Version.{Version}
-use Rattle.wt_trace.specs.Keys.{Keys}
 
 -- the name of a cause
 abbrev pub cause_name : Cause → List ℕ
@@ -42,6 +42,10 @@ module _ {K : Type 0} where
   loaded_words (reply.Kept sharers) = codes " load"
   loaded_words r = words_of 0 r
 
-  -- what is printed of an entry that left
-  abbrev pub notice_text : Keys K → Notice K (Version K) → List ℕ
-  notice_text keys e = codes " " ++ (keys.shown e.key ++ (codes ":" ++ (decimal e.value.line ++ (codes ":" ++ cause_name e.cause))))
+  -- what is printed of an entry that left, by how its key is printed
+  abbrev pub notice_text : (K → List ℕ) → Notice K (Version K) → List ℕ
+  notice_text shown e = codes " " ++ (shown e.key ++ (codes ":" ++ (decimal e.value.line ++ (codes ":" ++ cause_name e.cause))))
+
+  -- what is printed of all entries that left, in their order
+  abbrev pub notices_text : (K → List ℕ) → List (Notice K (Version K)) → List ℕ
+  notices_text shown left = flat_map (notice_text shown) left

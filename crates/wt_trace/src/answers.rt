@@ -37,7 +37,7 @@ impl Answers {
         requires { i < length self.now.texts }
         ensures { result.now ≡ get_or self.now.texts i [] }
     {
-        piece(&self.text, &self.ends, i)
+        text_at(&self.text, &self.ends, i)
     }
 
     /// Returns the numbers at the end.
@@ -49,7 +49,7 @@ impl Answers {
     }
 }
 
-// Where the piece before the i-th ends, from 0.
+// Where the text before the i-th ends, from 0.
 fn start_of(ends: &[u32], i: usize) -> usize
     requires { i ≤ length ends.now }
     ensures { result ≡ get_or (0 ∷ ends.now) i 0 }
@@ -60,17 +60,17 @@ fn start_of(ends: &[u32], i: usize) -> usize
     ends[i - 1] as usize
 }
 
-// The i-th piece of a text.
-fn piece<'a>(text: &'a [u8], ends: &[u32], i: usize) -> &'a [u8]
+// The i-th of the texts that stand one behind the other.
+fn text_at<'a>(text: &'a [u8], ends: &[u32], i: usize) -> &'a [u8]
     requires ends { AreEnds (length text.now) 0 ends.now }
     requires within { i < length ends.now }
     ensures { result.now ≡ get_or (pieces text.now 0 ends.now) i [] }
 {
-    part(text, start_of(ends, i), ends[i] as usize)
+    between(text, start_of(ends, i), ends[i] as usize)
 }
 
 // What stands from one place to another.
-fn part(text: &[u8], start: usize, end: usize) -> &[u8]
+fn between(text: &[u8], start: usize, end: usize) -> &[u8]
     requires order { start ≤ end }
     requires within { end ≤ length text.now }
     ensures { result.now ≡ slice_range text.now start end }

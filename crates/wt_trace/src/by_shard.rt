@@ -1,12 +1,11 @@
 // The shards on threads: thread t runs those whose number modulo the threads is t, each shard's
 // lines in order.
-ghost use Rattle.std.specs.Prelude.{◌≡◌, ◌≤◌, ◌<◌, ℕ, [], Ok, IfOk, OnOk, None, length, vec_len, get_or, slice_set, true, false};
-ghost use Rattle.wt_trace.specs.Contract.{AreOfShards, IsPartOf, IsReadyOn, IsReported};
-ghost use Rattle.wt_trace.specs.Keys.{keys_by};
+ghost use Rattle.std.specs.Prelude.{◌≡◌, ◌≤◌, ◌<◌, [], Ok, IfOk, OnOk, None, length, vec_len, get_or, true};
+ghost use Rattle.wt_trace.specs.Contract.{AreAllAsked, AreAnswered, HaveRan, IsPartOn, IsReadyOn, IsReportOf, IsReportedBy};
 ghost use Rattle.wt_trace.specs.Options.{option_fault};
-ghost use Rattle.wt_trace.specs.Parts.{place_at, without};
-ghost use Rattle.wt_trace.specs.Report.{IsVerdict, report, report_of};
-ghost use Rattle.wt_trace.specs.Stops.{AllAsked, Asked};
+ghost use Rattle.wt_trace.specs.Parts.{all_without, place_at, without};
+ghost use Rattle.wt_trace.specs.Report.{IsVerdict, report};
+ghost use Rattle.wt_trace.specs.Stops.{Asked};
 
 use crate::answers::Answers;
 use crate::fault::ReplayFault;
@@ -52,8 +51,7 @@ fn part_of<K: TraceKey, G: Gate>(
     t: usize,
 ) -> Result<Part, ReplayFault>
     requires { IsReadyOn threads options.now first (length read.now.lines) }
-    ensures { IsPartOf (keys_by K.eq K.word K.read K.shown) options.now (G.answers gate.now)
-        first read.now.lines threads t result }
+    ensures { IsPartOn K.TraceKey options.now G.answers gate.now first read.now threads t result }
 {
     let mut places = Vec::new(alloc);
     for shard in 0..options.shards() {
@@ -88,8 +86,7 @@ fn take_at(
     requires within { t < vec_len parts.old }
     requires place { IfOk (get_or parts.old.items t (Ok [])) (λ places. shard < length places) }
     ensures taken { result ≡ place_at shard (get_or parts.old.items t (Ok [])) }
-    ensures left { parts.new.items ≡ slice_set parts.old.items t
-        (without shard (get_or parts.old.items t (Ok []))) }
+    ensures left { parts.new.items ≡ all_without t shard parts.old.items }
 {
     take(&mut parts[t], shard)
 }
@@ -106,9 +103,7 @@ fn parts<H: Threads + Sync, K: TraceKey, G: Gate>(
 ) -> Result<Vec<Result<Part, ReplayFault>>, AllocError>
     requires { IsReadyOn threads options.now first (length read.now.lines) }
     ensures len { IfOk result (λ parts. vec_len parts ≡ threads) }
-    ensures each { IfOk result (λ parts. (t : ℕ) → t < threads
-        → IsPartOf (keys_by K.eq K.word K.read K.shown) options.now (G.answers gate.now) first
-        read.now.lines threads t (get_or parts.items t (Ok []))) }
+    ensures each { HaveRan K.TraceKey options.now G.answers gate.now first read.now threads result }
 {
     thread::map_indices(
         rt,
@@ -116,8 +111,8 @@ fn parts<H: Threads + Sync, K: TraceKey, G: Gate>(
         threads,
         &|t: usize| -> Result<Part, ReplayFault>
             requires { IsReadyOn threads options.now first (length read.now.lines) }
-            ensures { IsPartOf (keys_by K.eq K.word K.read K.shown) options.entry.now
-                (G.answers gate.entry.now) first read.entry.now.lines threads t result }
+            ensures { IsPartOn K.TraceKey options.entry.now G.answers gate.entry.now first
+                read.entry.now threads t result }
         { part_of(alloc, options, first, read, gate, threads, t) },
     )
 }
@@ -134,8 +129,7 @@ fn answers_by_shard<H: Threads + Sync, K: TraceKey, G: Gate>(
     threads: usize,
 ) -> Result<Vec<Answers>, ReplayFault>
     requires { IsReadyOn threads options.now first (length read.now.lines) }
-    ensures { AreOfShards (keys_by K.eq K.word K.read K.shown) options.now
-        (G.answers gate.now) first read.now.lines result }
+    ensures { AreAnswered K.TraceKey options.now G.answers gate.now first read.now result }
 {
     let mut parts = parts(rt, alloc, options, first, read, gate, threads)?;
     let mut all = Vec::new(alloc);
@@ -162,10 +156,8 @@ fn report_of<H: Threads + Sync, K: TraceKey, G: Gate>(
     requires ready { IsReadyOn threads options.now first (length read.lines) }
     requires most { threads ≤ 64 }
     requires kind { IsVerdict read.verdict }
-    ensures made { IsReported (λ text. text) (report_of (keys_by K.eq K.word K.read K.shown)
-        options.now first read) (λ n. G.answers gate.now n false) result }
-    ensures asked { OnOk result (AllAsked (keys_by K.eq K.word K.read K.shown) options.now
-        (λ n. G.answers gate.now n true) first read.lines) }
+    ensures made { IsReportOf K.TraceKey options.now G.answers gate.now first read result }
+    ensures asked { OnOk result (AreAllAsked K.TraceKey options.now G.answers gate.now first read) }
 {
     let all = answers_by_shard(rt, alloc, options, first, &read, gate, threads)?;
     let count = read.len();
@@ -190,8 +182,7 @@ pub fn report_by_shard<H: Threads + Sync, G: Gate>(
 ) -> Result<(Texts, Result<(), ReplayFault>), ReplayFault>
     requires options { option_fault options.now ≡ None }
     requires threads { (0 < threads) × (threads ≤ 64) }
-    ensures made { IsReported (λ text. text) (report options.now bytes.items)
-        (λ n. G.answers gate.now n false) result }
+    ensures made { IsReportedBy (report options.now bytes.items) G.answers gate.now result }
     ensures asked { OnOk result (Asked options.now (λ n. G.answers gate.now n true) bytes.items) }
 {
     let Some(rest) = behind_header(&bytes) else {

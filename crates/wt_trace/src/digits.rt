@@ -1,15 +1,14 @@
 // Numbers as digits: read and written.
-ghost use Rattle.std.specs.Prelude.{◌≡◌, ◌++◌, ◌^◌, ◌<◌, ◌≤◌, OnOk, IfSome, IsNone, decimal};
+ghost use Rattle.std.specs.Prelude.{◌≡◌, ◌++◌, ◌^◌, ◌≤◌, OnOk, IfSome, IsNone, decimal};
 ghost use Rattle.std.specs.Str.Parse.{AllDigits, digits_value};
-ghost use Rattle.wt_trace.specs.Keys.{number_of};
+ghost use Rattle.wt_trace.specs.Keys.{IsValueOf, number_of};
 
 use itoa::Buffer;
 use std::alloc::AllocError;
 
 // The value of digits, unless it is 2^64 or more.
 fn value_of(digits: &[u8]) -> Option<u64>
-    ensures some { IfSome result (λ n. AllDigits 10 digits.now × (n ≡ digits_value 10 digits.now)
-        × (n < 2 ^ 64)) }
+    ensures some { IfSome result (IsValueOf digits.now) }
     ensures none { IsNone result → AllDigits 10 digits.now → 2 ^ 64 ≤ digits_value 10 digits.now }
 {
     let mut n = 0u64;

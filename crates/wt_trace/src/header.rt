@@ -1,6 +1,6 @@
 // The first line of a trace, which may say what its keys are.
-ghost use Rattle.std.specs.Prelude.{◌≡◌, IfSome, IsNone, drop, true, false};
-ghost use Rattle.wt_trace.specs.Trace.{lines_of, is_header};
+ghost use Rattle.std.specs.Prelude.{◌≡◌, IfSome, IsNone, false};
+ghost use Rattle.wt_trace.specs.Trace.{IsBehindHeader, lines_of, is_header};
 
 use crate::bytes::cut;
 
@@ -11,8 +11,7 @@ const HEADER: &[u8] = b"wt 2";
 /// keys are names.
 #[tactic(auto, using(crate::proofs::Reports::header_first, crate::proofs::Reports::behind_first))]
 pub fn behind_header(bytes: &[u8]) -> Option<&[u8]>
-    ensures some { IfSome result (λ rest. (is_header (lines_of bytes.now) ≡ true)
-        × (drop 1 (lines_of bytes.now) ≡ lines_of rest.now)) }
+    ensures some { IfSome result (λ rest. IsBehindHeader bytes.now rest.now) }
     ensures none { IsNone result → is_header (lines_of bytes.now) ≡ false }
 {
     let (first, rest) = cut(bytes, b'\n');

@@ -22,8 +22,6 @@ mod run;
 mod shard;
 mod summary;
 mod tallied;
-#[cfg(test)]
-mod tests;
 mod texts;
 mod trace;
 mod version;

@@ -1,8 +1,7 @@
 // The options of a run.
-ghost use Rattle.std.specs.Prelude.{◌≡◌, ◌<◌, ◌≤◌, ◌^◌, ◌==◌, ◌||◌, IsTrue, MatchOption, None, Ok, Err};
-ghost use Rattle.wt_keys.specs.declared.fault.Fault.TheVariants as cache;
+ghost use Rattle.std.specs.Prelude.{◌≡◌, ◌<◌, ◌≤◌, ◌^◌, ◌==◌, ◌||◌, IsTrue, None};
+ghost use Rattle.wt_trace.specs.Contract.{IsChecked};
 ghost use Rattle.wt_trace.specs.Options.{is_outside, is_shard_count};
-ghost use Rattle.wt_trace.specs.declared.fault.ReplayFault.TheVariants as fault;
 
 use crate::fault::ReplayFault;
 use wt_core::Config;
@@ -168,8 +167,7 @@ impl Options {
     /// Checks each option against its range, in the order of the fields, and answers `BadConfig` of
     /// the first that is out of it. Takes no memory.
     pub fn check(&self) -> Result<(), ReplayFault>
-        ensures { MatchOption (option_fault self.now) (result ≡ Ok tt)
-            (λ field. result ≡ Err (fault.Cache (cache.BadConfig field))) }
+        ensures { IsChecked self.now result }
     {
         match self.fault() {
             Some(field) => Err(ReplayFault::Cache(Fault::BadConfig { field })),

@@ -1,6 +1,6 @@
-// The lines of a trace read on threads: each reads a piece of the bytes that ends with a line, and
-// the pieces are put together in their order. A thread doesn't know how many lines there are before
-// its piece, so a piece with a fault is read again, by the numbers of its lines.
+// The lines of a trace read on threads: each reads a chunk of the bytes that ends with a line, and
+// what they read is put together in the order of the chunks. A thread doesn't know how many lines
+// there are before its chunk, so a chunk with a fault is read again, by the numbers of its lines.
 ghost use Rattle.std.specs.Prelude.{◌≡◌, ◌==◌, ◌+◌, ◌<◌, ◌≤◌, [], ◌++◌, IfOk, None, position, get_or, slice_set, drop, length, vec_len};
 ghost use Rattle.wt_trace.specs.Contract.{AreRead};
 ghost use Rattle.wt_trace.specs.Trace.{AreAlone, AreLines, lines_of, lines_of_all, trace_from, line_end};
@@ -15,27 +15,27 @@ use std::thread;
 use std::thread::Threads;
 use wt_keys::NoMemory;
 
-// A piece of the bytes.
+// A part of a trace's bytes that ends with a line.
 #[derive(Drop)]
-struct Bytes<'a> {
+struct Chunk<'a> {
     bytes: &'a [u8],
 }
 
-impl<'a> Model for Bytes<'a> {
+impl<'a> Model for Chunk<'a> {
     ghost use Rattle.std.specs.Prelude.{List, ℕ};
 
     ghost Value = { List ℕ };
 
-    ghost view = { λ b. b.bytes.now };
+    ghost view = { λ c. c.bytes.now };
 }
 
-// The t-th of the pieces.
-fn bytes_at<'a>(pieces: &[Bytes<'a>], t: usize) -> &'a [u8]
-    requires { t < length pieces.now }
-    ensures { result.now ≡ get_or pieces.now t [] }
+// The bytes of the t-th chunk.
+fn bytes_at<'a>(chunks: &[Chunk<'a>], t: usize) -> &'a [u8]
+    requires { t < length chunks.now }
+    ensures { result.now ≡ get_or chunks.now t [] }
 {
-    let piece = &pieces[t];
-    piece.bytes
+    let chunk = &chunks[t];
+    chunk.bytes
 }
 
 // Where the first LF at or behind a place stands, from there.
@@ -60,25 +60,25 @@ fn cut_behind(bytes: &[u8], most: usize) -> (&[u8], &[u8])
     }
 }
 
-// So many pieces of the bytes.
-fn cut_up<'a>(alloc: Global, bytes: &'a [u8], count: usize) -> Result<Vec<Bytes<'a>>, AllocError>
+// Cuts the bytes into `count` chunks.
+fn cut_up<'a>(alloc: Global, bytes: &'a [u8], count: usize) -> Result<Vec<Chunk<'a>>, AllocError>
     requires { 0 < count }
-    ensures { IfOk result (λ pieces. lines_of_all pieces.items ≡ lines_of bytes.now) }
+    ensures { IfOk result (λ chunks. lines_of_all chunks.items ≡ lines_of bytes.now) }
 {
     let most = bytes.len() / count;
     let mut out = Vec::new(alloc);
     let mut rest = bytes;
     for _t in 1..count {
-        let (piece, after) = cut_behind(rest, most);
-        out.push(Bytes { bytes: piece })?;
+        let (chunk, after) = cut_behind(rest, most);
+        out.push(Chunk { bytes: chunk })?;
         rest = after;
     }
-    out.push(Bytes { bytes: rest })?;
+    out.push(Chunk { bytes: rest })?;
     Ok(out)
 }
 
-// The lines of a piece, if none is at fault and there is memory for them.
-fn read_piece<K: TraceKey>(alloc: Global, first: u64, bytes: &[u8]) -> Option<Piece<K>>
+// The lines of a chunk, if none is at fault and there is memory for them.
+fn read_chunk<K: TraceKey>(alloc: Global, first: u64, bytes: &[u8]) -> Option<Piece<K>>
     requires { first ≤ line_end }
     ensures { AreLines K.read first bytes.now result }
 {
@@ -92,29 +92,29 @@ fn read_piece<K: TraceKey>(alloc: Global, first: u64, bytes: &[u8]) -> Option<Pi
     Some(Piece::new(lines))
 }
 
-// The lines of all pieces, each read as if it were the first.
-fn read_pieces<H: Threads + Sync, K: TraceKey>(
+// The lines of all chunks, each read as if it were the first.
+fn read_chunks<H: Threads + Sync, K: TraceKey>(
     rt: &H,
     alloc: Global,
     first: u64,
-    pieces: &[Bytes<'_>],
+    chunks: &[Chunk<'_>],
 ) -> Result<Vec<Option<Piece<K>>>, AllocError>
     requires { first ≤ line_end }
-    ensures len { IfOk result (λ read. vec_len read ≡ length pieces.now) }
-    ensures each { IfOk result (λ read. AreAlone K.read first pieces.now read.items) }
+    ensures len { IfOk result (λ read. vec_len read ≡ length chunks.now) }
+    ensures each { IfOk result (λ read. AreAlone K.read first chunks.now read.items) }
 {
     thread::map_indices(
         rt,
         alloc,
-        pieces.len(),
+        chunks.len(),
         &|t: usize| -> Option<Piece<K>>
-            requires { (first ≤ line_end) × (t < length pieces.now) }
-            ensures { AreLines K.read first (get_or pieces.entry.now t []) result }
-        { read_piece(alloc, first, bytes_at(pieces, t)) },
+            requires { (first ≤ line_end) × (t < length chunks.now) }
+            ensures { AreLines K.read first (get_or chunks.entry.now t []) result }
+        { read_chunk(alloc, first, bytes_at(chunks, t)) },
     )
 }
 
-// The lines of a piece whose first line is line n, by what a thread read by other numbers.
+// The lines of a chunk whose first line is line n, by what a thread read by other numbers.
 fn numbered<K: TraceKey>(
     alloc: Global,
     first: u64,
@@ -138,7 +138,7 @@ fn numbered<K: TraceKey>(
     read_lines(alloc, n, bytes)
 }
 
-// Takes what was read of the t-th piece.
+// Takes what was read of the t-th chunk.
 fn take_at<K: TraceKey>(read: &mut Vec<Option<Piece<K>>>, t: usize) -> Option<Piece<K>>
     requires { t < vec_len read.old }
     ensures taken { result ≡ get_or read.old.items t None }
@@ -147,25 +147,25 @@ fn take_at<K: TraceKey>(read: &mut Vec<Option<Piece<K>>>, t: usize) -> Option<Pi
     read[t].take()
 }
 
-// The lines of all pieces up to the first fault, by what the threads read.
+// The lines of all chunks up to the first fault, by what the threads read.
 fn put_together<K: TraceKey>(
     alloc: Global,
     first: u64,
-    pieces: &[Bytes<'_>],
+    chunks: &[Chunk<'_>],
     read: Vec<Option<Piece<K>>>,
 ) -> Result<Pieces<K>, NoMemory>
     requires first { first ≤ line_end }
-    requires len { vec_len read ≡ length pieces.now }
-    requires each { AreAlone K.read first pieces.now read.items }
+    requires len { vec_len read ≡ length chunks.now }
+    requires each { AreAlone K.read first chunks.now read.items }
     ensures few { IfOk result (λ all. first + length all.lines ≤ line_end) }
-    ensures lines { IfOk result (λ all. all ≡ trace_from K.read first (lines_of_all pieces.now)) }
+    ensures lines { IfOk result (λ all. all ≡ trace_from K.read first (lines_of_all chunks.now)) }
 {
     let mut read = read;
     let mut all = Pieces::new(alloc);
-    for t in 0..pieces.len() {
+    for t in 0..chunks.len() {
         let n = first + all.len() as u64;
         let own = take_at(&mut read, t);
-        let one = numbered(alloc, first, n, bytes_at(pieces, t), own)?;
+        let one = numbered(alloc, first, n, bytes_at(chunks, t), own)?;
         all.push(one)?;
         if all.verdict().is_err() {
             return Ok(all);
@@ -188,7 +188,7 @@ pub fn read_on_threads<H: Threads + Sync, K: TraceKey>(
     ensures few { IfOk result (λ all. first + length all.lines ≤ line_end) }
     ensures lines { IfOk result (λ all. all ≡ trace_from K.read first (lines_of bytes.now)) }
 {
-    let pieces = cut_up(alloc, bytes, threads)?;
-    let read = read_pieces(rt, alloc, first, &pieces)?;
-    put_together(alloc, first, &pieces, read)
+    let chunks = cut_up(alloc, bytes, threads)?;
+    let read = read_chunks(rt, alloc, first, &chunks)?;
+    put_together(alloc, first, &chunks, read)
 }

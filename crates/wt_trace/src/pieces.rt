@@ -1,6 +1,6 @@
 // The lines of a trace in pieces, and a walk over all of them.
 ghost use Rattle.std.specs.Prelude.{◌≡◌, ◌+◌, ◌<◌, ◌^◌, ◌++◌, [], ◌∷◌, OnOk, MatchOption, Ok, length};
-ghost use Rattle.wt_trace.specs.Trace.{joined};
+ghost use Rattle.wt_trace.specs.Trace.{joined, trace_with};
 
 use crate::fault::ReplayFault;
 use crate::key::TraceKey;
@@ -76,8 +76,7 @@ impl<K: TraceKey> Pieces<K> {
     /// Appends lines, and takes their verdict.
     pub fn push(&mut self, read: Lines<K>) -> Result<(), AllocError>
         requires { length self.old.lines + length read.lines.items < 2 ^ 64 }
-        ensures { OnOk result (self.new ≡ record
-            { lines = self.old.lines ++ read.lines.items; verdict = read.verdict }) }
+        ensures { OnOk result (self.new ≡ trace_with self.old read.lines.items read.verdict) }
     {
         let Lines { lines, verdict } = read;
         let count = lines.len();

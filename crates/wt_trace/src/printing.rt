@@ -1,7 +1,7 @@
 // Lines of a report printed on threads: each prints a piece, and the pieces stand in their order.
-ghost use Rattle.std.specs.Prelude.{◌≡◌, ◌++◌, ◌+◌, ◌<◌, ◌≤◌, ◌^◌, ℕ, All, IfOk, OnOk, Err, alloc_error, get_or, length, vec_len};
+ghost use Rattle.std.specs.Prelude.{◌≡◌, ◌++◌, ◌+◌, ◌<◌, ◌≤◌, ◌^◌, All, IfOk, OnOk, length, vec_len};
 ghost use Rattle.wt_trace.specs.Contract.{IsCut};
-ghost use Rattle.wt_trace.specs.Report.{lines_text, piece_text};
+ghost use Rattle.wt_trace.specs.Report.{ArePieces, lines_text, piece_text};
 ghost use Rattle.wt_trace.specs.Report as spec;
 ghost use Rattle.wt_trace.specs.Trace.{line_end};
 
@@ -42,8 +42,7 @@ fn show_lines(
 ) -> Result<(), AllocError>
     requires whole { All (λ a. from + len ≤ length a.texts) all.now }
     requires fits { first + from + len < 2 ^ 64 }
-    ensures { OnOk result (out.new.items ≡ out.old.items
-        ++ spec.lines_text first all.now from len) }
+    ensures { OnOk result (out.new.items ≡ out.old.items ++ lines_text first all.now from len) }
 {
     for i in 0..len {
         show_line(out, first, all, from + i)?;
@@ -84,9 +83,7 @@ fn pieces<H: Threads + Sync>(
     requires cut { IsCut first all.now count most }
     requires threads { threads ≤ 64 }
     ensures len { IfOk result (λ pieces. vec_len pieces ≡ threads) }
-    ensures each { IfOk result (λ pieces. (t : ℕ) → t < threads
-        → IfOk (get_or pieces.items t (Err alloc_error))
-        (λ out. out.items ≡ piece_text first all.now count most t)) }
+    ensures each { IfOk result (λ pieces. ArePieces first all.now count most threads pieces.items) }
 {
     thread::map_indices(
         rt,

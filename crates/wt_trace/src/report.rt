@@ -1,13 +1,22 @@
-// The report of a trace on one thread: all shards do a line, and its text is appended, before the
-// next line is read.
-ghost use Rattle.std.specs.Prelude.{◌≡◌, ◌++◌, ◌≤◌, IfOk, IfErr, OnOk, length, map, vec_len, None};
+// The report of a trace on one thread.
+//
+//     bytes  ──► behind_header   whether its keys are numbers or names
+//            ──► cut, checked    one line after another, up to the first fault
+//     line n ──► show_line       all shards do it; its number and what they add are appended
+//     shards ──► totals          what they counted, added up, if no line was at fault
+//            ──► show_numbers    the summary, behind the lines
+//
+// What comes out is the text, and the verdict: what is wrong with the first faulty line. A line is
+// done, and its text appended, before the next one is read.
+ghost use Rattle.std.specs.Prelude.{◌≡◌, ◌≤◌, IfOk, IfErr, length, map, vec_len, None};
 ghost use Rattle.wt_core.specs.State.{stats_of};
 ghost use Rattle.wt_core.specs.Sums.{AreSums};
-ghost use Rattle.wt_trace.specs.Contract.{AreShown, IsReported};
-ghost use Rattle.wt_trace.specs.Keys.{keys_by};
+ghost use Rattle.wt_trace.specs.Contract.{IsPrinted, ShowsLine, ShowsLines, StandBehind};
+ghost use Rattle.wt_trace.specs.Keys.{keys_of};
 ghost use Rattle.wt_trace.specs.Options.{option_fault};
+ghost use Rattle.wt_trace.specs.Report.{report_from};
 ghost use Rattle.wt_trace.specs.Report as spec;
-ghost use Rattle.wt_trace.specs.Standing.{standing_of, new_standings, next_standing, line_by};
+ghost use Rattle.wt_trace.specs.Standing.{standing_of, new_standings};
 ghost use Rattle.wt_trace.specs.Stops.{IsStop};
 ghost use Rattle.wt_trace.specs.Trace.{line_end};
 
@@ -29,7 +38,7 @@ use wt_keys::{Name, NoMemory};
 // Makes all shards, in their order.
 fn new_shards<K: TraceKey>(alloc: Global, options: &Options) -> Result<Vec<Shard<K>>, NoMemory>
     requires { option_fault options.now ≡ None }
-    ensures made { IfOk result (λ shards. map standing_of shards.items ≡ new_standings options.now) }
+    ensures made { IfOk result (λ all. map standing_of all.items ≡ new_standings options.now) }
     ensures few { IfOk result (λ shards. vec_len shards ≤ 4) }
 {
     let mut shards = Vec::new(alloc);
@@ -46,11 +55,8 @@ fn show_line<K: TraceKey>(
     line: &Line<K>,
     out: &mut Vec<u8>,
 ) -> Result<(), ReplayFault>
-    ensures text { OnOk result (out.new.items ≡ out.old.items
-        ++ line_by (keys_by K.eq K.word K.read K.shown) n line.now (map standing_of shards.old)) }
-    ensures state { OnOk result (map standing_of shards.new
-        ≡ map (next_standing (keys_by K.eq K.word K.read K.shown) n line.now)
-        (map standing_of shards.old)) }
+    ensures text { ShowsLine K.TraceKey n line.now shards.old out.old out.new result }
+    ensures state { StandBehind K.TraceKey n line.now shards.old shards.new result }
     ensures err { IfErr result (IsStop (λ _. ⊥)) }
 {
     show_number(out, n)?;
@@ -71,9 +77,7 @@ fn show_lines<K: TraceKey>(
     out: &mut Vec<u8>,
 ) -> Result<Result<(), ReplayFault>, ReplayFault>
     requires { first ≤ line_end }
-    ensures { AreShown (keys_by K.eq K.word K.read K.shown) first bytes.now
-        (map standing_of shards.old) (map standing_of shards.new) out.old.items out.new.items
-        result }
+    ensures { ShowsLines K.TraceKey first bytes.now shards.old shards.new out.old out.new result }
 {
     let mut rest = bytes;
     let mut n = first;
@@ -110,8 +114,7 @@ fn report_of<K: TraceKey>(
 ) -> Result<(Vec<u8>, Result<(), ReplayFault>), ReplayFault>
     requires options { option_fault options.now ≡ None }
     requires first { first ≤ line_end }
-    ensures { IsReported (λ text. text.items) (spec.report_from (keys_by K.eq K.word K.read K.shown)
-        options.now first bytes.now) (λ _. ⊥) result }
+    ensures { IsPrinted (report_from (keys_of K.TraceKey) options.now first bytes.now) result }
 {
     let mut shards = new_shards::<K>(alloc, options)?;
     let mut out = Vec::new(alloc);
@@ -134,8 +137,7 @@ pub fn report(
     options: &Options,
 ) -> Result<(Vec<u8>, Result<(), ReplayFault>), ReplayFault>
     requires { option_fault options.now ≡ None }
-    ensures made { IsReported (λ text. text.items) (spec.report options.now bytes.now) (λ _. ⊥)
-        result }
+    ensures made { IsPrinted (spec.report options.now bytes.now) result }
 {
     let Some(rest) = behind_header(bytes) else {
         return report_of::<u64>(alloc, options, 1, bytes);

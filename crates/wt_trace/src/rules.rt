@@ -3,7 +3,7 @@ ghost use Rattle.std.specs.Prelude.{◌≡◌, ◌+◌, ◌%◌, ◌<◌, ◌≤
 ghost use Rattle.std.specs.Option.{option_map_or};
 ghost use Rattle.wt_regions.specs.Lawful.{is_zero};
 ghost use Rattle.wt_trace.specs.Answers as spec;
-ghost use Rattle.wt_trace.specs.Keys.{keys_by};
+ghost use Rattle.wt_trace.specs.Keys.{keys_of};
 ghost use Rattle.wt_trace.specs.Options.{option_fault};
 
 use crate::key::TraceKey;
@@ -37,7 +37,7 @@ pub fn fails_by(divisor: Option<u64>, word: u64) -> bool
 /// Returns the value that line n makes of a key.
 pub fn version_by<K: TraceKey>(options: &Options, n: u64, key: K) -> Version<K>
     requires { option_fault options.now ≡ None }
-    ensures { result ≡ spec.version (keys_by K.eq K.word K.read K.shown) options.now n key }
+    ensures { result ≡ spec.version (keys_of K.TraceKey) options.now n key }
 {
     Version {
         key,
@@ -49,7 +49,7 @@ pub fn version_by<K: TraceKey>(options: &Options, n: u64, key: K) -> Version<K>
 // How the load of a key on line n ends.
 pub(crate) fn load_by<K: TraceKey>(options: &Options, n: u64, key: K) -> Land<Version<K>>
     requires { option_fault options.now ≡ None }
-    ensures { result ≡ spec.load (keys_by K.eq K.word K.read K.shown) options.now n key }
+    ensures { result ≡ spec.load (keys_of K.TraceKey) options.now n key }
 {
     if fails_by(options.fail_mod, key.word()) {
         return Land::Failed;

@@ -1,7 +1,7 @@
 // From a reader to a writer.
-ghost use Rattle.std.specs.Prelude.{◌≡◌, ◌+◌, ◌<◌, ◌≤◌, ◌⊎◌, IfOk, IfErr, true, false};
-ghost use Rattle.wt_trace.specs.Contract.{IsRun, IsWritten};
-ghost use Rattle.wt_trace.specs.Replayed.{Replayed, GaveUpTo, Rises, LetThrough, is_config_fault};
+ghost use Rattle.std.specs.Prelude.{◌≡◌, ◌+◌, ◌<◌, ◌≤◌, ◌⊎◌, IfErr, true, false};
+ghost use Rattle.wt_trace.specs.Contract.{IsGiven, IsRun, IsWritten};
+ghost use Rattle.wt_trace.specs.Replayed.{Replayed, Rises, LetThrough, is_config_fault};
 ghost use Rattle.wt_keys.specs.declared.fault.Fault.TheVariants as cache;
 ghost use Rattle.wt_trace.specs.declared.fault.ReplayFault.TheVariants as fault;
 
@@ -31,8 +31,7 @@ pub fn read_up_to<R: Read>(
     reader: &mut Tallied<R>,
     most: usize,
 ) -> Result<Vec<u8>, ReplayFault>
-    ensures given { IfOk result (λ bytes. GaveUpTo most (R.remaining reader.old.inner)
-        (R.remaining reader.new.inner) bytes.items) }
+    ensures given { IsGiven most R.remaining reader.old reader.new result }
     ensures turns { reader.new.reads ≤ reader.old.reads + most + 1 }
     ensures faults { IfErr result (λ e. (e ≡ fault.Cache cache.NoMemory) ⊎ (e ≡ fault.ReadFault)) }
     ensures kind { IfErr result (λ e. is_config_fault e ≡ false) }

@@ -1,9 +1,9 @@
 // A shard at work on the lines of a trace.
-ghost use Rattle.std.specs.Prelude.{◌≡◌, IfOk, OnOk, IfErr, length, vec_len, None, true, false};
-ghost use Rattle.wt_trace.specs.Keys.{keys_by};
+ghost use Rattle.std.specs.Prelude.{◌≡◌, IfOk, IfErr, length, vec_len, None, true, false};
+ghost use Rattle.wt_trace.specs.Keys.{keys_of};
 ghost use Rattle.wt_trace.specs.Options.{option_fault};
 ghost use Rattle.wt_trace.specs.Answers as spec;
-ghost use Rattle.wt_trace.specs.Contract.{Adds, IsOfShard, IsReady};
+ghost use Rattle.wt_trace.specs.Contract.{Does, DoesLine, DoesOwn, IsOfShard, IsReady, Lands, Makes, WasAsked};
 ghost use Rattle.wt_trace.specs.Stops.{IsStop};
 ghost use Rattle.wt_trace.specs.declared.line.Act.TheVariants as act;
 
@@ -92,8 +92,7 @@ impl<K: TraceKey> Shard<K> {
 
     // Makes one call, and appends its words and its notices.
     fn one_call(&mut self, call: Call<K, Version<K>>, out: &mut Vec<u8>) -> Result<(), NoMemory>
-        ensures { Adds (spec.one_call (keys_by K.eq K.word K.read K.shown) self.old.shard
-            self.old.state call) self.old self.new out.old.items out.new.items result }
+        ensures { Makes K.TraceKey call self.old self.new out.old out.new result }
     {
         self.told.empty();
         let reply = self.core.take(call, &mut self.told)?;
@@ -112,8 +111,7 @@ impl<K: TraceKey> Shard<K> {
         moment: u64,
         out: &mut Vec<u8>,
     ) -> Result<(), NoMemory>
-        ensures { Adds (spec.landed_by (keys_by K.eq K.word K.read K.shown) self.old id n key
-            moment) self.old self.new out.old.items out.new.items result }
+        ensures { Lands K.TraceKey id n key moment self.old self.new out.old out.new result }
     {
         self.later.empty();
         let call = Call::Land(id, key, load_by(&self.options, n, key), moment);
@@ -126,8 +124,7 @@ impl<K: TraceKey> Shard<K> {
 
     // Does a line of letter G: a seek, and the landing of the flight that it opens.
     fn fetch(&mut self, n: u64, key: K, moment: u64, out: &mut Vec<u8>) -> Result<(), NoMemory>
-        ensures { Adds (spec.done_by (keys_by K.eq K.word K.read K.shown) self.old n moment
-            (act.Get key)) self.old self.new out.old.items out.new.items result }
+        ensures { Does K.TraceKey n moment (act.Get key) self.old self.new out.old out.new result }
     {
         self.told.empty();
         let reply = self.core.take(Call::Seek(key, moment), &mut self.told)?;
@@ -153,8 +150,7 @@ impl<K: TraceKey> Shard<K> {
         moment: u64,
         out: &mut Vec<u8>,
     ) -> Result<(), NoMemory>
-        ensures { Adds (spec.done_by (keys_by K.eq K.word K.read K.shown) self.old n moment
-            (act.Land key)) self.old self.new out.old.items out.new.items result }
+        ensures { Does K.TraceKey n moment (act.Land key) self.old self.new out.old out.new result }
     {
         match self.core.first_of(key) {
             Some(id) => {
@@ -170,8 +166,7 @@ impl<K: TraceKey> Shard<K> {
 
     // Does what line n asks for, and appends what the shard adds to it.
     fn act(&mut self, n: u64, line: &Line<K>, out: &mut Vec<u8>) -> Result<(), NoMemory>
-        ensures { Adds (spec.done_by (keys_by K.eq K.word K.read K.shown) self.old n
-            line.now.moment line.now.act) self.old self.new out.old.items out.new.items result }
+        ensures { DoesOwn K.TraceKey n line.now self.old self.new out.old out.new result }
     {
         let now = line.moment;
         match line.act {
@@ -200,11 +195,8 @@ impl<K: TraceKey> Shard<K> {
         line: &Line<K>,
         out: &mut Vec<u8>,
     ) -> Result<(), ReplayFault>
-        ensures made { Adds (spec.line_step (keys_by K.eq K.word K.read K.shown) self.old.options
-            self.old.shard n line.now self.old.state) self.old self.new out.old.items
-            out.new.items result }
-        ensures asked { OnOk result (spec.belongs (keys_by K.eq K.word K.read K.shown)
-            self.old.options self.old.shard line.now.act ≡ true → G.answers gate.now n true) }
+        ensures made { DoesLine K.TraceKey n line.now self.old self.new out.old out.new result }
+        ensures asked { WasAsked K.TraceKey self.old line.now (G.answers gate.now n true) result }
         ensures err { IfErr result (IsStop (λ m. G.answers gate.now m false)) }
     {
         if !belongs(&self.options, self.number, &line.act) {
@@ -221,7 +213,7 @@ impl<K: TraceKey> Shard<K> {
 // Whether what a line asks for belongs to the shard: to that of its key, or to each.
 fn belongs<K: TraceKey>(options: &Options, shard: usize, act: &Act<K>) -> bool
     requires { option_fault options.now ≡ None }
-    ensures { result ≡ spec.belongs (keys_by K.eq K.word K.read K.shown) options.now shard act.now }
+    ensures { result ≡ spec.belongs (keys_of K.TraceKey) options.now shard act.now }
 {
     match act.key() {
         Some(key) => shard_of(key.word(), options.shards()) == shard,
@@ -256,8 +248,8 @@ pub fn shard_answers<K: TraceKey, G: Gate>(
     gate: &G,
 ) -> Result<Answers, ReplayFault>
     requires { IsReady options.now first (length lines) }
-    ensures made { IsOfShard (keys_by K.eq K.word K.read K.shown) options.now (G.answers gate.now)
-        first lines.entry number result }
+    ensures made { IsOfShard (keys_of K.TraceKey) options.now (G.answers gate.now) first
+        lines.entry number result }
 {
     let mut shard = Shard::new(alloc, options, number)?;
     let mut text = Vec::with_capacity(alloc, lines.room().saturating_mul(TEXT_A_LINE))?;

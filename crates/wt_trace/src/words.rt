@@ -1,7 +1,5 @@
 // The words of a report: those of replies, and those of what left.
 ghost use Rattle.std.specs.Prelude.{◌≡◌, ◌++◌, OnOk, decimal};
-ghost use Rattle.std.specs.List.{flat_map};
-ghost use Rattle.wt_trace.specs.Keys.{keys_by};
 ghost use Rattle.wt_trace.specs.Words as spec;
 
 use crate::digits::show_number;
@@ -43,8 +41,7 @@ fn show_notice<K: TraceKey>(
     out: &mut Vec<u8>,
     notice: &Notice<K, Version<K>>,
 ) -> Result<(), AllocError>
-    ensures { OnOk result (out.new.items ≡ out.old.items
-        ++ spec.notice_text (keys_by K.eq K.word K.read K.shown) notice.now) }
+    ensures { OnOk result (out.new.items ≡ out.old.items ++ spec.notice_text K.shown notice.now) }
 {
     show(out, " ")?;
     notice.key.show(out)?;
@@ -58,8 +55,7 @@ pub(crate) fn show_notices<K: TraceKey>(
     out: &mut Vec<u8>,
     notices: &[Notice<K, Version<K>>],
 ) -> Result<(), AllocError>
-    ensures { OnOk result (out.new.items ≡ out.old.items
-        ++ flat_map (spec.notice_text (keys_by K.eq K.word K.read K.shown)) notices.now) }
+    ensures { OnOk result (out.new.items ≡ out.old.items ++ spec.notices_text K.shown notices.now) }
 {
     for notice in notices {
         show_notice(out, notice)?;

@@ -19,7 +19,7 @@ returns-in_ok-show_notices-in_default g c =
     let m : Made g.row.K.Denot (Version g.row.K.Denot) = take keys i.core (Seek c.args.key c.args.moment) in
     let is = fetched-otherwise keys i.options c.args.n c.args.moment c.args.key m.reply m
     (λ id e. c.in_default.not-Lead id (c.in_ok-reply.ensures.answer ∙ e)) (λ v id e. c.in_default.not-HitLead v id (c.in_ok-reply.ensures.answer ∙ e)) in
-    let told : List (Notice g.row.K.Denot (Version g.row.K.Denot)) → List ℕ = flat_map (notice_text keys) in
+    let told : List (Notice g.row.K.Denot (Version g.row.K.Denot)) → List ℕ = flat_map (notice_text keys.shown) in
     let reply : c.in_ok-reply.reply ≡ m.reply = c.in_ok-reply.ensures.answer in
     let left : c.list.result.now ≡ m.notices = c.list.ensures ∙ ap (λ (t : NoticeList g.row.K.Denot (Version g.row.K.Denot)). t.list) (c.in_ok-reply.ensures.notices ∙ ap (appended m.notices) c.empty.ensures) in
     rw (← c.self.view_is) (record {
