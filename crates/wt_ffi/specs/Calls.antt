@@ -3,6 +3,8 @@ use Rattle.std.specs.Prelude.{IsSome, ℕ, ◌==◌, Bool, if◌then◌else◌, 
 use Rattle.wt_keys.specs.Faults.{fault_number}
 use Rattle.wt_regions.specs.Notices.{appended, emptied}
 use Rattle.wt_core.specs.declared.calls.Call.{Call}
+use Rattle.wt_core.specs.declared.calls.Call.TheVariants as call
+use Rattle.wt_core.specs.declared.calls.Land.TheVariants as land
 use Rattle.wt_core.specs.declared.calls.Reply.{Reply}
 use Rattle.wt_core.specs.declared.calls.Reply.TheVariants.{Hit, Absent, HitLead, Join, Lead, Kept, Loose, Failed, Gone, Stored, Dropped, Cleared, Forgot, Cleaned, Refused}
 use Rattle.wt_core.specs.State.{Made}
@@ -12,6 +14,22 @@ use Rattle.wt_core.specs.Landings.{TakesNone}
 use Rattle.wt_ffi.specs.declared.token.Token.{Token}
 use Rattle.wt_ffi.specs.declared.answer.Answer.{Answer}
 use Rattle.wt_ffi.specs.Open.{Open}
+
+-- the put of this value, by its key and its moment
+abbrev pub put : {K : Type 0} → Token → K → ℕ → Call K Token
+put value key now = call.Put key value now
+
+-- the end of this load with a value, by its key and its moment
+abbrev pub keep : {K : Type 0} → ℕ → Token → K → ℕ → Call K Token
+keep id value key now = call.Land id key (land.Keep value) now
+
+-- the end of this load with a value that isn't stored, by its key and its moment
+abbrev pub loose : {K : Type 0} → ℕ → K → ℕ → Call K Token
+loose id key now = call.Land id key land.Loose now
+
+-- the end of this load without a value, by its key and its moment
+abbrev pub failed : {K : Type 0} → ℕ → K → ℕ → Call K Token
+failed id key now = call.Land id key land.Failed now
 
 -- 1 for true
 abbrev pub bit : Bool → ℕ

@@ -8,17 +8,17 @@ use Rattle.wt_ffi.specs.declared.answer.Answer.{Answer}
 use Rattle.wt_ffi.specs.Calls as calls
 use Rattle.wt_ffi.specs.Open.{Open}
 
--- the cache after a call by name
-abbrev pub after : ℕ → Call (List ℕ) Token → Open (List ℕ) → Open (List ℕ)
-after = calls.after (pointwise nat_eq) word_of_name
+-- the cache after a call by name with this answer
+abbrev pub after : Answer → Call (List ℕ) Token → Open (List ℕ) → Open (List ℕ)
+after told = calls.after (pointwise nat_eq) word_of_name told.kind
 
--- the number that a call by name returns
-abbrev pub number_after : ℕ → Call (List ℕ) Token → Open (List ℕ) → ℕ
-number_after = calls.number_after (pointwise nat_eq) word_of_name
+-- the number that a call by name with this answer returns
+abbrev pub number_after : Answer → Call (List ℕ) Token → Open (List ℕ) → ℕ
+number_after told = calls.number_after (pointwise nat_eq) word_of_name told.kind
 
--- the answer that is told
-abbrev pub answer_after : ℕ → Call (List ℕ) Token → Open (List ℕ) → Answer
-answer_after = calls.answer_after (pointwise nat_eq) word_of_name
+-- the answer of a call by name, by its kind
+abbrev pub answer_after : Answer → Call (List ℕ) Token → Open (List ℕ) → Answer
+answer_after told = calls.answer_after (pointwise nat_eq) word_of_name told.kind
 
 -- the state refuses the call
 abbrev pub IsRefused : Call (List ℕ) Token → Open (List ℕ) → Type 0

@@ -6,17 +6,17 @@ use Rattle.wt_ffi.specs.declared.answer.Answer.{Answer}
 use Rattle.wt_ffi.specs.Calls as calls
 use Rattle.wt_ffi.specs.Open.{Open}
 
--- the cache after a call by number
-abbrev pub after : ℕ → Call ℕ Token → Open ℕ → Open ℕ
-after = calls.after nat_eq (λ k. k)
+-- the cache after a call by number with this answer
+abbrev pub after : Answer → Call ℕ Token → Open ℕ → Open ℕ
+after told = calls.after nat_eq (λ k. k) told.kind
 
--- the number that a call by number returns
-abbrev pub number_after : ℕ → Call ℕ Token → Open ℕ → ℕ
-number_after = calls.number_after nat_eq (λ k. k)
+-- the number that a call by number with this answer returns
+abbrev pub number_after : Answer → Call ℕ Token → Open ℕ → ℕ
+number_after told = calls.number_after nat_eq (λ k. k) told.kind
 
--- the answer that is told
-abbrev pub answer_after : ℕ → Call ℕ Token → Open ℕ → Answer
-answer_after = calls.answer_after nat_eq (λ k. k)
+-- the answer of a call by number, by its kind
+abbrev pub answer_after : Answer → Call ℕ Token → Open ℕ → Answer
+answer_after told = calls.answer_after nat_eq (λ k. k) told.kind
 
 -- the state refuses the call
 abbrev pub IsRefused : Call ℕ Token → Open ℕ → Type 0

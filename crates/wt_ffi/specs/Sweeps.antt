@@ -16,20 +16,20 @@ abbrev pub sweep_call : {K : Type 0} → Sweep → ℕ → Call K Token
 sweep_call Clear now = call.Clear now
 sweep_call Clean now = call.Clean now
 
--- the cache after a call that goes through all entries
-abbrev pub after : ℕ → Sweep → ℕ → Opened → Opened
-after kind sweep now (Numbers c) = Numbers (numbers.after kind (sweep_call sweep now) c)
-after kind sweep now (Names c) = Names (names.after kind (sweep_call sweep now) c)
+-- the cache after a call with this answer that goes through all entries
+abbrev pub after : Answer → Sweep → ℕ → Opened → Opened
+after told sweep now (Numbers c) = Numbers (numbers.after told (sweep_call sweep now) c)
+after told sweep now (Names c) = Names (names.after told (sweep_call sweep now) c)
 
--- the number that a call that goes through all entries returns
-abbrev pub number_after : ℕ → Sweep → ℕ → Opened → ℕ
-number_after kind sweep now (Numbers c) = numbers.number_after kind (sweep_call sweep now) c
-number_after kind sweep now (Names c) = names.number_after kind (sweep_call sweep now) c
+-- the number that a call with this answer returns that goes through all entries
+abbrev pub number_after : Answer → Sweep → ℕ → Opened → ℕ
+number_after told sweep now (Numbers c) = numbers.number_after told (sweep_call sweep now) c
+number_after told sweep now (Names c) = names.number_after told (sweep_call sweep now) c
 
--- the answer that is told
-abbrev pub answer_after : ℕ → Sweep → ℕ → Opened → Answer
-answer_after kind sweep now (Numbers c) = numbers.answer_after kind (sweep_call sweep now) c
-answer_after kind sweep now (Names c) = names.answer_after kind (sweep_call sweep now) c
+-- the answer of a call that goes through all entries, by its kind
+abbrev pub answer_after : Answer → Sweep → ℕ → Opened → Answer
+answer_after told sweep now (Numbers c) = numbers.answer_after told (sweep_call sweep now) c
+answer_after told sweep now (Names c) = names.answer_after told (sweep_call sweep now) c
 
 -- the state refuses the call
 abbrev pub IsRefused : Sweep → ℕ → Opened → Type 0

@@ -1,6 +1,7 @@
 // Looking up and storing, each one step of the definition.
-ghost use Rattle.wt_core.specs.declared.calls.Call.TheVariants as call;
-ghost use Rattle.wt_ffi.specs.Contract.{IsNumberCall};
+ghost use Rattle.wt_core.specs.declared.calls.Call.TheVariants.{Look, Seek};
+ghost use Rattle.wt_ffi.specs.Calls.{put};
+ghost use Rattle.wt_ffi.specs.Contract.{IsCall};
 
 use crate::answer::Answer;
 use crate::handle::Handle;
@@ -20,8 +21,7 @@ pub extern "C" fn rd_look(
     now: u64,
     answer: &mut Answer,
 ) -> u64
-    ensures made { IsNumberCall (call.Look key now)
-        handle.old.pointer.cache handle.new.pointer.cache answer.old answer.new result }
+    ensures made { IsCall Look key now handle.old handle.new answer.old answer.new result }
 {
     make(alloc, handle, Call::Look(key, now), answer)
 }
@@ -39,8 +39,7 @@ pub extern "C" fn rd_seek(
     now: u64,
     answer: &mut Answer,
 ) -> u64
-    ensures made { IsNumberCall (call.Seek key now)
-        handle.old.pointer.cache handle.new.pointer.cache answer.old answer.new result }
+    ensures made { IsCall Seek key now handle.old handle.new answer.old answer.new result }
 {
     make(alloc, handle, Call::Seek(key, now), answer)
 }
@@ -59,8 +58,7 @@ pub extern "C" fn rd_put(
     now: u64,
     answer: &mut Answer,
 ) -> u64
-    ensures made { IsNumberCall (call.Put key value now)
-        handle.old.pointer.cache handle.new.pointer.cache answer.old answer.new result }
+    ensures made { IsCall (put value) key now handle.old handle.new answer.old answer.new result }
 {
     make(alloc, handle, Call::Put(key, value, now), answer)
 }

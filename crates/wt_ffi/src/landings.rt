@@ -1,7 +1,6 @@
 // Closing a load, each call one step of the definition.
-ghost use Rattle.wt_core.specs.declared.calls.Call.TheVariants as call;
-ghost use Rattle.wt_core.specs.declared.calls.Land.TheVariants as land;
-ghost use Rattle.wt_ffi.specs.Contract.{IsNumberCall};
+ghost use Rattle.wt_ffi.specs.Calls.{failed, keep, loose};
+ghost use Rattle.wt_ffi.specs.Contract.{IsCall};
 
 use crate::answer::Answer;
 use crate::handle::Handle;
@@ -25,8 +24,8 @@ pub extern "C" fn rd_land_keep(
     now: u64,
     answer: &mut Answer,
 ) -> u64
-    ensures made { IsNumberCall (call.Land id key (land.Keep value) now)
-        handle.old.pointer.cache handle.new.pointer.cache answer.old answer.new result }
+    ensures made { IsCall (keep id value) key now
+        handle.old handle.new answer.old answer.new result }
 {
     make(
         alloc,
@@ -49,8 +48,7 @@ pub extern "C" fn rd_land_loose(
     now: u64,
     answer: &mut Answer,
 ) -> u64
-    ensures made { IsNumberCall (call.Land id key land.Loose now)
-        handle.old.pointer.cache handle.new.pointer.cache answer.old answer.new result }
+    ensures made { IsCall (loose id) key now handle.old handle.new answer.old answer.new result }
 {
     make(alloc, handle, Call::Land(id, key, Land::Loose, now), answer)
 }
@@ -67,8 +65,7 @@ pub extern "C" fn rd_land_failed(
     now: u64,
     answer: &mut Answer,
 ) -> u64
-    ensures made { IsNumberCall (call.Land id key land.Failed now)
-        handle.old.pointer.cache handle.new.pointer.cache answer.old answer.new result }
+    ensures made { IsCall (failed id) key now handle.old handle.new answer.old answer.new result }
 {
     make(
         alloc,

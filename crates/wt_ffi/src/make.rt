@@ -1,7 +1,6 @@
 // The one step that each of C's calls by number makes.
-ghost use Rattle.std.specs.Prelude.{◌≡◌, ◌<◌, Some, IfSome, IsNone, IsSome, None};
-ghost use Rattle.wt_ffi.specs.declared.opened.Opened.TheVariants as opened;
-ghost use Rattle.wt_ffi.specs.Kinds.{numbered, named};
+ghost use Rattle.std.specs.Prelude.{◌≡◌, ◌<◌};
+ghost use Rattle.wt_ffi.specs.Handle.{HasNumbers, IfNumbers, IsIdleIfClosed, IsIdleIfNames};
 ghost use Rattle.wt_ffi.specs.Numbered.{after, number_after, answer_after, IsRefused, IsFree};
 
 use crate::answer::Answer;
@@ -19,20 +18,13 @@ pub(crate) fn make(
     call: Call<u64, Token>,
     answer: &mut Answer,
 ) -> u64
-    ensures state { IfSome (numbered handle.old.pointer.cache) (λ c. handle.new.pointer.cache
-        ≡ Some (opened.Numbers (after answer.new.kind call c))) }
-    ensures number { IfSome (numbered handle.old.pointer.cache) (λ c. result
-        ≡ number_after answer.new.kind call c) }
-    ensures answer { IfSome (numbered handle.old.pointer.cache) (λ c. answer.new
-        ≡ answer_after answer.new.kind call c) }
-    ensures refusal { IfSome (numbered handle.old.pointer.cache) (λ c.
-        IsRefused call c → 0 < answer.new.kind) }
-    ensures memory { IfSome (numbered handle.old.pointer.cache) (λ c.
-        IsFree call c → 0 < answer.new.kind) }
-    ensures closed { IsNone handle.old.pointer.cache
-        → (result ≡ 100) × (handle.new.pointer.cache ≡ None) × (answer.new ≡ answer.old) }
-    ensures other { IsSome (named handle.old.pointer.cache) → (result ≡ 103)
-        × (handle.new.pointer.cache ≡ handle.old.pointer.cache) × (answer.new ≡ answer.old) }
+    ensures state { IfNumbers handle.old (λ c. HasNumbers handle.new (after answer.new call c)) }
+    ensures number { IfNumbers handle.old (λ c. result ≡ number_after answer.new call c) }
+    ensures answer { IfNumbers handle.old (λ c. answer.new ≡ answer_after answer.new call c) }
+    ensures refusal { IfNumbers handle.old (λ c. IsRefused call c → 0 < answer.new.kind) }
+    ensures memory { IfNumbers handle.old (λ c. IsFree call c → 0 < answer.new.kind) }
+    ensures closed { IsIdleIfClosed handle.old handle.new answer.old answer.new result }
+    ensures other { IsIdleIfNames handle.old handle.new answer.old answer.new result }
 {
     let Some(mut opened) = handle.take(alloc) else {
         return CLOSED;

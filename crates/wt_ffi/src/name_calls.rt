@@ -1,5 +1,6 @@
 // Looking up and storing by name, each one step of the definition.
-ghost use Rattle.wt_core.specs.declared.calls.Call.TheVariants as call;
+ghost use Rattle.wt_core.specs.declared.calls.Call.TheVariants.{Look, Seek};
+ghost use Rattle.wt_ffi.specs.Calls.{put};
 ghost use Rattle.wt_ffi.specs.Contract.{IsNameCall};
 
 use crate::answer::Answer;
@@ -23,8 +24,7 @@ pub extern "C" fn rd_look_name(
     now: u64,
     answer: &mut Answer,
 ) -> u64
-    ensures made { IsNameCall (λ name. call.Look name now) key.now
-        handle.old.pointer.cache handle.new.pointer.cache answer.old answer.new result }
+    ensures made { IsNameCall Look key.now now handle.old handle.new answer.old answer.new result }
 {
     let Some(name) = name_of(key) else {
         return TOO_LONG;
@@ -43,8 +43,7 @@ pub extern "C" fn rd_seek_name(
     now: u64,
     answer: &mut Answer,
 ) -> u64
-    ensures made { IsNameCall (λ name. call.Seek name now) key.now
-        handle.old.pointer.cache handle.new.pointer.cache answer.old answer.new result }
+    ensures made { IsNameCall Seek key.now now handle.old handle.new answer.old answer.new result }
 {
     let Some(name) = name_of(key) else {
         return TOO_LONG;
@@ -64,8 +63,8 @@ pub extern "C" fn rd_put_name(
     now: u64,
     answer: &mut Answer,
 ) -> u64
-    ensures made { IsNameCall (λ name. call.Put name value now) key.now
-        handle.old.pointer.cache handle.new.pointer.cache answer.old answer.new result }
+    ensures made { IsNameCall (put value) key.now now
+        handle.old handle.new answer.old answer.new result }
 {
     let Some(name) = name_of(key) else {
         return TOO_LONG;

@@ -1,6 +1,5 @@
 // Closing a load of a name, each call one step of the definition.
-ghost use Rattle.wt_core.specs.declared.calls.Call.TheVariants as call;
-ghost use Rattle.wt_core.specs.declared.calls.Land.TheVariants as land;
+ghost use Rattle.wt_ffi.specs.Calls.{failed, keep, loose};
 ghost use Rattle.wt_ffi.specs.Contract.{IsNameCall};
 
 use crate::answer::Answer;
@@ -25,8 +24,8 @@ pub extern "C" fn rd_land_keep_name(
     now: u64,
     answer: &mut Answer,
 ) -> u64
-    ensures made { IsNameCall (λ name. call.Land id name (land.Keep value) now) key.now
-        handle.old.pointer.cache handle.new.pointer.cache answer.old answer.new result }
+    ensures made { IsNameCall (keep id value) key.now now
+        handle.old handle.new answer.old answer.new result }
 {
     let Some(name) = name_of(key) else {
         return TOO_LONG;
@@ -51,8 +50,8 @@ pub extern "C" fn rd_land_loose_name(
     now: u64,
     answer: &mut Answer,
 ) -> u64
-    ensures made { IsNameCall (λ name. call.Land id name land.Loose now) key.now
-        handle.old.pointer.cache handle.new.pointer.cache answer.old answer.new result }
+    ensures made { IsNameCall (loose id) key.now now
+        handle.old handle.new answer.old answer.new result }
 {
     let Some(name) = name_of(key) else {
         return TOO_LONG;
@@ -77,8 +76,8 @@ pub extern "C" fn rd_land_failed_name(
     now: u64,
     answer: &mut Answer,
 ) -> u64
-    ensures made { IsNameCall (λ name. call.Land id name land.Failed now) key.now
-        handle.old.pointer.cache handle.new.pointer.cache answer.old answer.new result }
+    ensures made { IsNameCall (failed id) key.now now
+        handle.old handle.new answer.old answer.new result }
 {
     let Some(name) = name_of(key) else {
         return TOO_LONG;

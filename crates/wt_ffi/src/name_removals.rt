@@ -1,5 +1,5 @@
 // Taking names out and letting their loads go, each call one step of the definition.
-ghost use Rattle.wt_core.specs.declared.calls.Call.TheVariants as call;
+ghost use Rattle.wt_core.specs.declared.calls.Call.TheVariants.{DropKey, Forget};
 ghost use Rattle.wt_ffi.specs.Contract.{IsNameCall};
 
 use crate::answer::Answer;
@@ -20,8 +20,8 @@ pub extern "C" fn rd_drop_name(
     now: u64,
     answer: &mut Answer,
 ) -> u64
-    ensures made { IsNameCall (λ name. call.DropKey name now) key.now
-        handle.old.pointer.cache handle.new.pointer.cache answer.old answer.new result }
+    ensures made { IsNameCall DropKey key.now now
+        handle.old handle.new answer.old answer.new result }
 {
     let Some(name) = name_of(key) else {
         return TOO_LONG;
@@ -40,8 +40,8 @@ pub extern "C" fn rd_forget_name(
     now: u64,
     answer: &mut Answer,
 ) -> u64
-    ensures made { IsNameCall (λ name. call.Forget name now) key.now
-        handle.old.pointer.cache handle.new.pointer.cache answer.old answer.new result }
+    ensures made { IsNameCall Forget key.now now
+        handle.old handle.new answer.old answer.new result }
 {
     let Some(name) = name_of(key) else {
         return TOO_LONG;

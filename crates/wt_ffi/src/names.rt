@@ -1,11 +1,10 @@
 // A cache of names: opening one, its notices, and the one step of each of C's calls by name.
-ghost use Rattle.std.specs.Prelude.{◌≡◌, ◌<◌, Some, IfSome, IsNone, IsSome, None};
-ghost use Rattle.wt_ffi.specs.declared.opened.Opened.TheVariants as opened;
+ghost use Rattle.std.specs.Prelude.{◌≡◌, ◌<◌};
 ghost use Rattle.wt_ffi.specs.Contract.{IsNoticeRead, IsOpening};
-ghost use Rattle.wt_ffi.specs.Kinds.{numbered, named};
+ghost use Rattle.wt_ffi.specs.Handle.{HasNames, IfNames, IsIdleIfClosed, IsIdleIfNumbers};
 ghost use Rattle.wt_ffi.specs.Named.{after, number_after, answer_after, IsRefused, IsFree};
-ghost use Rattle.wt_ffi.specs.Setups.{config_of, opened_by};
-ghost use Rattle.wt_ffi.specs.Shows.{name_left_of, name_left_at};
+ghost use Rattle.wt_ffi.specs.Setups.{empty_names};
+ghost use Rattle.wt_ffi.specs.Shows.{name_left_of, name_left_in};
 
 use crate::answer::Answer;
 use crate::handle::{CLOSED, Handle, OPEN, OTHER_KEYS};
@@ -24,8 +23,7 @@ use wt_regions::Notice;
 /// Takes memory for all the entries.
 #[unsafe(no_mangle)]
 pub extern "C" fn rd_open_names(alloc: Global, setup: &Setup, handle: &mut Handle) -> u64
-    ensures made { IsOpening (opened.Names (opened_by (config_of setup.now))) setup.now
-        handle.old.pointer.cache handle.new.pointer.cache result }
+    ensures made { IsOpening empty_names setup.now handle.old handle.new result }
 {
     if handle.is_open {
         return OPEN;
@@ -72,9 +70,7 @@ pub extern "C" fn rd_get_notice_name(
     i: u64,
     left: &mut NameLeft,
 ) -> u64
-    ensures made { IsNoticeRead (name_left_at i) (named handle.old.pointer.cache)
-        (IsSome (numbered handle.old.pointer.cache)) handle.old.pointer.cache
-        handle.new.pointer.cache left.old left.new result }
+    ensures made { IsNoticeRead (name_left_in i) handle.old handle.new left.old left.new result }
 {
     let Some(opened) = handle.take(alloc) else {
         return CLOSED;
@@ -95,20 +91,13 @@ pub(crate) fn make_named(
     call: Call<Name, Token>,
     answer: &mut Answer,
 ) -> u64
-    ensures state { IfSome (named handle.old.pointer.cache) (λ c. handle.new.pointer.cache
-        ≡ Some (opened.Names (after answer.new.kind call c))) }
-    ensures number { IfSome (named handle.old.pointer.cache) (λ c. result
-        ≡ number_after answer.new.kind call c) }
-    ensures answer { IfSome (named handle.old.pointer.cache) (λ c. answer.new
-        ≡ answer_after answer.new.kind call c) }
-    ensures refusal { IfSome (named handle.old.pointer.cache) (λ c.
-        IsRefused call c → 0 < answer.new.kind) }
-    ensures memory { IfSome (named handle.old.pointer.cache) (λ c.
-        IsFree call c → 0 < answer.new.kind) }
-    ensures closed { IsNone handle.old.pointer.cache
-        → (result ≡ 100) × (handle.new.pointer.cache ≡ None) × (answer.new ≡ answer.old) }
-    ensures other { IsSome (numbered handle.old.pointer.cache) → (result ≡ 103)
-        × (handle.new.pointer.cache ≡ handle.old.pointer.cache) × (answer.new ≡ answer.old) }
+    ensures state { IfNames handle.old (λ c. HasNames handle.new (after answer.new call c)) }
+    ensures number { IfNames handle.old (λ c. result ≡ number_after answer.new call c) }
+    ensures answer { IfNames handle.old (λ c. answer.new ≡ answer_after answer.new call c) }
+    ensures refusal { IfNames handle.old (λ c. IsRefused call c → 0 < answer.new.kind) }
+    ensures memory { IfNames handle.old (λ c. IsFree call c → 0 < answer.new.kind) }
+    ensures closed { IsIdleIfClosed handle.old handle.new answer.old answer.new result }
+    ensures other { IsIdleIfNumbers handle.old handle.new answer.old answer.new result }
 {
     let Some(mut opened) = handle.take(alloc) else {
         return CLOSED;

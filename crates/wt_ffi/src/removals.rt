@@ -1,6 +1,6 @@
 // Taking entries out and letting loads go, each call one step of the definition.
-ghost use Rattle.wt_core.specs.declared.calls.Call.TheVariants as call;
-ghost use Rattle.wt_ffi.specs.Contract.{IsNumberCall};
+ghost use Rattle.wt_core.specs.declared.calls.Call.TheVariants.{DropKey, Forget};
+ghost use Rattle.wt_ffi.specs.Contract.{IsCall};
 
 use crate::answer::Answer;
 use crate::handle::Handle;
@@ -20,8 +20,7 @@ pub extern "C" fn rd_drop_key(
     now: u64,
     answer: &mut Answer,
 ) -> u64
-    ensures made { IsNumberCall (call.DropKey key now)
-        handle.old.pointer.cache handle.new.pointer.cache answer.old answer.new result }
+    ensures made { IsCall DropKey key now handle.old handle.new answer.old answer.new result }
 {
     make(alloc, handle, Call::DropKey(key, now), answer)
 }
@@ -38,8 +37,7 @@ pub extern "C" fn rd_forget(
     now: u64,
     answer: &mut Answer,
 ) -> u64
-    ensures made { IsNumberCall (call.Forget key now)
-        handle.old.pointer.cache handle.new.pointer.cache answer.old answer.new result }
+    ensures made { IsCall Forget key now handle.old handle.new answer.old answer.new result }
 {
     make(alloc, handle, Call::Forget(key, now), answer)
 }

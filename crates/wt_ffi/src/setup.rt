@@ -1,13 +1,10 @@
 // Opening and closing.
-ghost use Rattle.std.specs.Prelude.{◌≡◌, ◌⊎◌, ◌<◌, None, Some};
-ghost use Rattle.std.specs.Prelude.{IfOk, IsOk, IsNone, IsSome, IsOkUnless};
-ghost use Rattle.std.specs.Prelude.{Err, MatchOption};
-ghost use Rattle.wt_keys.specs.declared.fault.Fault.TheVariants as fault;
-ghost use Rattle.wt_core.specs.State.{config_fault, opening};
-ghost use Rattle.wt_regions.specs.Notices.{no_notices};
-ghost use Rattle.wt_ffi.specs.declared.opened.Opened.TheVariants as opened;
+ghost use Rattle.std.specs.Prelude.{◌≡◌, ◌⊎◌, ◌<◌, None, Some, IfOk, IsOk, IsNone, IsSome};
+ghost use Rattle.wt_core.specs.State.{config_fault};
 ghost use Rattle.wt_ffi.specs.Contract.{IsOpening};
-ghost use Rattle.wt_ffi.specs.Setups.{config_of, duration, field_number, opened_by};
+ghost use Rattle.wt_ffi.specs.Handle.{cache_of, Has};
+ghost use Rattle.wt_ffi.specs.Setups.{config_of, duration, empty_numbers, field_number, opened_by};
+ghost use Rattle.wt_ffi.specs.Setups.{Checks, IsMadeUnless};
 
 use crate::cached::Cached;
 use crate::handle::{CLOSED, Handle, OPEN};
@@ -66,8 +63,7 @@ pub(crate) fn config_of(setup: &Setup) -> Config
 pub(crate) fn cached<K: CacheKey>(alloc: Global, config: &Config) -> Result<Cached<K>, Fault>
     ensures ok { IfOk result (λ o. o ≡ opened_by config.now) }
     ensures lawful { IsOk result → config_fault config.now ≡ None }
-    ensures refusal { MatchOption (config_fault config.now)
-        (IsOkUnless result fault.NoMemory) (λ field. result ≡ Err (fault.BadConfig field)) }
+    ensures refusal { IsMadeUnless (config_fault config.now) result }
 {
     match Core::new(alloc, config) {
         Ok(core) => match Notices::new(alloc, config.entries as usize) {
@@ -81,10 +77,10 @@ pub(crate) fn cached<K: CacheKey>(alloc: Global, config: &Config) -> Result<Cach
 // Puts the cache into a closed handle, and answers 0; where memory is refused the handle stays
 // closed, and it is 1.
 pub(crate) fn hold(alloc: Global, handle: &mut Handle, opened: Opened) -> u64
-    requires { IsNone handle.old.pointer.cache }
-    ensures state { result ≡ 0 → handle.new.pointer.cache ≡ Some opened }
+    requires { IsNone (cache_of handle.old) }
+    ensures state { result ≡ 0 → Has handle.new opened }
     ensures number { (result ≡ 0) ⊎ (result ≡ 1) }
-    ensures err { 0 < result → handle.new.pointer.cache ≡ None }
+    ensures err { 0 < result → cache_of handle.new ≡ None }
 {
     match Box::new(alloc, opened) {
         Ok(opened) => {
@@ -101,8 +97,7 @@ pub(crate) fn hold(alloc: Global, handle: &mut Handle, opened: Opened) -> u64
 /// refused, in this order; the handle is then as it was. Takes memory for all the entries.
 #[unsafe(no_mangle)]
 pub extern "C" fn rd_open(alloc: Global, setup: &Setup, handle: &mut Handle) -> u64
-    ensures made { IsOpening (opened.Numbers (opened_by (config_of setup.now))) setup.now
-        handle.old.pointer.cache handle.new.pointer.cache result }
+    ensures made { IsOpening empty_numbers setup.now handle.old handle.new result }
 {
     if handle.is_open {
         return OPEN;
@@ -118,9 +113,9 @@ pub extern "C" fn rd_open(alloc: Global, setup: &Setup, handle: &mut Handle) -> 
 /// That its memory is freed is in no clause.
 #[unsafe(no_mangle)]
 pub extern "C" fn rd_close(alloc: Global, handle: &mut Handle) -> u64
-    ensures state { handle.new.pointer.cache ≡ None }
-    ensures ok { IsSome handle.old.pointer.cache → result ≡ 0 }
-    ensures closed { IsNone handle.old.pointer.cache → result ≡ 100 }
+    ensures state { cache_of handle.new ≡ None }
+    ensures ok { IsSome (cache_of handle.old) → result ≡ 0 }
+    ensures closed { IsNone (cache_of handle.old) → result ≡ 100 }
 {
     match handle.take(alloc) {
         Some(_opened) => 0,
@@ -132,8 +127,7 @@ pub extern "C" fn rd_close(alloc: Global, handle: &mut Handle) -> u64
 /// flights, 4 bound, 5 after_write, 6 after_access, 7 refresh; 0 where none is. Takes no memory.
 #[unsafe(no_mangle)]
 pub extern "C" fn rd_check(setup: &Setup) -> u64
-    ensures { MatchOption (config_fault (config_of setup.now))
-        (result ≡ 0) (λ field. result ≡ field_number field) }
+    ensures { Checks setup.now result }
 {
     match config_of(setup).check() {
         Err(Fault::BadConfig { field }) => field_number(field),

@@ -1,9 +1,9 @@
 // What C may read of a cache.
-ghost use Rattle.std.specs.Prelude.{◌≡◌, None, Some, IfSome, IsNone, IsSome};
+ghost use Rattle.std.specs.Prelude.{◌≡◌};
 ghost use Rattle.wt_ffi.specs.Contract.{IsNoticeRead};
-ghost use Rattle.wt_ffi.specs.Kinds.{numbered, named};
+ghost use Rattle.wt_ffi.specs.Handle.{cache_of, IfOpen, IsIdleIfClosed};
 ghost use Rattle.wt_ffi.specs.Shows.{numbers_of, shown_of, IsLawfulOpen, IsLawfulOpened};
-ghost use Rattle.wt_ffi.specs.Shows.{cause_number, left_of, left_at, Reads};
+ghost use Rattle.wt_ffi.specs.Shows.{cause_number, left_of, left_in, Reads};
 
 use crate::cached::Cached;
 use crate::handle::{CLOSED, Handle, NONE, OTHER_KEYS};
@@ -106,13 +106,11 @@ impl<K: CacheKey> Cached<K> {
 /// the setup's limits, and no number wraps. Takes no memory. O(1).
 #[unsafe(no_mangle)]
 pub extern "C" fn rd_get_numbers(alloc: Global, handle: &mut Handle, numbers: &mut Numbers) -> u64
-    ensures answer { IfSome handle.old.pointer.cache (λ c.
-        (result ≡ 0) × (numbers.new ≡ shown_of c)) }
+    ensures answer { IfOpen handle.old (λ c. (result ≡ 0) × (numbers.new ≡ shown_of c)) }
     // What holds of a cache at all times.
-    ensures lawful { IfSome handle.old.pointer.cache IsLawfulOpened }
-    ensures closed { IsNone handle.old.pointer.cache → (result ≡ 100)
-        × (numbers.new ≡ numbers.old) }
-    ensures same { handle.new.pointer.cache ≡ handle.old.pointer.cache }
+    ensures lawful { IfOpen handle.old IsLawfulOpened }
+    ensures closed { IsIdleIfClosed handle.old handle.new numbers.old numbers.new result }
+    ensures same { cache_of handle.new ≡ cache_of handle.old }
 {
     let Some(opened) = handle.take(alloc) else {
         return CLOSED;
@@ -144,9 +142,7 @@ pub(crate) fn tell<L: Copy>(found: Option<L>, left: &mut L) -> u64
 /// Takes no memory. O(1).
 #[unsafe(no_mangle)]
 pub extern "C" fn rd_get_notice(alloc: Global, handle: &mut Handle, i: u64, left: &mut Left) -> u64
-    ensures made { IsNoticeRead (left_at i) (numbered handle.old.pointer.cache)
-        (IsSome (named handle.old.pointer.cache)) handle.old.pointer.cache handle.new.pointer.cache
-        left.old left.new result }
+    ensures made { IsNoticeRead (left_in i) handle.old handle.new left.old left.new result }
 {
     let Some(opened) = handle.take(alloc) else {
         return CLOSED;

@@ -1,8 +1,9 @@
 // Going through all entries, each call one step of the definition, whichever keys the cache has.
-ghost use Rattle.std.specs.Prelude.{◌≡◌, ◌<◌, Some, IfSome, IsNone, IsSome, None};
+ghost use Rattle.std.specs.Prelude.{◌≡◌, ◌<◌, IsSome};
 ghost use Rattle.wt_ffi.specs.declared.sweeps.Sweep.TheVariants as sweep;
 ghost use Rattle.wt_ffi.specs.Sweeps.{sweep_call, after, number_after, answer_after, IsRefused};
 ghost use Rattle.wt_ffi.specs.Contract.{IsSweptCall};
+ghost use Rattle.wt_ffi.specs.Handle.{cache_of, Has, IfOpen, IsIdleIfClosed};
 
 use crate::answer::Answer;
 use crate::handle::{CLOSED, Handle};
@@ -39,17 +40,12 @@ fn make_sweep(
     now: u64,
     answer: &mut Answer,
 ) -> u64
-    ensures state { IfSome handle.old.pointer.cache (λ c. handle.new.pointer.cache
-        ≡ Some (after answer.new.kind sweep now c)) }
-    ensures number { IfSome handle.old.pointer.cache (λ c. result
-        ≡ number_after answer.new.kind sweep now c) }
-    ensures answer { IfSome handle.old.pointer.cache (λ c. answer.new
-        ≡ answer_after answer.new.kind sweep now c) }
-    ensures refusal { IfSome handle.old.pointer.cache (λ c.
-        IsRefused sweep now c → 0 < answer.new.kind) }
-    ensures memory { IsSome handle.old.pointer.cache → 0 < answer.new.kind }
-    ensures closed { IsNone handle.old.pointer.cache
-        → (result ≡ 100) × (handle.new.pointer.cache ≡ None) × (answer.new ≡ answer.old) }
+    ensures state { IfOpen handle.old (λ c. Has handle.new (after answer.new sweep now c)) }
+    ensures number { IfOpen handle.old (λ c. result ≡ number_after answer.new sweep now c) }
+    ensures answer { IfOpen handle.old (λ c. answer.new ≡ answer_after answer.new sweep now c) }
+    ensures refusal { IfOpen handle.old (λ c. IsRefused sweep now c → 0 < answer.new.kind) }
+    ensures memory { IsSome (cache_of handle.old) → 0 < answer.new.kind }
+    ensures closed { IsIdleIfClosed handle.old handle.new answer.old answer.new result }
 {
     let Some(mut opened) = handle.take(alloc) else {
         return CLOSED;
@@ -67,8 +63,7 @@ fn make_sweep(
 /// Takes no memory. O(entries).
 #[unsafe(no_mangle)]
 pub extern "C" fn rd_clear(alloc: Global, handle: &mut Handle, now: u64, answer: &mut Answer) -> u64
-    ensures made { IsSweptCall sweep.Clear now handle.old.pointer.cache handle.new.pointer.cache
-        answer.old answer.new result }
+    ensures made { IsSweptCall sweep.Clear now handle.old handle.new answer.old answer.new result }
 {
     make_sweep(alloc, handle, Sweep::Clear, now, answer)
 }
@@ -78,8 +73,7 @@ pub extern "C" fn rd_clear(alloc: Global, handle: &mut Handle, now: u64, answer:
 /// Takes no memory. O(entries).
 #[unsafe(no_mangle)]
 pub extern "C" fn rd_clean(alloc: Global, handle: &mut Handle, now: u64, answer: &mut Answer) -> u64
-    ensures made { IsSweptCall sweep.Clean now handle.old.pointer.cache handle.new.pointer.cache
-        answer.old answer.new result }
+    ensures made { IsSweptCall sweep.Clean now handle.old handle.new answer.old answer.new result }
 {
     make_sweep(alloc, handle, Sweep::Clean, now, answer)
 }
