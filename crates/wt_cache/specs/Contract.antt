@@ -6,21 +6,20 @@ use Rattle.wt_flights.specs.Outcomes.{Leading}
 use Rattle.wt_regions.specs.Notices.{NoticeList, emptied}
 use Rattle.wt_core.specs.Faults.{is_step_fault}
 use Rattle.wt_core.specs.declared.calls.Call.{Call}
-use Rattle.wt_core.specs.declared.calls.Call.TheVariants.{Put, Seek}
+use Rattle.wt_core.specs.declared.calls.Call.TheVariants.{Put}
 use Rattle.wt_core.specs.declared.calls.Land.{Land as Landing}
 use Rattle.wt_core.specs.declared.calls.Reply.{Reply}
 use Rattle.wt_core.specs.declared.calls.Reply.TheVariants.{Stored}
 use Rattle.wt_core.specs.declared.config.Config.{Config}
 use Rattle.wt_shards.specs.Contract.{IsHomeCall, IsSweepCall}
 use Rattle.wt_shards.specs.Opening.{layout_fault}
-use Rattle.wt_shards.specs.Outer.{HasCause}
-use Rattle.wt_shards.specs.Passes.{Passed, with_step, steps_at}
-use Rattle.wt_shards.specs.Place.{Layout, home_of, place_of}
+use Rattle.wt_shards.specs.Passes.{Passed, with_step}
+use Rattle.wt_shards.specs.Place.{Layout, home_of}
 use Rattle.wt_shards.specs.Told.{HasTold}
 use Rattle.wt_shards.specs.declared.done.Done.{Done}
 use Rattle.wt_cache.specs.Calling.{Calling}
-use Rattle.wt_cache.specs.Gets.{IsSought, IsSomeLanding, is_get_fault}
-use Rattle.wt_cache.specs.Moves.{HasGot, HasTried}
+use Rattle.wt_cache.specs.Gets.{IsSoughtIn, IsSomeLanding, HasTriedIn, is_get_fault}
+use Rattle.wt_cache.specs.Moves.{HasGotIn, IsLaterIn}
 use Rattle.wt_cache.specs.declared.got.Got.{Got}
 
 -- what the put of a value promises: the call at its key's shard, and when the value is too heavy
@@ -77,19 +76,17 @@ pub record IsLentGet {K V : Type 0} (eq : K → K → Bool) (word : K → ℕ) (
   -- the value may stand for the key
   pub answers : IfOk result (λ got. IsTrue (stands got.value key))
   -- the pass counts the seek, and the landings that this caller ran
-  pub moved : IfOk result (λ got. HasGot old.cache.lined (home_of word key old.cache.layout) got.how old.pass new.pass)
+  pub moved : IfOk result (HasGotIn word key old.cache old.pass new.pass)
   -- the number of the seek is above those of all steps that the pass had made there
-  pub later : IfOk result (λ got. steps_at (home_of word key old.cache.layout) old.pass < got.step)
+  pub later : IfOk result (IsLaterIn word key old.cache old.pass)
   -- in some lawful state of that shard the seek replies what is told of it, with the first of the notices
-  pub sought : IfOk result (λ got.
-      IsSought eq word weight stands (place_of (home_of word key old.cache.layout) old.cache.layout) key now got.how got.value got.step (emptied old.left) new.left)
+  pub sought : IfOk result (IsSoughtIn eq word weight stands key now old.cache (emptied old.left) new.left)
   -- whatever is returned: few notices, and no room lost
   pub told : HasTold (2 * old.cache.layout.config.entries) (emptied old.left) new.left
   -- no other fault comes than a get's
   pub faults : IfErr result (λ f. is_get_fault f ≡ true)
   -- either the seek was refused, for a cause of its own and with nothing done, or it stands
-  pub err : IfErr result (λ f. HasTried old.cache.lined (home_of word key old.cache.layout)
-      (HasCause eq word weight stands (place_of (home_of word key old.cache.layout) old.cache.layout) (Seek key now) f × (new.left ≡ emptied old.left)) f old.pass new.pass)
+  pub err : IfErr result (HasTriedIn eq word weight stands key now old.cache (emptied old.left) new.left old.pass new.pass)
   -- the caller's cache is the same
   pub same : new.cache ≡ old.cache
 

@@ -1,9 +1,11 @@
 -- The rule of the job line.
-use Rattle.std.specs.Prelude.{◌≡◌, ℕ, ◌+◌, ◌≤◌, List, [], ◌∷◌, ◌++◌, length, drop, map, eqb, ltb, cond, Option, MatchOption}
+use Rattle.std.specs.Prelude.{◌≡◌, ◌⊎◌, ℕ, ◌+◌, ◌<◌, ◌≤◌, List, [], ◌∷◌, ◌++◌, length, drop, map, eqb, ltb, cond, Option, MatchOption, Result, MatchResult}
 use mathlib.Core.Option.{some}
 use lib.ListN.{get_elem?}
 use Rattle.wt_cache.specs.declared.hand.Hand.{Hand}
 use Rattle.wt_flights.specs.Outcomes.{Leading}
+use Rattle.wt_keys.specs.declared.fault.Fault.{Fault}
+use Rattle.wt_keys.specs.declared.fault.Fault.TheVariants.{LineFull, LineClosed}
 
 module _ {K : Type 0} where
   -- a job's name: its lead's id and key
@@ -22,6 +24,10 @@ module _ {K : Type 0} where
   abbrev pub HasTakenOne : Leading K → Hand K → Hand K → Type 0
   HasTakenOne lead old new = (n : ℕ) × (new ≡ hand old.puts (old.takes ++ (n, name lead) ∷ []))
 
+  -- a put by this pass: of this load, or of none, and then what is handed back has this lead
+  abbrev pub IsPut : {T E : Type 0} → Result T E → (E → Leading K) → Leading K → Hand K → Hand K → Type 0
+  IsPut result lead_of lead old new = MatchResult result (λ _. HasPutOne lead old new) (λ back. (lead_of back ≡ lead) × (new ≡ old))
+
   -- a take by this pass: of this load, or of none
   abbrev pub IsTake : Option (Leading K) → Hand K → Hand K → Type 0
   IsTake taken old new = MatchOption taken (new ≡ old) (λ lead. HasTakenOne lead old new)
@@ -39,6 +45,14 @@ module _ {K : Type 0} where
   -- each pair has the name that stands at its number
   abbrev pub AllNamed : List (ℕ × K) → List (ℕ × (ℕ × K)) → Type 0
   AllNamed log ps = (j : ℕ) (p : ℕ × (ℕ × K)) → get_elem? ps j ≡ some p → get_elem? log p.0 ≡ some p.1
+
+-- no line is made with so many places: it has 1 to 4,096
+abbrev pub IsNoCapacity : ℕ → Type 0
+IsNoCapacity capacity = (capacity < 1) ⊎ (4096 < capacity)
+
+-- why a load isn't put into the line: that is full, or closed
+abbrev pub IsPostFault : Fault → Type 0
+IsPostFault f = (f ≡ LineFull) ⊎ (f ≡ LineClosed)
 
 -- 1 for each number below n, and else 0
 abbrev pub once_below : ℕ → ℕ → ℕ

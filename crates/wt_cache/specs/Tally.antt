@@ -93,3 +93,7 @@ tally_of_left left = record no_tally {
   expired = left_as Expired left;
   size = left_as Size left;
 }
+
+-- a tally that also counts a call, by what it returned and the entries that left
+abbrev pub tally_after : {T K V : Type 0} → (T → Tally) → Result T Fault → List (Notice K V) → Tally → Tally
+tally_after tally done left old = tally_sum (tally_sum old (tally_of_done tally done)) (tally_of_left left)

@@ -54,6 +54,8 @@ impl<
     ///
     /// Loads that are open already stay so: their leads are to be abandoned or posted. Takes no
     /// memory.
+    ///
+    /// In use: `uses::lines::new`.
     pub fn new(
         shards: Shards<K, V, B>,
         loader: L,
@@ -81,6 +83,8 @@ impl<
     /// Returns the numbers of all shards, added up.
     ///
     /// Takes each shard's lock in turn, so another thread may move between two of them.
+    ///
+    /// In use: `uses::lines::stats`.
     pub fn stats<R: Wait>(&self, rt: &R) -> Stats
         ensures looked { result.hits + result.misses ≡ result.lookups }
     {
@@ -113,6 +117,8 @@ impl<
     ///
     /// A load that is in the line still is never run: its ticket then waits for good. Takes no
     /// lock.
+    ///
+    /// In use: `uses::lines::finish`.
     pub fn finish(self) -> Shards<K, V, B>
         ensures { result ≡ self.layout }
     {

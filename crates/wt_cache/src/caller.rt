@@ -3,6 +3,7 @@ ghost use Rattle.std.specs.Prelude.{◌≡◌, ◌*◌, ◌≤◌, ◌+◌, leng
 ghost use Rattle.wt_core.specs.declared.calls.Call.TheVariants as call;
 ghost use Rattle.wt_core.specs.declared.calls.Reply.TheVariants as reply;
 ghost use Rattle.wt_shards.specs.Asked.{ReplyAnswers};
+ghost use Rattle.wt_cache.specs.Cached.{most_entries};
 ghost use Rattle.wt_cache.specs.Contract.{IsLentCall, IsLentGet, IsLentPut, IsLentSweep};
 
 use crate::cache::LoadingCache;
@@ -83,6 +84,8 @@ impl<
     ///
     /// Takes no memory, and the lock of the lender, under which nothing is dropped. Not promised:
     /// that it returns.
+    ///
+    /// In use: `uses::callers::lend`.
     pub fn give_back(self) {
         let Caller {
             rt,
@@ -97,6 +100,8 @@ impl<
     /// `LoadingCache::get`, which has the rest of what this call does.
     ///
     /// `now` is in milliseconds. First the list of what left is emptied.
+    ///
+    /// In use: `uses::callers::get`.
     pub fn get(&mut self, key: K, now: u64) -> Result<Got<V>, Fault>
         ensures made { IsLentGet K.eq K.word V.weight V.answers key now self.old self.new result }
     {
@@ -109,6 +114,8 @@ impl<
     /// `LoadingCache::get_if_present`, which has the rest of what this call does.
     ///
     /// `now` is in milliseconds. First the list of what left is emptied.
+    ///
+    /// In use: `uses::callers::get_if_present`.
     pub fn get_if_present(&mut self, key: K, now: u64) -> Result<Done<Reply<V>>, Fault>
         ensures made { IsLentCall K.eq K.word V.weight V.answers key (call.Look key now)
             (λ reply. reply) self.old self.new result }
@@ -123,6 +130,8 @@ impl<
     /// does.
     ///
     /// `now` is in milliseconds. First the list of what left is emptied.
+    ///
+    /// In use: `uses::callers::put`.
     pub fn put(&mut self, key: K, value: V, now: u64) -> Result<Done<()>, Fault>
         requires answers { IsTrue (V.answers value key) }
         ensures made { IsLentPut K.eq K.word V.weight V.answers key value now self.old self.new
@@ -137,6 +146,8 @@ impl<
     /// which has the rest of what this call does.
     ///
     /// `now` is in milliseconds. First the list of what left is emptied.
+    ///
+    /// In use: `uses::callers::invalidate`.
     pub fn invalidate(&mut self, key: K, now: u64) -> Result<Done<bool>, Fault>
         ensures made { IsLentCall K.eq K.word V.weight V.answers key (call.DropKey key now)
             reply.Dropped self.old self.new result }
@@ -150,6 +161,8 @@ impl<
     /// `LoadingCache::forget`, which has the rest of what this call does.
     ///
     /// `now` is in milliseconds. First the list of what left is emptied.
+    ///
+    /// In use: `uses::callers::forget`.
     pub fn forget(&mut self, key: K, now: u64) -> Result<Done<bool>, Fault>
         ensures made { IsLentCall K.eq K.word V.weight V.answers key (call.Forget key now)
             reply.Forgot self.old self.new result }
@@ -164,9 +177,10 @@ impl<
     ///
     /// `now` is in milliseconds. What leaves goes into `notices`, since it may be more than the
     /// caller's own list has room for.
+    ///
+    /// In use: `uses::callers::invalidate_all`.
     pub fn invalidate_all(&mut self, now: u64, notices: &mut Notices<K, V>) -> Result<(), Fault>
-        requires room { self.old.cache.layout.shards * self.old.cache.layout.config.entries
-            ≤ notices.old.room }
+        requires room { most_entries self.old.cache ≤ notices.old.room }
         ensures made { IsLentSweep K.eq K.word V.weight V.answers (call.Clear now) self.old self.new
             notices.old notices.new result }
     {
@@ -178,9 +192,10 @@ impl<
     /// rest of what this call does.
     ///
     /// `now` is in milliseconds. What leaves goes into `notices`, as in `invalidate_all`.
+    ///
+    /// In use: `uses::callers::clean_up`.
     pub fn clean_up(&mut self, now: u64, notices: &mut Notices<K, V>) -> Result<(), Fault>
-        requires room { self.old.cache.layout.shards * self.old.cache.layout.config.entries
-            ≤ notices.old.room }
+        requires room { most_entries self.old.cache ≤ notices.old.room }
         ensures made { IsLentSweep K.eq K.word V.weight V.answers (call.Clean now) self.old self.new
             notices.old notices.new result }
     {
@@ -190,6 +205,8 @@ impl<
 
     /// Returns what left the cache in the latest call that empties this list, the earliest first.
     /// Takes no memory and no lock. O(1).
+    ///
+    /// In use: `uses::callers::put`.
     pub fn left(&self) -> &[Notice<K, V>]
         ensures { result.now ≡ self.now.left.list }
     {

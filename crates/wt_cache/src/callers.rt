@@ -122,9 +122,10 @@ impl<
     /// were taken by `LoadingCache::pass`. Takes memory only if more are lent than ever before: for
     /// `2 * entries` notices, and for the room to come back to. Takes the lock of the lender, and
     /// then, for a new pass, each shard's in turn. Not promised: that it returns.
+    ///
+    /// In use: `uses::callers::lend`.
     pub fn lend<'c, R: Wait>(&'c self, rt: &'c R) -> Result<Caller<'c, K, V, L, B, R>, Fault>
-        ensures ok { IfOk result (λ caller.
-            (caller.cache ≡ self.now) × (caller.left.list ≡ [])) }
+        ensures ok { IfOk result (λ caller. (caller.cache ≡ self.now) × (caller.left.list ≡ [])) }
         ensures faults { IfErr result (λ f. (f ≡ fault.NoMemory) ⊎ (f ≡ fault.PassesSpent)) }
     {
         let room = 2 * self.cache.entries() as usize;

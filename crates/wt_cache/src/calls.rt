@@ -1,9 +1,10 @@
 // The calls that load nothing: each is the shards' own.
-ghost use Rattle.std.specs.Prelude.{◌*◌, ◌≤◌, IsTrue, IfOk};
+ghost use Rattle.std.specs.Prelude.{◌≤◌, IsTrue, IfOk};
 ghost use Rattle.wt_core.specs.declared.calls.Call.TheVariants as call;
 ghost use Rattle.wt_core.specs.declared.calls.Reply.TheVariants as reply;
 ghost use Rattle.wt_shards.specs.Contract.{IsHomeCall, IsSweepCall};
 ghost use Rattle.wt_shards.specs.Asked.{ReplyAnswers};
+ghost use Rattle.wt_cache.specs.Cached.{most_entries};
 ghost use Rattle.wt_cache.specs.Contract.{IsPutCall};
 
 use crate::cache::LoadingCache;
@@ -120,7 +121,7 @@ impl<
         now: u64,
         notices: &mut Notices<K, V>,
     ) -> Result<(), Fault>
-        requires room { self.now.layout.shards * self.now.layout.config.entries ≤ notices.old.room }
+        requires room { most_entries self.now ≤ notices.old.room }
 
         ensures made { IsSweepCall K.eq K.word V.weight V.answers self.now.layout (call.Clear now)
             pass.old pass.new notices.old notices.new result }
@@ -141,7 +142,7 @@ impl<
         now: u64,
         notices: &mut Notices<K, V>,
     ) -> Result<(), Fault>
-        requires room { self.now.layout.shards * self.now.layout.config.entries ≤ notices.old.room }
+        requires room { most_entries self.now ≤ notices.old.room }
 
         ensures made { IsSweepCall K.eq K.word V.weight V.answers self.now.layout (call.Clean now)
             pass.old pass.new notices.old notices.new result }

@@ -1,13 +1,23 @@
 // The get: one seek, and by its answer a hit, a wait, or a load that is run here or in a worker.
-ghost use Rattle.std.specs.Prelude.{◌≡◌, ◌*◌, ◌<◌, ◌≤◌, true, IsTrue, IfOk, IfErr, OnOk};
+//
+//   hit      seek ──► the value that is there
+//   join     seek ──► a ticket ── wait ──► the value that another caller's load brings
+//   lead     seek ──► a lead and a ticket ── hand the lead on ── wait ──► the value
+//   refresh  seek ──► a value that is due, a lead and a ticket ── hand the lead on ──► that value
+//
+//   the lead is handed on  ─┬─ to the line: a worker takes it off, and runs the load
+//                           ├─ to a line that is closed by then: this caller runs what is in it
+//                           └─ to no line, or none that takes it: this caller runs the load
+//
+// A lead has one owner at a time: the caller whose seek opened the load, the line, or whoever took
+// it off the line. That one lands the load and publishes its outcome. A ticket stays with its
+// caller, and each waits on its own, the one that opened the load too. A get holds no lock while it
+// loads or waits.
+ghost use Rattle.std.specs.Prelude.{◌≡◌, ◌*◌, ◌≤◌, true, IsTrue, IfOk, IfErr, OnOk};
 ghost use Rattle.wt_core.specs.Faults.{is_step_fault};
-ghost use Rattle.wt_core.specs.declared.calls.Call.TheVariants as call;
-ghost use Rattle.wt_shards.specs.Outer.{HasCause};
-ghost use Rattle.wt_shards.specs.Passes.{steps_at};
-ghost use Rattle.wt_shards.specs.Place.{home_of, place_of};
 ghost use Rattle.wt_shards.specs.Told.{HasTold};
-ghost use Rattle.wt_cache.specs.Gets.{IsSought, is_get_fault};
-ghost use Rattle.wt_cache.specs.Moves.{LandedSome, HasRun, HasRunIfAny, HasGot, HasTried};
+ghost use Rattle.wt_cache.specs.Gets.{IsSoughtIn, HasTriedIn, is_get_fault};
+ghost use Rattle.wt_cache.specs.Moves.{LandedSome, HasRunIn, HasRunIfAnyIn, HasGotIn, IsLaterIn};
 
 use crate::cache::LoadingCache;
 use crate::got::{Got, How};
@@ -54,23 +64,16 @@ impl<
         requires room { 2 * self.now.layout.config.entries ≤ notices.old.room }
 
         ensures answers { IfOk result (λ got. IsTrue (V.answers got.value key)) }
-        ensures moved { IfOk result (λ got.
-            HasGot self.now.lined (home_of K.word key self.now.layout) got.how pass.old pass.new) }
-        ensures later { IfOk result (λ got.
-            steps_at (home_of K.word key self.now.layout) pass.old < got.step) }
-        ensures sought { IfOk result (λ got. IsSought K.eq K.word V.weight V.answers
-            (place_of (home_of K.word key self.now.layout) self.now.layout)
-            key now got.how got.value got.step notices.old notices.new) }
+        ensures moved { IfOk result (HasGotIn K.word key self.now pass.old pass.new) }
+        ensures later { IfOk result (IsLaterIn K.word key self.now pass.old) }
+        ensures sought { IfOk result (IsSoughtIn K.eq K.word V.weight V.answers key now self.now
+            notices.old notices.new) }
 
         ensures told { HasTold (2 * self.now.layout.config.entries) notices.old notices.new }
         ensures faults { IfErr result (λ fault. is_get_fault fault ≡ true) }
         // Either the seek was refused, for a cause of its own and with nothing done, or it stands.
-        ensures err { IfErr result (λ fault. HasTried self.now.lined
-            (home_of K.word key self.now.layout)
-            (HasCause K.eq K.word V.weight V.answers
-            (place_of (home_of K.word key self.now.layout) self.now.layout)
-            (call.Seek key now) fault × (notices.new ≡ notices.old))
-            fault pass.old pass.new) }
+        ensures err { IfErr result (HasTriedIn K.eq K.word V.weight V.answers key now self.now
+            notices.old notices.new pass.old pass.new) }
     {
         let done = self.shards.seek(rt, pass, key, now, notices)?;
         let step = done.step;
@@ -110,10 +113,8 @@ impl<
         notices: &mut Notices<K, V>,
     ) -> Result<(), Fault>
         requires room { self.now.layout.config.entries ≤ notices.old.room }
-        ensures ran { OnOk result
-            (HasRun self.now.lined (home_of K.word lead.key self.now.layout) pass.old pass.new) }
-        ensures some { HasRunIfAny self.now.lined (home_of K.word lead.key self.now.layout)
-            pass.old pass.new }
+        ensures ran { OnOk result (HasRunIn K.word lead.key self.now pass.old pass.new) }
+        ensures some { HasRunIfAnyIn K.word lead.key self.now pass.old pass.new }
         ensures told { HasTold self.now.layout.config.entries notices.old notices.new }
         ensures faults { IfErr result (λ fault. is_step_fault fault ≡ true) }
     {

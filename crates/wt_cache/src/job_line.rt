@@ -12,10 +12,10 @@
 // A worker first looks for some 20 microseconds, since a sleep and a wake take as long. It looks for
 // the last time under the bell's lock, which a poster takes after its push. A push that this look
 // missed is rung once the worker sleeps, so it isn't slept through.
-ghost use Rattle.std.specs.Prelude.{◌≡◌, ◌<◌, ◌≤◌, ◌⊎◌, [], IfOk, IfErr, Err, IsOkUnless, MatchResult};
+ghost use Rattle.std.specs.Prelude.{◌≡◌, ◌≤◌, [], IfOk, IfErr, Err, IsOkUnless};
 ghost use Rattle.wt_keys.specs.declared.fault.Fault.TheVariants as fault;
 ghost use Rattle.wt_keys.specs.declared.fault.Field.TheVariants as field;
-ghost use Rattle.wt_cache.specs.Line.{hand, HasPutOne, IsTake};
+ghost use Rattle.wt_cache.specs.Line.{hand, IsNoCapacity, IsPostFault, IsPut, IsTake};
 
 use crate::line_pass::{First, LinePass};
 use std::alloc::Global;
@@ -24,8 +24,8 @@ use std::sync::{Condvar, Mutex, Wait};
 use wt_flights::{LOOKS, Lead, pause};
 use wt_keys::{Fault, Field, NoMemory};
 
-// The most jobs that a line may hold, as many as loads may be open in one shard.
-const MOST_JOBS: u32 = 4096;
+// The most places that a line may have: for as many loads as may be open in one shard.
+const MOST_PLACES: u32 = 4096;
 
 /// Whether the line was open still when a load was put into it.
 #[derive(Clone, Copy, Debug, PartialEq, Eq)]
@@ -65,12 +65,13 @@ impl<K: Copy + Drop, V: Drop> JobLine<K, V> {
     ///
     /// `BadConfig` of the line before memory is asked for. All its memory is taken here.
     /// O(capacity).
+    ///
+    /// In use: `uses::lines::new`.
     pub fn new<R: Wait>(_rt: &R, alloc: Global, capacity: u32) -> Result<JobLine<K, V>, Fault>
-        ensures refusal { (capacity < 1) ⊎ (4096 < capacity)
-            → result ≡ Err (fault.BadConfig field.Line) }
+        ensures refusal { IsNoCapacity capacity → result ≡ Err (fault.BadConfig field.Line) }
         ensures memory { 1 ≤ capacity → capacity ≤ 4096 → IsOkUnless result fault.NoMemory }
     {
-        if capacity < 1 || MOST_JOBS < capacity {
+        if capacity < 1 || MOST_PLACES < capacity {
             return Err(Fault::BadConfig { field: Field::Line });
         }
         let Ok(first) = First::of_line(alloc, capacity as usize) else {
@@ -107,10 +108,8 @@ impl<K: Copy + Drop, V: Drop> JobLine<K, V> {
         pass: &mut LinePass<K, V>,
         lead: Lead<K, V>,
     ) -> Result<Posted, Back<K, V>>
-        ensures moved { MatchResult result (λ _. HasPutOne lead pass.old pass.new)
-            (λ back. (back.lead ≡ lead) × (pass.new ≡ pass.old)) }
-        ensures faults { IfErr result (λ back.
-            (back.fault ≡ fault.LineFull) ⊎ (back.fault ≡ fault.LineClosed)) }
+        ensures moved { IsPut result (λ back. back.lead) lead pass.old pass.new }
+        ensures faults { IfErr result (λ back. IsPostFault back.fault) }
     {
         if self.is_closed() {
             let fault = Fault::LineClosed;
@@ -178,6 +177,8 @@ impl<K: Copy + Drop, V: Drop> JobLine<K, V> {
     /// Closes the line, for good, and wakes the workers that sleep: a later post is handed its lead
     /// back, a worker ends once it finds nothing more. Takes no memory, and the lock of the line's
     /// bell.
+    ///
+    /// In use: `uses::lines::close`.
     pub fn close<R: Wait>(&self, rt: &R) {
         self.closed.store(true, Ordering::SeqCst);
         let gate = self.gate.lock(rt);

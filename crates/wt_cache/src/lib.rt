@@ -28,6 +28,3 @@ pub use line_pass::LinePass;
 pub use loader::Loader;
 pub use service::{Service, serve};
 pub use tally::{Countable, Tally};
-
-#[cfg(test)]
-mod tests;

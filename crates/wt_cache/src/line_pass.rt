@@ -4,12 +4,12 @@
 // takes of every pass that was ever made: each put has a number of its own, each take the number
 // and the name of one put, in the order of the puts, and what was put and not taken is in the line.
 // Every push and every pop keeps the rule, so it holds at each atomic step of every schedule.
-ghost use Rattle.std.specs.Prelude.{◌≡◌, ◌<◌, [], IfOk, MatchResult};
+ghost use Rattle.std.specs.Prelude.{◌≡◌, ◌<◌, [], IfOk};
 ghost use Rattle.std.specs.Arc.{arc_value};
 ghost use Rattle.crossbeam_queue.specs.Passes.{view as known_by, IsPassOf};
 ghost use Rattle.wt_flights.specs.Outcomes.{Leading};
 ghost use Rattle.wt_cache.specs.declared.hand.Hand.{Hand};
-ghost use Rattle.wt_cache.specs.Line.{hand, HasPutOne, HasTakenOne, IsTake, Numbered};
+ghost use Rattle.wt_cache.specs.Line.{hand, HasPutOne, HasTakenOne, IsPut, IsTake, Numbered};
 
 use crate::hand::Hand;
 use crossbeam_queue::protocol::{Lesson, Outcome, Protocol, Split};
@@ -76,8 +76,7 @@ impl<K, V> Model for LinePass<K, V> {
 impl<K: Copy + Drop, V: Drop> LinePass<K, V> {
     // Pushes a load to the queue's end, or hands it back where the queue is full.
     pub(crate) fn push<R: Wait>(&mut self, rt: &R, lead: Lead<K, V>) -> Result<(), Lead<K, V>>
-        ensures moved { MatchResult result (λ _. HasPutOne lead self.old self.new)
-            (λ back. (back ≡ lead) × (self.new ≡ self.old)) }
+        ensures moved { IsPut result (λ back. back) lead self.old self.new }
     {
         self.queue.push_as::<Puts, R>(rt, &mut self.pass, lead)
     }

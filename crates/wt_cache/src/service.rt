@@ -107,8 +107,7 @@ fn serve_over<
     service: &S,
 ) -> Result<Vec<Result<S::Answer, Fault>>, NoMemory>
     ensures len { IfOk result (λ answers. vec_len answers ≡ threads) }
-    ensures each { IfOk result (λ answers.
-        AreBrought (S.gives service.now) threads answers.items) }
+    ensures each { IfOk result (λ answers. AreBrought (S.gives service.now) threads answers.items) }
 {
     let cache: LoadingCache<K, V, &S, Of<N>> = LoadingCache::new(shards, service, None);
     let callers = Callers::new(alloc, cache);

@@ -1,7 +1,7 @@
 // What a caller's calls met, counted for an operator.
 ghost use Rattle.std.specs.Prelude.{◌≡◌};
 ghost use Rattle.wt_cache.specs.Tally as spec;
-ghost use Rattle.wt_cache.specs.Tally.{tally_sum, tally_of_done, tally_of_fault, tally_of_left};
+ghost use Rattle.wt_cache.specs.Tally.{tally_after, tally_sum, tally_of_fault, tally_of_left};
 
 use crate::got::{Got, How};
 use std::fmt;
@@ -84,9 +84,10 @@ impl Tally {
     ///
     /// `left` is the list of its notices, which the caller empties before each call; a notice that
     /// is passed twice is counted twice. Never fails, takes no memory and no lock. O(notices).
+    ///
+    /// In use: `uses::callers::lend`.
     pub fn count<T: Countable, K, V>(&mut self, done: &Result<T, Fault>, left: &[Notice<K, V>])
-        ensures { self.new ≡ tally_sum (tally_sum self.old (tally_of_done T.tally done.now))
-            (tally_of_left left.now) }
+        ensures { self.new ≡ tally_after T.tally done.now left.now self.old }
     {
         let met = match done {
             Ok(met) => met.tally(),

@@ -32,6 +32,8 @@ impl<
     /// once, each with passes of its own. The pass of the line is to be one of this cache's line.
     /// Takes the lock of a key's shard for each landing, and that of the line's bell before it
     /// sleeps. Not promised: that it is woken; that it returns.
+    ///
+    /// In use: `uses::lines::run_worker`.
     pub fn run_worker<R: Wait>(
         &self,
         rt: &R,
