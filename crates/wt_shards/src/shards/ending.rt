@@ -119,6 +119,8 @@ fn settle_at<
 
 impl<K: CacheKey, V: Share + Weighs + Answers<K> + Send + Sync, B: Books> Shards<K, V, B> {
     /// Ends the shards, and compares their books with the passes that are handed back.
+    ///
+    /// In use: `uses::lines::finish`.
     pub fn settle<R>(
         self,
         _rt: &R,

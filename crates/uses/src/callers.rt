@@ -1,0 +1,103 @@
+// A `Caller`: one thread's way to a cache that threads share.
+ghost use Rattle.std.specs.Prelude.{◌*◌, ◌≤◌};
+
+use crate::source::{Page, Source};
+use std::sync::Wait;
+use wt_cache::{Caller, Callers, How, Tally};
+use wt_core::{Notices, Reply};
+use wt_keys::Fault;
+use wt_shards::Books;
+
+/// Returns the words of a page, and whether this call loaded it.
+pub fn get<B: Books, R: Wait>(
+    caller: &mut Caller<u64, Page, &Source, B, R>,
+    number: u64,
+    now: u64,
+) -> Result<(u64, bool), Fault> {
+    let got = caller.get(number, now)?;
+    Ok((got.value.value, got.how == How::Loaded))
+}
+
+/// Returns the words of a page, if it is there.
+pub fn get_if_present<B: Books, R: Wait>(
+    caller: &mut Caller<u64, Page, &Source, B, R>,
+    number: u64,
+    now: u64,
+) -> Result<Option<u64>, Fault> {
+    match caller.get_if_present(number, now)?.reply {
+        Reply::Hit(page) => Ok(Some(page.value)),
+        _absent => Ok(None),
+    }
+}
+
+/// Stores a page, and returns how many pages left for it.
+pub fn put<B: Books, R: Wait>(
+    caller: &mut Caller<u64, Page, &Source, B, R>,
+    number: u64,
+    words: u64,
+    now: u64,
+) -> Result<usize, Fault> {
+    let page = Page {
+        key: number,
+        value: words,
+    };
+    caller.put(number, page, now)?;
+    Ok(caller.left().len())
+}
+
+/// Takes a page out, and returns whether it was there.
+pub fn invalidate<B: Books, R: Wait>(
+    caller: &mut Caller<u64, Page, &Source, B, R>,
+    number: u64,
+    now: u64,
+) -> Result<bool, Fault> {
+    Ok(caller.invalidate(number, now)?.reply)
+}
+
+/// Has the open load of a page not stored, and returns whether there was one.
+pub fn forget<B: Books, R: Wait>(
+    caller: &mut Caller<u64, Page, &Source, B, R>,
+    number: u64,
+    now: u64,
+) -> Result<bool, Fault> {
+    Ok(caller.forget(number, now)?.reply)
+}
+
+/// Takes all pages out. `left` has room for those of all shards.
+pub fn invalidate_all<B: Books, R: Wait>(
+    caller: &mut Caller<u64, Page, &Source, B, R>,
+    left: &mut Notices<u64, Page>,
+    now: u64,
+) -> Result<(), Fault>
+    requires room { caller.old.cache.layout.shards * caller.old.cache.layout.config.entries
+        ≤ left.old.room }
+{
+    caller.invalidate_all(now, left)
+}
+
+/// Takes the expired pages out. `left` has room for those of all shards.
+pub fn clean_up<B: Books, R: Wait>(
+    caller: &mut Caller<u64, Page, &Source, B, R>,
+    left: &mut Notices<u64, Page>,
+    now: u64,
+) -> Result<(), Fault>
+    requires room { caller.old.cache.layout.shards * caller.old.cache.layout.config.entries
+        ≤ left.old.room }
+{
+    caller.clean_up(now, left)
+}
+
+/// Gets a page by a caller that is lent for this one request, and counts what the call met.
+pub fn lend<B: Books, R: Wait>(
+    rt: &R,
+    callers: &Callers<u64, Page, &Source, B>,
+    tally: &mut Tally,
+    number: u64,
+    now: u64,
+) -> Result<u64, Fault> {
+    let mut caller = callers.lend(rt)?;
+    let got = caller.get(number, now);
+    tally.count(&got, caller.left());
+    caller.give_back();
+    Ok(got?.value.value)
+}

@@ -1,0 +1,68 @@
+// A cache whose loads are run by workers, and how it ends.
+ghost use Rattle.std.specs.Prelude.{◌*◌, ◌≤◌};
+
+use crate::source::{Page, Source};
+use std::alloc::Global;
+use std::sync::Wait;
+use wt_cache::{JobLine, LoadingCache, WorkerReport};
+use wt_core::{Notices, Stats};
+use wt_keys::Fault;
+use wt_shards::{Books, Pass, Shards};
+
+/// A cache of pages before the source.
+pub type Cached<B> = LoadingCache<u64, Page, Source, B>;
+
+/// Puts a cache before the source, with a line where 64 loads may wait for workers.
+pub fn new<B: Books, R: Wait>(
+    rt: &R,
+    alloc: Global,
+    shards: Shards<u64, Page, B>,
+) -> Result<Cached<B>, Fault> {
+    let line = JobLine::new(rt, alloc, 64)?;
+    Ok(LoadingCache::new(shards, Source {}, Some(line)))
+}
+
+/// Runs loads in this thread, until the line is closed and empty.
+pub fn run_worker<B: Books, R: Wait>(
+    rt: &R,
+    alloc: Global,
+    cache: &Cached<B>,
+) -> Result<(WorkerReport, Pass<B>), Fault> {
+    let mut pass = cache.pass(rt, alloc)?;
+    let mut left = Notices::new(alloc, cache.entries() as usize)?;
+    let report = match cache.line() {
+        Some(line) => {
+            let mut hand = line.pass(rt)?;
+            cache.run_worker(rt, &mut pass, &mut hand, &mut left)
+        }
+        None => WorkerReport {
+            jobs: 0,
+            failed: 0,
+            removed: 0,
+        },
+    };
+    Ok((report, pass))
+}
+
+/// Lets the workers end, once no caller asks any more.
+pub fn close<B: Books, R: Wait>(rt: &R, cache: &Cached<B>) {
+    if let Some(line) = cache.line() {
+        line.close(rt);
+    }
+}
+
+/// Returns the numbers of all shards, added up.
+pub fn stats<B: Books, R: Wait>(rt: &R, cache: &Cached<B>) -> Stats {
+    cache.stats(rt)
+}
+
+/// Ends the cache, and returns the steps of its first shard, once every pass is back.
+pub fn finish<B: Books, R: Wait>(
+    rt: &R,
+    alloc: Global,
+    cache: Cached<B>,
+    passes: Vec<Pass<B>>,
+) -> Result<u64, Fault> {
+    let totals = cache.finish().settle(rt, alloc, passes)?;
+    Ok(totals.of(0).map_or(0, |total| total.steps))
+}
