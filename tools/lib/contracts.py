@@ -222,13 +222,18 @@ class Crate:
                 uses.words.setdefault(current, set()).add((self.name, module, current))
                 self.texts[module, current] = self.texts.get((module, current), "") + line + "\n"
 
+    def root(self):
+        return self.folder / "src" / "lib.rt"
+
+    def is_library(self):
+        return self.root().exists()
+
     def exported(self):
         """Of the public calls those whose type or name the crate's root shows, and those that C calls."""
-        root = self.folder / "src" / "lib.rt"
-        if not root.exists():
+        if not self.is_library():
             return self.public
         names = set()
-        for m in re.finditer(r"pub use ([\w:]+)(?:::\{([^}]*)\})?;", root.read_text()):
+        for m in re.finditer(r"pub use ([\w:]+)(?:::\{([^}]*)\})?;", self.root().read_text()):
             listed = m.group(2).split(",") if m.group(2) else [m.group(1).split("::")[-1]]
             names |= {x.strip() for x in listed}
         return {c for c in self.public if c.split("::")[0] in names} | self.for_c
