@@ -1,5 +1,5 @@
 //! One short use of each call, as a program writes it. A function is named for the call that it
-//! shows, and a test runs it.
+//! shows.
 #![tactic(auto)]
 
 pub mod callers;
@@ -7,5 +7,3 @@ pub mod lines;
 pub mod plain;
 pub mod settings;
 pub mod source;
-#[cfg(test)]
-mod tests;
