@@ -15,7 +15,7 @@ ghost use Rattle.wt_flights.specs.Rows.{row, row_of, first_of};
 
 use crate::config::Config;
 use crate::stats::{Counts, Stats};
-use crate::stores::row_of;
+use crate::steps::land::row_of;
 use std::alloc::Global;
 use std::marker::Model;
 use wt_flights::{FlightTable, Row};

@@ -1,6 +1,6 @@
 use Rattle.std.proofs.Common.{sym, ◌∙◌}
 use Rattle.wt_core.proofs.Rows.{none-with_id, its-with_id, other-with_id}
-use Rattle.wt_core.proofs.stores.row_of.Goals as goal
+use Rattle.wt_core.proofs.steps.land.row_of.Goals as goal
 
 pub returns-in_err-row : goal.returns-in_err-row
 returns-in_err-row g c =
