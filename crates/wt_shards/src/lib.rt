@@ -20,6 +20,7 @@ mod shard_ledger;
 mod shards;
 mod shares;
 mod sought;
+mod steps;
 mod sweep;
 mod total;
 mod totals;

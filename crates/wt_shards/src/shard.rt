@@ -20,10 +20,7 @@ ghost use Rattle.wt_shards.specs.StateAt.{IsStateAt};
 ghost use Rattle.wt_shards.specs.Totals.{total_of};
 ghost use Rattle.wt_shards.specs.Counts.{counted, no_steps, is_hit, IsBlankOf};
 
-mod looks;
-mod removals;
 mod stepping;
-mod stores;
 
 use crate::closed::Closed;
 use crate::explained::Explained;

@@ -2,12 +2,8 @@
 ghost use Rattle.std.specs.Prelude.{◌≡◌};
 
 mod ending;
-mod locked;
-mod looks;
 mod opening;
 mod reads;
-mod removals;
-mod stores;
 mod sweeps;
 
 use crate::books::Books;

@@ -1,6 +1,5 @@
 // Steps at every shard, one after the other.
 ghost use Rattle.std.specs.Prelude.{◌*◌, ◌<◌, ◌≤◌, false};
-ghost use Rattle.wt_core.specs.declared.calls.Call.TheVariants as call;
 ghost use Rattle.wt_shards.specs.Contract.{IsSweepCall, IsSweptCall};
 ghost use Rattle.wt_shards.specs.Counts.{counted};
 ghost use Rattle.wt_shards.specs.Place.{place_of};
@@ -83,7 +82,7 @@ impl<K: CacheKey, V: Share + Weighs + Answers<K> + Send + Sync, B: Books> Shards
     }
 
     // One sweep at each shard.
-    fn sweep<R: Wait>(
+    pub(crate) fn sweep<R: Wait>(
         &self,
         rt: &R,
         pass: &mut Pass<B>,
@@ -99,47 +98,5 @@ impl<K: CacheKey, V: Share + Weighs + Answers<K> + Send + Sync, B: Books> Shards
             self.sweep_one(rt, pass, home, sweep, now, notices)?;
         }
         Ok(())
-    }
-
-    /// Takes every entry of every shard out, by one step at each in turn. No load that is open at a
-    /// shard when its step is made is joined any longer, nor its value stored.
-    ///
-    /// `now` is in milliseconds. Stops at the first shard whose step is refused, by `StepsSpent`
-    /// before memory is asked for, which only a lagging copy may take. Takes each shard's lock in
-    /// turn, never two at once. O(entries) a shard. Not promised: that it returns, and that at some
-    /// moment all shards are empty.
-    pub fn clear<R: Wait>(
-        &self,
-        rt: &R,
-        pass: &mut Pass<B>,
-        now: u64,
-        notices: &mut Notices<K, V>,
-    ) -> Result<(), Fault>
-        requires room { self.now.shards * self.now.config.entries ≤ notices.old.room }
-
-        ensures made { IsSweepCall K.eq K.word V.weight V.answers self.now (call.Clear now) pass.old
-            pass.new notices.old notices.new result }
-    {
-        self.sweep(rt, pass, Sweep::Clear, now, notices)
-    }
-
-    /// Takes every expired entry of every shard out, by one step at each in turn.
-    ///
-    /// `now` is in milliseconds. Stops at the first shard whose step is refused, by `StepsSpent`
-    /// before memory is asked for, which only a lagging copy may take. Takes each shard's lock in
-    /// turn, never two at once. O(entries) a shard. Not promised: that it returns.
-    pub fn clean<R: Wait>(
-        &self,
-        rt: &R,
-        pass: &mut Pass<B>,
-        now: u64,
-        notices: &mut Notices<K, V>,
-    ) -> Result<(), Fault>
-        requires room { self.now.shards * self.now.config.entries ≤ notices.old.room }
-
-        ensures made { IsSweepCall K.eq K.word V.weight V.answers self.now (call.Clean now) pass.old
-            pass.new notices.old notices.new result }
-    {
-        self.sweep(rt, pass, Sweep::Clean, now, notices)
     }
 }

@@ -1,7 +1,7 @@
 use Rattle.std.proofs.Common.{rules, refl}
 use Rattle.wt_core.specs.declared.calls.Call.TheVariants.{Seek}
 use Rattle.wt_shards.proofs.Causes.{cause_of}
-use Rattle.wt_shards.proofs.shards.locked.seek_at.Goals as goal
+use Rattle.wt_shards.proofs.steps.seek.seek_at.Goals as goal
 
 pub returns-clause-made : goal.returns-clause-made
 returns-clause-made g c =

@@ -1,50 +1,37 @@
-// Look-ups of a shard.
-ghost use Rattle.std.specs.Prelude.{◌≡◌, ℕ, ◌+◌, ◌≤◌, None, [], IfOk, IfErr, OnOk, OnErr, IsOkUnless, MatchOption, Err, true};
+// A look-up that opens or joins a load: at a shard, under its lock, and at the shard of the key.
+ghost use Rattle.std.specs.Prelude.{◌≡◌, ◌+◌, ◌≤◌, None, IfOk, IfErr, OnOk, OnErr, IsOkUnless, MatchOption, Err, true};
 ghost use Rattle.wt_keys.specs.declared.fault.Fault.TheVariants as fault;
 ghost use Rattle.wt_regions.specs.Notices.{appended};
 ghost use Rattle.wt_core.specs.declared.calls.Call.TheVariants as call;
 ghost use Rattle.wt_core.specs.Faults.{is_seek_fault};
-ghost use Rattle.wt_shards.specs.Contract.{IsShardCall};
+ghost use Rattle.wt_shards.specs.Contract.{IsLockedCall, IsHomeCall};
 ghost use Rattle.wt_shards.specs.Counts.{counted, is_hit};
 ghost use Rattle.wt_shards.specs.Told.{HasTold};
+ghost use Rattle.wt_shards.specs.Asked.{MayAsk, ReplyAnswers};
+ghost use Rattle.wt_shards.specs.Outer.{IsOfKey};
+ghost use Rattle.wt_shards.specs.Sought.{reply_of};
 
+use crate::at_home::at_home;
+use crate::books::Books;
+use crate::done::Done;
+use crate::hold::hold;
 use crate::kept::{Kept, find_kept};
+use crate::pass::Pass;
 use crate::shard::Shard;
 use crate::shard_ledger::ShardLedger;
+use crate::shards::Shards;
 use crate::shares::Shares;
 use crate::sought::Sought;
 use std::sync::ledger::Ledger;
+use std::sync::{Mutex, Wait};
 use wt_core::{Call, Foreseen, Notices, Reply, Weighs};
-use wt_keys::{Answers, CacheKey, Fault, Share};
+use wt_flights::Lead;
+use wt_keys::{Answers, CacheKey, Fault, Share, shard_of};
 
 impl<K: CacheKey, V: Share + Weighs + Answers<K>, S: ShardLedger, H: Ledger> Shard<K, V, S, H> {
-    ghost use Rattle.wt_shards.specs.Asked.{MayAsk, ReplyAnswers};
     ghost use Rattle.wt_core.specs.Step.{step, refusal_of};
     ghost use Rattle.wt_shards.specs.Audited.{IsCaughtUp, shard_step};
-    ghost use Rattle.wt_shards.specs.Sought.{IsOfLandings, opened_by, reply_of};
-
-    /// Looks the key up at the moment `now`, in milliseconds, and answers `Hit` with a share of its
-    /// value, or `Absent`.
-    ///
-    /// `StepsSpent` comes before memory is asked for, which a hit takes and the lagging copy may.
-    /// Expected O(1) for keys that nobody picks (see `Seeded`), and what the dropped records cost.
-    pub fn look(
-        &mut self,
-        mine: &mut Shares<S, H>,
-        key: K,
-        now: u64,
-        notices: &mut Notices<K, V>,
-    ) -> Result<Reply<V>, Fault>
-        requires asked { MayAsk V.answers K.word S.ShardLedger.place
-            (call.Look key now) notices.old }
-
-        ensures made { IsShardCall K.eq K.word V.weight S.ShardLedger.place.config.entries
-            (call.Look key now) (λ reply. reply) (λ _. []) self.old self.new mine.old mine.new
-            notices.old notices.new result }
-        ensures answers { IfOk result (λ reply. ReplyAnswers V.answers key reply) }
-    {
-        self.make(mine, Call::Look(key, now), None, notices)
-    }
+    ghost use Rattle.wt_shards.specs.Sought.{IsOfLandings, opened_by};
 
     /// Looks the key up at the moment `now`, and where it isn't there joins its current load or
     /// opens one.
@@ -144,5 +131,70 @@ impl<K: CacheKey, V: Share + Weighs + Answers<K>, S: ShardLedger, H: Ledger> Sha
                 Ok(Sought::HitLead(value, lead, ticket))
             }
         }
+    }
+}
+
+// One seek.
+fn seek_at<
+    K: CacheKey,
+    V: Share + Weighs + Answers<K> + Send + Sync,
+    S: ShardLedger,
+    H: Ledger,
+    R: Wait,
+>(
+    rt: &R,
+    shard: &Mutex<Shard<K, V, S, H>>,
+    mine: &mut Shares<S, H>,
+    key: K,
+    now: u64,
+    notices: &mut Notices<K, V>,
+) -> Result<Done<Sought<K, V>>, Fault>
+    requires asked { MayAsk V.answers K.word S.ShardLedger.place (call.Seek key now) notices.old }
+    ensures made { IsLockedCall K.eq K.word V.weight V.answers S.ShardLedger.place
+        (call.Seek key now) reply_of mine.old mine.new notices.old notices.new result }
+    ensures answers { IfOk result (λ done. ReplyAnswers V.answers key (reply_of done.reply)) }
+    ensures asked { IfOk result (λ done. IsOfKey key now done.reply) }
+{
+    let mut shard = hold(rt, shard);
+    // For the prover: shows what holds of the shard.
+    let _before = shard.steps();
+    let reply = shard.seek(mine, key, now, notices)?;
+    Ok(Done {
+        step: shard.steps(),
+        reply,
+    })
+}
+
+impl<K: CacheKey, V: Share + Weighs + Answers<K> + Send + Sync, B: Books> Shards<K, V, B> {
+    /// Looks the key up at its shard, and where it isn't there joins its current load or opens one;
+    /// answers the number of the step there too.
+    ///
+    /// Answers `Hit`, a `Join` with a ticket, or a `Lead` with the right to load and a ticket; or
+    /// `HitLead`, where the entry is due. `now` is in milliseconds. `StepsSpent` comes before
+    /// `TooManyFlights`, and both before memory is asked for. Takes that shard's lock, for one
+    /// step. Expected O(1) for keys that nobody picks (see `Seeded`), O(log(open loads)) on a join.
+    /// Not promised: that it returns.
+    pub fn seek<R: Wait>(
+        &self,
+        rt: &R,
+        pass: &mut Pass<B>,
+        key: K,
+        now: u64,
+        notices: &mut Notices<K, V>,
+    ) -> Result<Done<Sought<K, V>>, Fault>
+        requires room { self.now.config.entries ≤ notices.old.room }
+
+        ensures made { IsHomeCall K.eq K.word V.weight V.answers self.now key (call.Seek key now)
+            reply_of pass.old pass.new notices.old notices.new result }
+        ensures answers { IfOk result (λ done. ReplyAnswers V.answers key (reply_of done.reply)) }
+        ensures asked { IfOk result (λ done. IsOfKey key now done.reply) }
+    {
+        let home = shard_of(key.word(), self.shards);
+        at_home!(
+            home,
+            self,
+            pass,
+            |shard, mine| seek_at(rt, shard, mine, key, now, notices)
+        )
     }
 }
