@@ -1,20 +1,14 @@
 // A thread's way to a cache: its pass, and the list of what left.
-ghost use Rattle.std.specs.Prelude.{◌≡◌, ◌*◌, ◌≤◌, ◌+◌, length, IsTrue, IfOk};
-ghost use Rattle.wt_core.specs.declared.calls.Call.TheVariants as call;
-ghost use Rattle.wt_core.specs.declared.calls.Reply.TheVariants as reply;
-ghost use Rattle.wt_shards.specs.Asked.{ReplyAnswers};
-ghost use Rattle.wt_cache.specs.Cached.{most_entries};
-ghost use Rattle.wt_cache.specs.Contract.{IsLentCall, IsLentGet, IsLentPut, IsLentSweep};
+ghost use Rattle.std.specs.Prelude.{◌≡◌, ◌*◌, ◌≤◌, ◌+◌, length};
 
 use crate::cache::LoadingCache;
 use crate::callers::Callers;
-use crate::got::Got;
 use crate::loader::Loader;
 use std::marker::Model;
 use std::sync::Wait;
-use wt_core::{Notice, Notices, Reply, Weighs};
-use wt_keys::{Answers, CacheKey, Fault, Share};
-use wt_shards::{Books, Done, Pass};
+use wt_core::{Notice, Notices, Weighs};
+use wt_keys::{Answers, CacheKey, Share};
+use wt_shards::{Books, Pass};
 
 /// One thread's way to a cache, lent by `Callers::lend`: the leave to wait, a pass, and a list of
 /// what left the cache in its latest call.
@@ -29,10 +23,10 @@ pub struct Caller<
     B: Books,
     R: Wait,
 > {
-    rt: &'c R,
-    callers: &'c Callers<K, V, L, B>,
-    pass: Pass<B>,
-    left: Notices<K, V>,
+    pub(crate) rt: &'c R,
+    pub(crate) callers: &'c Callers<K, V, L, B>,
+    pub(crate) pass: Pass<B>,
+    pub(crate) left: Notices<K, V>,
 }
 
 impl<
@@ -94,113 +88,6 @@ impl<
             left,
         } = self;
         callers.take_back(rt, pass, left);
-    }
-
-    /// Returns the value of the key, loaded for all who ask meanwhile if it isn't there:
-    /// `LoadingCache::get`, which has the rest of what this call does.
-    ///
-    /// `now` is in milliseconds. First the list of what left is emptied.
-    ///
-    /// In use: `uses::callers::get`.
-    pub fn get(&mut self, key: K, now: u64) -> Result<Got<V>, Fault>
-        ensures made { IsLentGet K.eq K.word V.weight V.answers key now self.old self.new result }
-    {
-        self.left.empty();
-        let cache = self.callers.cache();
-        cache.get(self.rt, &mut self.pass, key, now, &mut self.left)
-    }
-
-    /// Returns the key's value if it is there, and loads nothing:
-    /// `LoadingCache::get_if_present`, which has the rest of what this call does.
-    ///
-    /// `now` is in milliseconds. First the list of what left is emptied.
-    ///
-    /// In use: `uses::callers::get_if_present`.
-    pub fn get_if_present(&mut self, key: K, now: u64) -> Result<Done<Reply<V>>, Fault>
-        ensures made { IsLentCall K.eq K.word V.weight V.answers key (call.Look key now)
-            (λ reply. reply) self.old self.new result }
-        ensures answers { IfOk result (λ done. ReplyAnswers V.answers key done.reply) }
-    {
-        self.left.empty();
-        let cache = self.callers.cache();
-        cache.get_if_present(self.rt, &mut self.pass, key, now, &mut self.left)
-    }
-
-    /// Stores the value under the key: `LoadingCache::put`, which has the rest of what this call
-    /// does.
-    ///
-    /// `now` is in milliseconds. First the list of what left is emptied.
-    ///
-    /// In use: `uses::callers::put`.
-    pub fn put(&mut self, key: K, value: V, now: u64) -> Result<Done<()>, Fault>
-        requires answers { IsTrue (V.answers value key) }
-        ensures made { IsLentPut K.eq K.word V.weight V.answers key value now self.old self.new
-            result }
-    {
-        self.left.empty();
-        let cache = self.callers.cache();
-        cache.put(self.rt, &mut self.pass, key, value, now, &mut self.left)
-    }
-
-    /// Takes the key's value out, and returns whether there was one: `LoadingCache::invalidate`,
-    /// which has the rest of what this call does.
-    ///
-    /// `now` is in milliseconds. First the list of what left is emptied.
-    ///
-    /// In use: `uses::callers::invalidate`.
-    pub fn invalidate(&mut self, key: K, now: u64) -> Result<Done<bool>, Fault>
-        ensures made { IsLentCall K.eq K.word V.weight V.answers key (call.DropKey key now)
-            reply.Dropped self.old self.new result }
-    {
-        self.left.empty();
-        let cache = self.callers.cache();
-        cache.invalidate(self.rt, &mut self.pass, key, now, &mut self.left)
-    }
-
-    /// Makes the key's open load one whose value is not stored, and returns whether there was one:
-    /// `LoadingCache::forget`, which has the rest of what this call does.
-    ///
-    /// `now` is in milliseconds. First the list of what left is emptied.
-    ///
-    /// In use: `uses::callers::forget`.
-    pub fn forget(&mut self, key: K, now: u64) -> Result<Done<bool>, Fault>
-        ensures made { IsLentCall K.eq K.word V.weight V.answers key (call.Forget key now)
-            reply.Forgot self.old self.new result }
-    {
-        self.left.empty();
-        let cache = self.callers.cache();
-        cache.forget(self.rt, &mut self.pass, key, now, &mut self.left)
-    }
-
-    /// Takes every entry out, shard after shard: `LoadingCache::invalidate_all`, which has the
-    /// rest of what this call does.
-    ///
-    /// `now` is in milliseconds. What leaves goes into `notices`, since it may be more than the
-    /// caller's own list has room for.
-    ///
-    /// In use: `uses::callers::invalidate_all`.
-    pub fn invalidate_all(&mut self, now: u64, notices: &mut Notices<K, V>) -> Result<(), Fault>
-        requires room { most_entries self.old.cache ≤ notices.old.room }
-        ensures made { IsLentSweep K.eq K.word V.weight V.answers (call.Clear now) self.old self.new
-            notices.old notices.new result }
-    {
-        let cache = self.callers.cache();
-        cache.invalidate_all(self.rt, &mut self.pass, now, notices)
-    }
-
-    /// Takes every expired entry out, shard after shard: `LoadingCache::clean_up`, which has the
-    /// rest of what this call does.
-    ///
-    /// `now` is in milliseconds. What leaves goes into `notices`, as in `invalidate_all`.
-    ///
-    /// In use: `uses::callers::clean_up`.
-    pub fn clean_up(&mut self, now: u64, notices: &mut Notices<K, V>) -> Result<(), Fault>
-        requires room { most_entries self.old.cache ≤ notices.old.room }
-        ensures made { IsLentSweep K.eq K.word V.weight V.answers (call.Clean now) self.old self.new
-            notices.old notices.new result }
-    {
-        let cache = self.callers.cache();
-        cache.clean_up(self.rt, &mut self.pass, now, notices)
     }
 
     /// Returns what left the cache in the latest call that empties this list, the earliest first.

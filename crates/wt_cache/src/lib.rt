@@ -4,16 +4,14 @@
 mod cache;
 mod caller;
 mod callers;
-mod calls;
-mod get;
 mod got;
 mod hand;
 mod job_line;
 mod keyed;
 mod line_pass;
 mod loader;
-mod loads;
 mod service;
+mod steps;
 mod tally;
 mod workers;
 

@@ -18,13 +18,15 @@ ghost use Rattle.wt_core.specs.Faults.{is_step_fault};
 ghost use Rattle.wt_shards.specs.Told.{HasTold};
 ghost use Rattle.wt_cache.specs.Gets.{IsSoughtIn, HasTriedIn, is_get_fault};
 ghost use Rattle.wt_cache.specs.Moves.{LandedSome, HasRunIn, HasRunIfAnyIn, HasGotIn, IsLaterIn};
+ghost use Rattle.wt_cache.specs.Contract.{IsLentGet};
 
 use crate::cache::LoadingCache;
+use crate::caller::Caller;
 use crate::got::{Got, How};
 use crate::job_line::{Back, JobLine, Posted};
 use crate::line_pass::LinePass;
 use crate::loader::Loader;
-use crate::loads::value_of;
+use crate::steps::land::value_of;
 use std::sync::Wait;
 use wt_core::{Notices, Weighs};
 use wt_flights::Lead;
@@ -158,5 +160,28 @@ impl<
             aside.empty();
         }
         unreachable!()
+    }
+}
+
+impl<
+    'c,
+    K: CacheKey,
+    V: Share + Weighs + Answers<K> + Send + Sync,
+    L: Loader<K, V> + Drop,
+    B: Books,
+    R: Wait,
+> Caller<'c, K, V, L, B, R> {
+    /// Returns the value of the key, loaded for all who ask meanwhile if it isn't there:
+    /// `LoadingCache::get`, which has the rest of what this call does.
+    ///
+    /// `now` is in milliseconds. First the list of what left is emptied.
+    ///
+    /// In use: `uses::callers::get`.
+    pub fn get(&mut self, key: K, now: u64) -> Result<Got<V>, Fault>
+        ensures made { IsLentGet K.eq K.word V.weight V.answers key now self.old self.new result }
+    {
+        self.left.empty();
+        let cache = self.callers.cache();
+        cache.get(self.rt, &mut self.pass, key, now, &mut self.left)
     }
 }
