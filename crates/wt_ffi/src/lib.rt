@@ -3,20 +3,15 @@
 
 mod answer;
 mod cached;
-mod calls;
 mod handle;
-mod landings;
 mod make;
-mod name_calls;
-mod name_landings;
-mod name_removals;
 mod names;
 mod opened;
 mod pointer;
 mod raw_box;
-mod removals;
 mod setup;
 mod shows;
+mod steps;
 mod sweeps;
 mod text;
 mod token;

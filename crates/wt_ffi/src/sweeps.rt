@@ -1,8 +1,6 @@
 // Going through all entries, each call one step of the definition, whichever keys the cache has.
 ghost use Rattle.std.specs.Prelude.{◌≡◌, ◌<◌, IsSome};
-ghost use Rattle.wt_ffi.specs.declared.sweeps.Sweep.TheVariants as sweep;
 ghost use Rattle.wt_ffi.specs.Sweeps.{sweep_call, after, number_after, answer_after, IsRefused};
-ghost use Rattle.wt_ffi.specs.Contract.{IsSweptCall};
 ghost use Rattle.wt_ffi.specs.Handle.{cache_of, Has, IfOpen, IsIdleIfClosed};
 
 use crate::answer::Answer;
@@ -33,7 +31,7 @@ fn call_of<K>(sweep: Sweep, now: u64) -> Call<K, Token>
 
 // Makes the call on the handle's cache. Where that is closed nothing happens, and `CLOSED` is
 // returned.
-fn make_sweep(
+pub(crate) fn make_sweep(
     alloc: Global,
     handle: &mut Handle,
     sweep: Sweep,
@@ -56,24 +54,4 @@ fn make_sweep(
     };
     handle.give(opened);
     number
-}
-
-/// Takes every entry out: `RD_CLEARED`. The loads that are open store nothing.
-///
-/// Takes no memory. O(entries).
-#[unsafe(no_mangle)]
-pub extern "C" fn rd_clear(alloc: Global, handle: &mut Handle, now: u64, answer: &mut Answer) -> u64
-    ensures made { IsSweptCall sweep.Clear now handle.old handle.new answer.old answer.new result }
-{
-    make_sweep(alloc, handle, Sweep::Clear, now, answer)
-}
-
-/// Takes every expired entry out: `RD_CLEANED`.
-///
-/// Takes no memory. O(entries).
-#[unsafe(no_mangle)]
-pub extern "C" fn rd_clean(alloc: Global, handle: &mut Handle, now: u64, answer: &mut Answer) -> u64
-    ensures made { IsSweptCall sweep.Clean now handle.old handle.new answer.old answer.new result }
-{
-    make_sweep(alloc, handle, Sweep::Clean, now, answer)
 }

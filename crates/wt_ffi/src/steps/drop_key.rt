@@ -1,0 +1,48 @@
+// A removal, by number and by name.
+ghost use Rattle.wt_core.specs.declared.calls.Call.TheVariants.{DropKey};
+ghost use Rattle.wt_ffi.specs.Contract.{IsCall, IsNameCall};
+
+use crate::answer::Answer;
+use crate::handle::{Handle, TOO_LONG};
+use crate::make::make;
+use crate::names::make_named;
+use crate::text::{Text, name_of};
+use std::alloc::Global;
+use wt_core::Call;
+
+/// Takes the key's entry out: `RD_DROPPED`, with 1 where an unexpired entry left, else 0.
+///
+/// The key's current load stores nothing. Takes no memory. Expected O(1) for keys that nobody
+/// picks.
+#[unsafe(no_mangle)]
+pub extern "C" fn rd_drop_key(
+    alloc: Global,
+    handle: &mut Handle,
+    key: u64,
+    now: u64,
+    answer: &mut Answer,
+) -> u64
+    ensures made { IsCall DropKey key now handle.old handle.new answer.old answer.new result }
+{
+    make(alloc, handle, Call::DropKey(key, now), answer)
+}
+
+/// Takes the name's entry out: `RD_DROPPED`, with 1 where an unexpired entry left, else 0.
+///
+/// The name's current load stores nothing. Takes no memory. Expected O(1).
+#[unsafe(no_mangle)]
+pub extern "C" fn rd_drop_name(
+    alloc: Global,
+    handle: &mut Handle,
+    key: &Text,
+    now: u64,
+    answer: &mut Answer,
+) -> u64
+    ensures made { IsNameCall DropKey key.now now
+        handle.old handle.new answer.old answer.new result }
+{
+    let Some(name) = name_of(key) else {
+        return TOO_LONG;
+    };
+    make_named(alloc, handle, Call::DropKey(name, now), answer)
+}

@@ -1,0 +1,48 @@
+// A look-up, by number and by name.
+ghost use Rattle.wt_core.specs.declared.calls.Call.TheVariants.{Look};
+ghost use Rattle.wt_ffi.specs.Contract.{IsCall, IsNameCall};
+
+use crate::answer::Answer;
+use crate::handle::{Handle, TOO_LONG};
+use crate::make::make;
+use crate::names::make_named;
+use crate::text::{Text, name_of};
+use std::alloc::Global;
+use wt_core::Call;
+
+/// Looks the key up at the moment `now`: `RD_HIT` with its token, which is a use, or `RD_ABSENT`.
+///
+/// Takes memory only for a hit. Expected O(1) for keys that nobody picks.
+#[unsafe(no_mangle)]
+pub extern "C" fn rd_look(
+    alloc: Global,
+    handle: &mut Handle,
+    key: u64,
+    now: u64,
+    answer: &mut Answer,
+) -> u64
+    ensures made { IsCall Look key now handle.old handle.new answer.old answer.new result }
+{
+    make(alloc, handle, Call::Look(key, now), answer)
+}
+
+/// Looks the name up at the moment `now`: `RD_HIT` with its token, which is a use, or `RD_ABSENT`.
+///
+/// Here as in the other seven calls by name nothing happens, and 104 is returned where the name is
+/// too long, 100 where the cache is closed, 103 where its keys are numbers, in this order. Takes
+/// memory only for a hit. Expected O(1).
+#[unsafe(no_mangle)]
+pub extern "C" fn rd_look_name(
+    alloc: Global,
+    handle: &mut Handle,
+    key: &Text,
+    now: u64,
+    answer: &mut Answer,
+) -> u64
+    ensures made { IsNameCall Look key.now now handle.old handle.new answer.old answer.new result }
+{
+    let Some(name) = name_of(key) else {
+        return TOO_LONG;
+    };
+    make_named(alloc, handle, Call::Look(name, now), answer)
+}

@@ -1,0 +1,52 @@
+// A store, by number and by name.
+ghost use Rattle.wt_ffi.specs.Calls.{put};
+ghost use Rattle.wt_ffi.specs.Contract.{IsCall, IsNameCall};
+
+use crate::answer::Answer;
+use crate::handle::{Handle, TOO_LONG};
+use crate::make::make;
+use crate::names::make_named;
+use crate::text::{Text, name_of};
+use crate::token::Token;
+use std::alloc::Global;
+use wt_core::Call;
+
+/// Stores the value under the key, in place of one that is there: `RD_STORED`.
+///
+/// What leaves is told, the new value itself perhaps. The key's current load stores nothing. A
+/// value that is too heavy is refused before memory is asked for. Expected O(1) for keys that
+/// nobody picks, O(entries) in a trim.
+#[unsafe(no_mangle)]
+pub extern "C" fn rd_put(
+    alloc: Global,
+    handle: &mut Handle,
+    key: u64,
+    value: Token,
+    now: u64,
+    answer: &mut Answer,
+) -> u64
+    ensures made { IsCall (put value) key now handle.old handle.new answer.old answer.new result }
+{
+    make(alloc, handle, Call::Put(key, value, now), answer)
+}
+
+/// Stores the value under the name, in place of one that is there, as `rd_put` does: `RD_STORED`.
+///
+/// Expected O(1), O(entries) in a trim.
+#[unsafe(no_mangle)]
+pub extern "C" fn rd_put_name(
+    alloc: Global,
+    handle: &mut Handle,
+    key: &Text,
+    value: Token,
+    now: u64,
+    answer: &mut Answer,
+) -> u64
+    ensures made { IsNameCall (put value) key.now now
+        handle.old handle.new answer.old answer.new result }
+{
+    let Some(name) = name_of(key) else {
+        return TOO_LONG;
+    };
+    make_named(alloc, handle, Call::Put(name, value, now), answer)
+}

@@ -1,0 +1,48 @@
+// A look-up that opens or joins a load, by number and by name.
+ghost use Rattle.wt_core.specs.declared.calls.Call.TheVariants.{Seek};
+ghost use Rattle.wt_ffi.specs.Contract.{IsCall, IsNameCall};
+
+use crate::answer::Answer;
+use crate::handle::{Handle, TOO_LONG};
+use crate::make::make;
+use crate::names::make_named;
+use crate::text::{Text, name_of};
+use std::alloc::Global;
+use wt_core::Call;
+
+/// Looks the key up, and where it isn't there joins its current load or opens one.
+///
+/// `RD_HIT`, `RD_JOIN` or `RD_LEAD`, or `RD_HIT_LEAD` where the entry is due for a further load,
+/// the last three with the load's id: who leads makes the load and lands it. Expected O(1) for keys
+/// that nobody picks.
+#[unsafe(no_mangle)]
+pub extern "C" fn rd_seek(
+    alloc: Global,
+    handle: &mut Handle,
+    key: u64,
+    now: u64,
+    answer: &mut Answer,
+) -> u64
+    ensures made { IsCall Seek key now handle.old handle.new answer.old answer.new result }
+{
+    make(alloc, handle, Call::Seek(key, now), answer)
+}
+
+/// Looks the name up, and where it isn't there joins its current load or opens one.
+///
+/// It answers as `rd_seek` does. Expected O(1).
+#[unsafe(no_mangle)]
+pub extern "C" fn rd_seek_name(
+    alloc: Global,
+    handle: &mut Handle,
+    key: &Text,
+    now: u64,
+    answer: &mut Answer,
+) -> u64
+    ensures made { IsNameCall Seek key.now now handle.old handle.new answer.old answer.new result }
+{
+    let Some(name) = name_of(key) else {
+        return TOO_LONG;
+    };
+    make_named(alloc, handle, Call::Seek(name, now), answer)
+}
