@@ -10,10 +10,10 @@ use Rattle.wt_shards.specs.declared.done.Done.{Done}
 use Rattle.wt_cache.specs.Cached.{Cached}
 use Rattle.wt_replay.specs.Turns.{HasActed, HasDone, HasMade, HasSwept, weight_of, answers_for}
 use Rattle.wt_trace.specs.Keys.{Keys}
-use Rattle.wt_trace.specs.declared.line.Act.{Act}
-use Rattle.wt_trace.specs.declared.line.Line.{Line}
+use Rattle.wt_trace.specs.declared.trace.line.Act.{Act}
+use Rattle.wt_trace.specs.declared.trace.line.Line.{Line}
 use Rattle.wt_trace.specs.declared.options.Options.{Options}
-use Rattle.wt_trace.specs.declared.version.Version.{Version}
+use Rattle.wt_trace.specs.declared.shard.version.Version.{Version}
 
 module _ {K : Type 0} (keys : Keys K) (o : Options) (c : Cached) (old new : Passed) where
   -- a line whose letter is known

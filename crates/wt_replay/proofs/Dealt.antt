@@ -6,7 +6,7 @@ use Rattle.wt_replay.specs.Turns.{AreDone, AreTurns, HasActed, IsDone, IsTurn, i
 use Rattle.wt_replay.specs.declared.turns.RunFault.{RunFault}
 use Rattle.wt_trace.specs.Stops.{AreAsked}
 use Rattle.wt_trace.specs.Keys.{Keys}
-use Rattle.wt_trace.specs.declared.line.Line.{Line}
+use Rattle.wt_trace.specs.declared.trace.line.Line.{Line}
 use Rattle.wt_trace.specs.declared.options.Options.{Options}
 use Rattle.wt_shards.specs.Passes.{Passed}
 

@@ -11,7 +11,7 @@ use Rattle.wt_trace.specs.Options.{option_fault}
 use Rattle.wt_trace.specs.Stops.{AreAsked}
 use Rattle.wt_trace.specs.Trace.{Trace}
 use Rattle.wt_trace.specs.declared.fault.ReplayFault.{ReplayFault}
-use Rattle.wt_trace.specs.declared.line.Line.{Line}
+use Rattle.wt_trace.specs.declared.trace.line.Line.{Line}
 use Rattle.wt_trace.specs.declared.options.Options.{Options}
 use Rattle.wt_replay.specs.ByTurn.{AreLooked, IsTurnFault, faulty, layout_of}
 use Rattle.wt_replay.specs.Turns.{AreDone, IsRunStop}

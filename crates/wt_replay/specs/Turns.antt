@@ -20,11 +20,11 @@ use Rattle.wt_trace.specs.Answers.{version}
 use Rattle.wt_trace.specs.Keys.{Keys}
 use Rattle.wt_trace.specs.Replayed.{is_config_fault}
 use Rattle.wt_trace.specs.declared.fault.ReplayFault.TheVariants.{Cache}
-use Rattle.wt_trace.specs.declared.line.Act.{Act}
-use Rattle.wt_trace.specs.declared.line.Act.TheVariants as act
-use Rattle.wt_trace.specs.declared.line.Line.{Line}
+use Rattle.wt_trace.specs.declared.trace.line.Act.{Act}
+use Rattle.wt_trace.specs.declared.trace.line.Act.TheVariants as act
+use Rattle.wt_trace.specs.declared.trace.line.Line.{Line}
 use Rattle.wt_trace.specs.declared.options.Options.{Options}
-use Rattle.wt_trace.specs.declared.version.Version.{Version}
+use Rattle.wt_trace.specs.declared.shard.version.Version.{Version}
 use Rattle.wt_replay.specs.declared.turns.RunFault.{RunFault}
 use Rattle.wt_replay.specs.declared.turns.RunFault.TheVariants as run
 

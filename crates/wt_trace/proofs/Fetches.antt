@@ -21,9 +21,9 @@ use Rattle.wt_core.specs.State.{State, Made, made, found as found_in, stepped, w
 use Rattle.wt_core.specs.Seek.{refreshes, met}
 use Rattle.wt_core.specs.Step.{own_expired, storing, is_kept, landing, sought, spent, refusal_of}
 use Rattle.wt_core.specs.Run.{taken, taken_if}
-use Rattle.wt_trace.specs.declared.line.Act.TheVariants as act
+use Rattle.wt_trace.specs.declared.trace.line.Act.TheVariants as act
 use Rattle.wt_trace.specs.declared.options.Options.{Options}
-use Rattle.wt_trace.specs.declared.version.Version.{Version}
+use Rattle.wt_trace.specs.declared.shard.version.Version.{Version}
 use Rattle.wt_trace.specs.Keys.{Keys}
 use Rattle.wt_trace.specs.Answers.{load, fetched, take, act_step}
 

@@ -6,7 +6,7 @@ use Rattle.wt_core.specs.State.{Made}
 use Rattle.wt_trace.specs.Answers.{shown, fetched}
 use Rattle.wt_trace.specs.Words.{words_of}
 use Rattle.wt_trace.specs.Keys.{Keys}
-use Rattle.wt_trace.specs.declared.version.Version.{Version}
+use Rattle.wt_trace.specs.declared.shard.version.Version.{Version}
 use Rattle.wt_trace.specs.declared.options.Options.{Options}
 
 module _ {K : Type 0} (keys : Keys K) (o : Options) (n moment : ℕ) (k : K) where

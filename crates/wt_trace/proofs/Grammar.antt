@@ -9,9 +9,9 @@ use Rattle.std.specs.List.{before_first, after_first, position_or_len, AllByRecu
 use Rattle.std.specs.Str.{all_ascii_digits}
 use Rattle.wt_trace.specs.Keys.{IsNumber, number_of, IsName, name_of}
 use Rattle.wt_trace.specs.Line.{IsAsked, IsLine, letter_of, key_of, lettered, keyed, act_of, line_of, ReadsKeys, ReadsLines}
-use Rattle.wt_trace.specs.declared.line.Line.{Line}
-use Rattle.wt_trace.specs.declared.line.Act.{Act}
-use Rattle.wt_trace.specs.declared.line.Act.TheVariants.{Look, Put, Seek, Get, Land, Drop, Forget, Clean, Clear}
+use Rattle.wt_trace.specs.declared.trace.line.Line.{Line}
+use Rattle.wt_trace.specs.declared.trace.line.Act.{Act}
+use Rattle.wt_trace.specs.declared.trace.line.Act.TheVariants.{Look, Put, Seek, Get, Land, Drop, Forget, Clean, Clear}
 
 abbrev is_space : ℕ → Bool
 is_space b = b == 32

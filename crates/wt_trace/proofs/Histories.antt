@@ -10,10 +10,10 @@ use Rattle.wt_core.specs.declared.calls.Reply.{Reply}
 use Rattle.wt_core.specs.declared.calls.Reply.TheVariants as reply
 use Rattle.wt_core.specs.State.{State, Made, opening, stats_of}
 use Rattle.wt_core.specs.Run.{run}
-use Rattle.wt_trace.specs.declared.line.Act.{Act}
-use Rattle.wt_trace.specs.declared.line.Act.TheVariants as act
-use Rattle.wt_trace.specs.declared.line.Line.{Line}
-use Rattle.wt_trace.specs.declared.version.Version.{Version}
+use Rattle.wt_trace.specs.declared.trace.line.Act.{Act}
+use Rattle.wt_trace.specs.declared.trace.line.Act.TheVariants as act
+use Rattle.wt_trace.specs.declared.trace.line.Line.{Line}
+use Rattle.wt_trace.specs.declared.shard.version.Version.{Version}
 use Rattle.wt_trace.specs.declared.options.Options.{Options}
 use Rattle.wt_trace.specs.Answers.{act_step, answers, answers_from, belongs, fetched, line_step, line_if, landing_of, one_call, shown, take}
 use Rattle.wt_trace.specs.Calls.{landing_calls, act_calls, line_calls, calls_from, state_from, IsRun}

@@ -8,8 +8,8 @@ use Rattle.wt_core.specs.State.{State, stats_of, opening}
 use Rattle.wt_trace.specs.Answers.{Answers, Shown, line_step, answers_from, answers}
 use Rattle.wt_trace.specs.Keys.{Keys}
 use Rattle.wt_trace.specs.Pieces.{pieces, AreEnds, last_end}
-use Rattle.wt_trace.specs.declared.line.Line.{Line}
-use Rattle.wt_trace.specs.declared.version.Version.{Version}
+use Rattle.wt_trace.specs.declared.trace.line.Line.{Line}
+use Rattle.wt_trace.specs.declared.shard.version.Version.{Version}
 use Rattle.wt_trace.specs.Options.{config_of, option_fault}
 use Rattle.wt_trace.specs.declared.options.Options.{Options}
 use Rattle.wt_trace.proofs.Ranges.{shards_few}

@@ -10,7 +10,7 @@ use Rattle.wt_trace.specs.Line.{line_of}
 use Rattle.wt_trace.specs.Trace.{Verdict, Trace, joined, lines_of, lines_of_all, onto_lines, or_bad, onto_trace, checked, trace_from}
 use Rattle.wt_trace.specs.declared.fault.ReplayFault.{ReplayFault}
 use Rattle.wt_trace.specs.declared.fault.ReplayFault.TheVariants.{LineTooLong, TooManyLines}
-use Rattle.wt_trace.specs.declared.line.Line.{Line}
+use Rattle.wt_trace.specs.declared.trace.line.Line.{Line}
 use Rattle.wt_trace.proofs.Traces.{lines_of-first}
 
 -- ---- bytes

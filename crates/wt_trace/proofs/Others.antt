@@ -3,8 +3,8 @@ use Rattle.std.proofs.Common.{◌≡◌, ℕ, false, []}
 use Rattle.wt_core.specs.State.{State}
 use Rattle.wt_trace.specs.Answers.{belongs, line_step, line_if}
 use Rattle.wt_trace.specs.Keys.{Keys}
-use Rattle.wt_trace.specs.declared.line.Line.{Line}
-use Rattle.wt_trace.specs.declared.version.Version.{Version}
+use Rattle.wt_trace.specs.declared.trace.line.Line.{Line}
+use Rattle.wt_trace.specs.declared.shard.version.Version.{Version}
 use Rattle.wt_trace.specs.declared.options.Options.{Options}
 
 -- it leaves the shard, and adds nothing to the text

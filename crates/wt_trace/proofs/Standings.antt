@@ -14,7 +14,7 @@ use Rattle.wt_trace.specs.Options.{config_of}
 use Rattle.wt_trace.specs.Report.{line_text, lines_text, printed, summary, summary_of}
 use Rattle.wt_trace.specs.Standing.{Standing, standing_of, new_standing, new_standings, added_text, next_standing, line_by, lines_by, standings_after}
 use Rattle.wt_trace.specs.Trace.{Trace, Verdict, onto_trace}
-use Rattle.wt_trace.specs.declared.line.Line.{Line}
+use Rattle.wt_trace.specs.declared.trace.line.Line.{Line}
 use Rattle.wt_trace.specs.declared.options.Options.{Options}
 use Rattle.wt_trace.proofs.Sums.{summary_of-totals}
 

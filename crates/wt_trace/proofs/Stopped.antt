@@ -8,8 +8,8 @@ use Rattle.wt_trace.specs.Contract.{AreOfShards, IsOfShard, IsPartOf}
 use Rattle.wt_trace.specs.Keys.{Keys}
 use Rattle.wt_trace.specs.Stops.{IsStop, AreAsked}
 use Rattle.wt_trace.specs.declared.options.Options.{Options}
-use Rattle.wt_trace.specs.declared.line.Act.{Act}
-use Rattle.wt_trace.specs.declared.line.Line.{Line}
+use Rattle.wt_trace.specs.declared.trace.line.Act.{Act}
+use Rattle.wt_trace.specs.declared.trace.line.Line.{Line}
 use Rattle.wt_trace.specs.declared.fault.ReplayFault.{ReplayFault}
 use Rattle.wt_trace.specs.declared.fault.ReplayFault.TheVariants.{Cache}
 

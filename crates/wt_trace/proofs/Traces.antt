@@ -9,7 +9,7 @@ use Rattle.wt_trace.specs.Report.{IsVerdict}
 use Rattle.wt_trace.specs.Trace.{Verdict, Trace, lines_of, or_bad, onto_trace, checked, trace_from}
 use Rattle.wt_trace.specs.declared.fault.ReplayFault.{ReplayFault}
 use Rattle.wt_trace.specs.declared.fault.ReplayFault.TheVariants.{Cache, BadLine, LineTooLong, TooManyLines, ReadFault, WriteFault, GateShut}
-use Rattle.wt_trace.specs.declared.line.Line.{Line}
+use Rattle.wt_trace.specs.declared.trace.line.Line.{Line}
 
 abbrev is_end : ℕ → Bool
 is_end c = c == 10

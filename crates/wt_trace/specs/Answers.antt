@@ -13,11 +13,11 @@ use Rattle.wt_core.specs.declared.calls.Reply.TheVariants as reply
 use Rattle.wt_core.specs.declared.stats.Stats.{Stats}
 use Rattle.wt_core.specs.State.{State, Made, opening, stats_of}
 use Rattle.wt_core.specs.Run.{taken}
-use Rattle.wt_trace.specs.declared.line.Act.{Act}
-use Rattle.wt_trace.specs.declared.line.Act.TheVariants as act
-use Rattle.wt_trace.specs.declared.line.Line.{Line}
+use Rattle.wt_trace.specs.declared.trace.line.Act.{Act}
+use Rattle.wt_trace.specs.declared.trace.line.Act.TheVariants as act
+use Rattle.wt_trace.specs.declared.trace.line.Line.{Line}
 use Rattle.wt_trace.specs.declared.options.Options.{Options}
-use Rattle.wt_trace.specs.declared.version.Version.{Version}
+use Rattle.wt_trace.specs.declared.shard.version.Version.{Version}
 use Rattle.wt_trace.specs.Keys.{Keys}
 use Rattle.wt_trace.specs.Line.{key_of}
 use Rattle.wt_trace.specs.Words.{words_of, loaded_words, notices_text}

@@ -16,11 +16,11 @@ use Rattle.wt_trace.specs.Tally.{Tally}
 use Rattle.wt_trace.specs.Trace.{Trace, Verdict, line_end, lines_of, read_end, trace_from}
 use Rattle.wt_trace.specs.declared.fault.ReplayFault.{ReplayFault}
 use Rattle.wt_trace.specs.declared.fault.ReplayFault.TheVariants as fault
-use Rattle.wt_trace.specs.declared.line.Act.{Act}
-use Rattle.wt_trace.specs.declared.line.Line.{Line}
+use Rattle.wt_trace.specs.declared.trace.line.Act.{Act}
+use Rattle.wt_trace.specs.declared.trace.line.Line.{Line}
 use Rattle.wt_trace.specs.declared.options.Options.{Options}
 use Rattle.wt_trace.specs.declared.trace.Lines.{Lines}
-use Rattle.wt_trace.specs.declared.version.Version.{Version}
+use Rattle.wt_trace.specs.declared.shard.version.Version.{Version}
 
 -- ---- what is asked for
 

@@ -5,10 +5,10 @@ use Rattle.wt_core.specs.State.{State}
 use Rattle.wt_trace.specs.Answers.{act_step}
 use Rattle.wt_trace.specs.Calls.{IsRun}
 use Rattle.wt_trace.specs.Keys.{Keys}
-use Rattle.wt_trace.specs.declared.line.Act.TheVariants as act
-use Rattle.wt_trace.specs.declared.line.Line.{Line}
+use Rattle.wt_trace.specs.declared.trace.line.Act.TheVariants as act
+use Rattle.wt_trace.specs.declared.trace.line.Line.{Line}
 use Rattle.wt_trace.specs.declared.options.Options.{Options}
-use Rattle.wt_trace.specs.declared.version.Version.{Version}
+use Rattle.wt_trace.specs.declared.shard.version.Version.{Version}
 
 module _ {K : Type 0} (keys : Keys K) where
   -- after a line of letter G the same loads are open as before it, at each shard, whatever its state

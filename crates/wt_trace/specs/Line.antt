@@ -2,9 +2,9 @@
 use Rattle.std.specs.Prelude.{◌≡◌, ◌↔◌, ℕ, ◌==◌, if◌then◌else◌, List, [], ◌∷◌, ◌++◌, Option, None, Some, option_and_then}
 use Rattle.std.specs.Option.{option_map}
 use Rattle.std.specs.List.{before_first, after_first, find}
-use Rattle.wt_trace.specs.declared.line.Line.{Line}
-use Rattle.wt_trace.specs.declared.line.Act.{Act}
-use Rattle.wt_trace.specs.declared.line.Act.TheVariants.{Look, Put, Seek, Get, Land, Drop, Forget, Clean, Clear}
+use Rattle.wt_trace.specs.declared.trace.line.Line.{Line}
+use Rattle.wt_trace.specs.declared.trace.line.Act.{Act}
+use Rattle.wt_trace.specs.declared.trace.line.Act.TheVariants.{Look, Put, Seek, Get, Land, Drop, Forget, Clean, Clear}
 use Rattle.wt_trace.specs.Keys.{IsNumber, number_of}
 
 module _ {K : Type 0} where

@@ -5,9 +5,9 @@ use Rattle.wt_core.specs.State.{State, opening}
 use Rattle.wt_trace.specs.Answers.{Work, line_step}
 use Rattle.wt_trace.specs.Keys.{Keys}
 use Rattle.wt_trace.specs.Options.{config_of}
-use Rattle.wt_trace.specs.declared.line.Line.{Line}
+use Rattle.wt_trace.specs.declared.trace.line.Line.{Line}
 use Rattle.wt_trace.specs.declared.options.Options.{Options}
-use Rattle.wt_trace.specs.declared.version.Version.{Version}
+use Rattle.wt_trace.specs.declared.shard.version.Version.{Version}
 
 -- how a shard stands between two lines
 pub record Standing (K : Type 0) : Type 0 where

@@ -1,7 +1,7 @@
 -- Why a shard stops before its last line, and what was asked where it doesn't.
 use Rattle.std.specs.Prelude.{◌≡◌, ◌⊎◌, ◌+◌, ◌<◌, ℕ, Bool, true, false, List, [], ◌∷◌, drop}
-use Rattle.wt_trace.specs.declared.line.Act.{Act}
-use Rattle.wt_trace.specs.declared.line.Line.{Line}
+use Rattle.wt_trace.specs.declared.trace.line.Act.{Act}
+use Rattle.wt_trace.specs.declared.trace.line.Line.{Line}
 use Rattle.wt_trace.specs.Answers.{belongs}
 use Rattle.wt_trace.specs.Keys.{Keys, numbers, names}
 use Rattle.wt_trace.specs.Trace.{lines_of, is_header, trace_from}

@@ -7,7 +7,7 @@ use Rattle.wt_regions.specs.declared.notices.Cause.TheVariants.{Explicit, Replac
 use Rattle.wt_regions.specs.declared.notices.Notice.{Notice}
 use Rattle.wt_core.specs.declared.calls.Reply.{Reply}
 use Rattle.wt_core.specs.declared.calls.Reply.TheVariants as reply
-use Rattle.wt_trace.specs.declared.version.Version.{Version}
+use Rattle.wt_trace.specs.declared.shard.version.Version.{Version}
 
 -- the name of a cause
 abbrev pub cause_name : Cause → List ℕ

@@ -2,7 +2,7 @@
 ghost use Rattle.wt_trace.specs.Keys.{keys_of};
 ghost use Rattle.wt_trace.specs.Laws.{AreRuns, GetsLeaveLoads};
 
-use crate::key::TraceKey;
+use crate::trace::key::TraceKey;
 
 /// After a line of letter G the same loads are open as before it.
 ///

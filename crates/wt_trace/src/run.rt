@@ -5,13 +5,13 @@ ghost use Rattle.wt_trace.specs.Replayed.{Replayed, Rises, LetThrough, is_config
 ghost use Rattle.wt_keys.specs.declared.fault.Fault.TheVariants as cache;
 ghost use Rattle.wt_trace.specs.declared.fault.ReplayFault.TheVariants as fault;
 
-use crate::by_shard::report_by_shard;
 use crate::fault::ReplayFault;
-use crate::gate::Gate;
 use crate::options::Options;
 use crate::report::report;
+use crate::report::texts::Texts;
+use crate::shard::by_shard::report_by_shard;
+use crate::shard::gate::Gate;
 use crate::tallied::Tallied;
-use crate::texts::Texts;
 use std::alloc::Global;
 use std::io::{Read, Write};
 use std::thread::Threads;

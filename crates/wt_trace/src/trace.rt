@@ -4,10 +4,17 @@ ghost use Rattle.wt_trace.specs.Contract.{AreRead};
 ghost use Rattle.wt_trace.specs.Trace.{line_end};
 ghost use Rattle.wt_trace.specs.Trace as spec;
 
-use crate::bytes::cut;
+pub(crate) mod bytes;
+pub(crate) mod header;
+pub(crate) mod key;
+pub(crate) mod line;
+pub(crate) mod parsing;
+pub(crate) mod pieces;
+
 use crate::fault::ReplayFault;
-use crate::key::TraceKey;
-use crate::line::{Line, line_of};
+use crate::trace::bytes::cut;
+use crate::trace::key::TraceKey;
+use crate::trace::line::{Line, line_of};
 use std::alloc::Global;
 use wt_keys::NoMemory;
 

@@ -1,6 +1,6 @@
 use Rattle.std.proofs.Common.{rules, ◌≡◌, ◌∙◌, ap, sym, subst, List, None, Err, false, true}
 use Rattle.wt_trace.specs.Stops.{AreAsked}
-use Rattle.wt_trace.specs.declared.line.Line.{Line}
+use Rattle.wt_trace.specs.declared.trace.line.Line.{Line}
 use Rattle.wt_replay.specs.ByTurn.{first_open}
 use Rattle.wt_trace.specs.Trace.{lines_of, trace_from}
 use Rattle.wt_replay.proofs.Faulty.{faulty_verdict, not_there}

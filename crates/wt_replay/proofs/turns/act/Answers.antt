@@ -5,8 +5,8 @@ use Rattle.wt_replay.proofs.Acted.{acted, made_of, swept}
 use Rattle.wt_replay.proofs.Passed.{on_ok}
 use Rattle.wt_replay.specs.Turns.{HasMade}
 use Rattle.wt_trace.specs.Keys.{keys_by}
-use Rattle.wt_trace.specs.declared.line.Act.TheVariants as act
-use Rattle.wt_trace.specs.declared.version.Version.{Version}
+use Rattle.wt_trace.specs.declared.trace.line.Act.TheVariants as act
+use Rattle.wt_trace.specs.declared.shard.version.Version.{Version}
 use Rattle.wt_replay.proofs.turns.act.Goals as goal
 
 pub returns-in-Ok-clause-step : goal.returns-in-Ok-clause-step

@@ -1,7 +1,7 @@
 use Rattle.std.proofs.Common.{rules, true, ◌≡◌, ◌+◌, ◌++◌, ◌∙◌, [], ◌∷◌, ℕ, List, length, ap, sym, subst, arith, inl, refl}
 use Rattle.wt_core.specs.State.{opening, stats_of}
 use Rattle.wt_trace.specs.Answers.{line_step, answers_from, belongs}
-use Rattle.wt_trace.specs.declared.line.Line.{Line}
+use Rattle.wt_trace.specs.declared.trace.line.Line.{Line}
 use Rattle.wt_trace.specs.Keys.{keys_by}
 use Rattle.wt_trace.specs.Options.{config_of}
 use Rattle.wt_trace.specs.Pieces.{pieces}

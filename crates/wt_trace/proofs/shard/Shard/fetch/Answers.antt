@@ -7,7 +7,7 @@ use Rattle.wt_core.specs.declared.calls.Call.TheVariants.{Seek}
 use Rattle.wt_trace.specs.Answers.{Shown, take}
 use Rattle.wt_trace.specs.Words.{words_of, notice_text}
 use Rattle.wt_trace.specs.Keys.{keys_by}
-use Rattle.wt_trace.specs.declared.version.Version.{Version}
+use Rattle.wt_trace.specs.declared.shard.version.Version.{Version}
 use Rattle.wt_trace.proofs.Gets.{fetched-otherwise}
 use Rattle.wt_trace.proofs.shard.Shard.fetch.Goals as goal
 

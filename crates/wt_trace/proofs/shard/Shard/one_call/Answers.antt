@@ -6,7 +6,7 @@ use Rattle.wt_core.specs.State.{Made}
 use Rattle.wt_trace.specs.Answers.{take}
 use Rattle.wt_trace.specs.Words.{words_of, notice_text}
 use Rattle.wt_trace.specs.Keys.{keys_by}
-use Rattle.wt_trace.specs.declared.version.Version.{Version}
+use Rattle.wt_trace.specs.declared.shard.version.Version.{Version}
 use Rattle.wt_trace.proofs.shard.Shard.one_call.Goals as goal
 
 pub returns : goal.returns
