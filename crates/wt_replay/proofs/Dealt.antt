@@ -3,7 +3,7 @@ use Rattle.std.proofs.Common.{◌≡◌, ℕ, ◌+◌, ◌-◌, ◌<◌, ◌≤�
 use Rattle.std.proofs.lemmas.Bool.Decides.{nat_tests}
 use Rattle.wt_cache.specs.Cached.{Cached}
 use Rattle.wt_replay.specs.Turns.{AreDone, AreTurns, HasActed, IsDone, IsTurn, is_turn, unmade}
-use Rattle.wt_replay.specs.declared.turns.RunFault.{RunFault}
+use Rattle.wt_replay.specs.declared.by_turn.turns.RunFault.{RunFault}
 use Rattle.wt_trace.specs.Stops.{AreAsked}
 use Rattle.wt_trace.specs.Keys.{Keys}
 use Rattle.wt_trace.specs.declared.trace.line.Line.{Line}

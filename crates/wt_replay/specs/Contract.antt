@@ -15,7 +15,7 @@ use Rattle.wt_trace.specs.declared.trace.line.Line.{Line}
 use Rattle.wt_trace.specs.declared.options.Options.{Options}
 use Rattle.wt_replay.specs.ByTurn.{AreLooked, IsTurnFault, faulty, layout_of}
 use Rattle.wt_replay.specs.Turns.{AreDone, IsRunStop}
-use Rattle.wt_replay.specs.declared.turns.RunFault.{RunFault}
+use Rattle.wt_replay.specs.declared.by_turn.turns.RunFault.{RunFault}
 
 -- blanks of which a cache of these options can be made
 pub record AreLedgersOf (l : Layout) (name : ℕ → ℕ) (b : Blanks) (o : Options) : Type 0 where

@@ -25,8 +25,8 @@ use Rattle.wt_trace.specs.declared.trace.line.Act.TheVariants as act
 use Rattle.wt_trace.specs.declared.trace.line.Line.{Line}
 use Rattle.wt_trace.specs.declared.options.Options.{Options}
 use Rattle.wt_trace.specs.declared.shard.version.Version.{Version}
-use Rattle.wt_replay.specs.declared.turns.RunFault.{RunFault}
-use Rattle.wt_replay.specs.declared.turns.RunFault.TheVariants as run
+use Rattle.wt_replay.specs.declared.by_turn.turns.RunFault.{RunFault}
+use Rattle.wt_replay.specs.declared.by_turn.turns.RunFault.TheVariants as run
 
 -- whether line n is thread t's: lines are dealt out in turn
 abbrev pub is_turn : ℕ → ℕ → ℕ → Bool

@@ -16,9 +16,13 @@ ghost use Rattle.wt_replay.specs.Contract.{AreLedgersOf, AreSumsOf, AreTraceSums
 ghost use Rattle.wt_trace.specs.Replayed.{is_config_fault};
 ghost use Rattle.wt_trace.specs.declared.fault.ReplayFault.TheVariants as fault;
 
-use crate::crew::{gather, stop_of, work_all};
-use crate::loader::TraceLoader;
-use crate::turns::{Deal, RunFault};
+mod crew;
+mod loader;
+mod turns;
+
+use crate::by_turn::crew::{gather, stop_of, work_all};
+use crate::by_turn::loader::TraceLoader;
+use crate::by_turn::turns::{Deal, RunFault};
 use std::alloc::Global;
 use std::marker::Brand;
 use std::sync::Wait;

@@ -4,12 +4,9 @@
 ghost use Rattle.std.specs.Prelude.{◌≡◌, IfOk, is_ok, if◌then◌else◌};
 
 mod by_turn;
-mod crew;
-mod loader;
 mod replay;
 #[cfg(test)]
 mod tests;
-mod turns;
 
 use clap::{Arg, ArgAction, ArgMatches, Command, value_parser};
 use replay::replay_by_turn;
