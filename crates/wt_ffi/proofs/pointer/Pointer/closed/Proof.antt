@@ -3,7 +3,7 @@ use Rattle.std.proofs.Common.{None}
 use denote.RattleType.{Valss}
 use denote.Struct.Struct.{within}
 use denote.Struct.Owning.{shape}
-use Rattle.wt_ffi.proofs.Steps.{◌≡◌, List, [], ◌∷◌, ◌++◌, refl, sym, subst, Val, SProp, ent, emp, id⊢, ftrue, fsep, WpFn, fact, fact_i, tables, ‵, raw, ◌⊛◌, ◌$◌, ◌∵◌, !, qed, by, move, keep, split, fsplit, fjoin, fpack, suffices, use0, use1, feq_i, feq_l, agg, no_more, and_then, returns, enter, alloc_all, pass_all, free_all, look_at, get, sets, RawPtr, yes, ptr_val, plain, nothing, handle_tells, Stays, stay_dropped, Goes-dropped, walk_of, proved_at, leaves}
+use Rattle.wt_ffi.proofs.Walks.{◌≡◌, List, [], ◌∷◌, ◌++◌, refl, sym, subst, Val, SProp, ent, emp, id⊢, ftrue, fsep, WpFn, fact, fact_i, tables, ‵, raw, ◌⊛◌, ◌$◌, ◌∵◌, !, qed, by, move, keep, split, fsplit, fjoin, fpack, suffices, use0, use1, feq_i, feq_l, agg, no_more, and_then, returns, enter, alloc_all, pass_all, free_all, look_at, get, sets, RawPtr, yes, ptr_val, plain, nothing, handle_tells, Stays, stay_dropped, Goes-dropped, walk_of, proved_at, leaves}
 use Rattle.wt_ffi.proofs.AsBox.{cache_box, beside, beside_typed, ptr_typed}
 use Rattle.std_heap.specs.contracts.Global as Heap
 use Rattle.std_heap.specs.contracts.GlobalAllocator.TheImpl.{ghosts}

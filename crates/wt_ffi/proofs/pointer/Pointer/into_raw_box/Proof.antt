@@ -1,6 +1,6 @@
 -- The two fields move back. The cache that is asked for says that the pointer owns its box.
 use Rattle.std.proofs.Common.{Option, Some, IsSome}
-use Rattle.wt_ffi.proofs.Steps.{◌≡◌, List, [], ◌∷◌, ◌++◌, refl, sym, subst, Val, SProp, ent, emp, id⊢, ftrue, fsep, WpFn, fact, fact_i, tables, ‵, raw, ◌⊛◌, ◌$◌, ◌∵◌, !, qed, by, move, keep, split, fsplit, fjoin, suffices, use0, use1, rewrite, agg, sub, whole, stop, fld, of_opd, no_more, and_then, returns, enter, alloc_all, pass_all, free_all, look_at, get, get_in, sets, yes, nothing, heard, Stays, stay_dropped, Goes-dropped, walk_of, proved_at, leaves, B, D, box_typed, word, box_in, box_out}
+use Rattle.wt_ffi.proofs.Walks.{◌≡◌, List, [], ◌∷◌, ◌++◌, refl, sym, subst, Val, SProp, ent, emp, id⊢, ftrue, fsep, WpFn, fact, fact_i, tables, ‵, raw, ◌⊛◌, ◌$◌, ◌∵◌, !, qed, by, move, keep, split, fsplit, fjoin, suffices, use0, use1, rewrite, agg, sub, whole, stop, fld, of_opd, no_more, and_then, returns, enter, alloc_all, pass_all, free_all, look_at, get, get_in, sets, yes, nothing, heard, Stays, stay_dropped, Goes-dropped, walk_of, proved_at, leaves, B, D, box_typed, word, box_in, box_out}
 use Rattle.wt_ffi.proofs.AsBox.{cache_box, Owned, found_in}
 use Rattle.wt_ffi.specs.contracts.raw_box.RawBox as parts
 use Rattle.wt_ffi.specs.contracts.opened.Opened as Opened

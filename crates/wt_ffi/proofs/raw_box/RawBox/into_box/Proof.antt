@@ -1,5 +1,5 @@
 -- Making the box again: it owns what the two fields owned.
-use Rattle.wt_ffi.proofs.Steps.{◌≡◌, List, [], ◌∷◌, ◌++◌, refl, sym, ap, subst, Args, a_type, dcons, dnil, Val, vptr, inst_fn, SProp, ent, id⊢, ftrue, flft, WpFn, ◌⊑◌, fact, tables, Item, ‵, raw, ◌⊛◌, some, later, at_ret, ◌$◌, ◌∵◌, !, qed, by, move, keep, drop, split, split3, join, fsplit, fjoin, pick, suffices, use1, await, rewrite, feq_i, sub, whole, stop, fld, of_opd, no_more, and_then, first, blocks, exec, returns, enter, alloc_all, pass_all, free_all, look_at, get, get_in, sets, lands_last, env, no, bounded, layout, owns, block_ptr, types_at, plain, nothing, only, calls_at_last, Lasts, lasts, triple_of, Stays, stay_dropped, walk_of, Goes-blank, after, fm, proved_at, leaves, Bx, B, D, Good, P, R, box_typed, word, box_in, box_out}
+use Rattle.wt_ffi.proofs.Walks.{◌≡◌, List, [], ◌∷◌, ◌++◌, refl, sym, ap, subst, Args, a_type, dcons, dnil, Val, vptr, inst_fn, SProp, ent, id⊢, ftrue, flft, WpFn, ◌⊑◌, fact, tables, Item, ‵, raw, ◌⊛◌, some, later, at_ret, ◌$◌, ◌∵◌, !, qed, by, move, keep, drop, split, split3, join, fsplit, fjoin, pick, suffices, use1, await, rewrite, feq_i, sub, whole, stop, fld, of_opd, no_more, and_then, first, blocks, exec, returns, enter, alloc_all, pass_all, free_all, look_at, get, get_in, sets, lands_last, env, no, bounded, layout, owns, block_ptr, types_at, plain, nothing, only, calls_at_last, Lasts, lasts, triple_of, Stays, stay_dropped, walk_of, Goes-blank, after, fm, proved_at, leaves, Bx, B, D, Good, P, R, box_typed, word, box_in, box_out}
 use Rattle.std_alloc.specs.contracts.boxed.Box.from_raw as closing
 use Rattle.std_alloc.proofs.boxed.Box.from_raw.Met.{met}
 use Rattle.wt_ffi.specs.contracts.raw_box.RawBox as parts

@@ -1,5 +1,5 @@
 -- Taking a box apart: the two fields hold its pointer and its handle, and own what the box owned.
-use Rattle.wt_ffi.proofs.Steps.{◌≡◌, List, [], ◌∷◌, ◌++◌, refl, sym, ap, ◌∙◌, subst, Args, a_type, dcons, dnil, bare, Val, vstruct, of_list, inst_fn, SProp, ent, emp, never, id⊢, fst∗, ftrue, fsep, flft, WpFn, fact, fact_i, tables, sem, Item, ‵, raw, ◌⊛◌, some, later, ◌$◌, ◌∵◌, !, qed, by, move, keep, drop, split, split3, join, fsplit, fjoin, fpick, pick, suffices, use0, use1, await, rewrite, feq_l, agg, sub, whole, stop, fld, of_opd, no_more, and_then, returns, enter, alloc_all, pass_all, free_all, look_at, get, get_in, sets, lands_as, RawPtr, no, bounded, layout, RattleType, owns, Ptr, block_ptr, null_ptr, ptr_val, in_a_block, types_at, plain, nothing, only, heard, Tuple, calls_at, triple_of, Stays, stay_dropped, walk_of, Goes-blank, handle_tells, fm, proved_at, leaves, box_owns, Bx, B, P, R, box_typed, word, box_in, box_out}
+use Rattle.wt_ffi.proofs.Walks.{◌≡◌, List, [], ◌∷◌, ◌++◌, refl, sym, ap, ◌∙◌, subst, Args, a_type, dcons, dnil, bare, Val, vstruct, of_list, inst_fn, SProp, ent, emp, never, id⊢, fst∗, ftrue, fsep, flft, WpFn, fact, fact_i, tables, sem, Item, ‵, raw, ◌⊛◌, some, later, ◌$◌, ◌∵◌, !, qed, by, move, keep, drop, split, split3, join, fsplit, fjoin, fpick, pick, suffices, use0, use1, await, rewrite, feq_l, agg, sub, whole, stop, fld, of_opd, no_more, and_then, returns, enter, alloc_all, pass_all, free_all, look_at, get, get_in, sets, lands_as, RawPtr, no, bounded, layout, RattleType, owns, Ptr, block_ptr, null_ptr, ptr_val, in_a_block, types_at, plain, nothing, only, heard, Tuple, calls_at, triple_of, Stays, stay_dropped, walk_of, Goes-blank, handle_tells, fm, proved_at, leaves, box_owns, Bx, B, P, R, box_typed, word, box_in, box_out}
 use Rattle.std_alloc.specs.contracts.boxed.Box.into_raw_with_allocator as opening
 use Rattle.std_alloc.proofs.boxed.Box.into_raw_with_allocator.Met.{met}
 use Rattle.wt_ffi.specs.contracts.raw_box.RawBox as parts
