@@ -32,7 +32,7 @@ pub struct Source {
     pub marks: Arc<Marks, Global>,
 }
 
-/// Waits until the mark has risen to so many, at most 10,000,000 turns.
+/// Waits until the mark has risen to `many`, at most 10,000,000 turns.
 pub fn wait_for(mark: &AtomicU64, many: u64) {
     for _ in 0..10_000_000u64 {
         if mark.load(Ordering::SeqCst) >= many {

@@ -7,7 +7,7 @@ use std::sync::atomic::Ordering;
 use wt_keys::Fault;
 use wt_shards::Names;
 
-/// Puts page 8, of 800 words, once so many loads have begun.
+/// Puts page 8, of 800 words, once `loads` loads have begun.
 pub fn put_later<N: Names, R: Wait>(
     rt: &R,
     pages: &Pages<N>,

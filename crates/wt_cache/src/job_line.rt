@@ -61,7 +61,7 @@ pub struct JobLine<K, V> {
 }
 
 impl<K: Copy + Drop, V: Drop> JobLine<K, V> {
-    /// Makes an open, empty line with places for so many loads, 1 to 4,096.
+    /// Makes an open, empty line with places for `capacity` loads, 1 to 4,096.
     ///
     /// `BadConfig` of the line before memory is asked for. All its memory is taken here.
     /// O(capacity).

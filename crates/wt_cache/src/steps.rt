@@ -1,6 +1,6 @@
-// The calls of the cache by the step that each makes, a file for each: the cache's own, and that of
-// a caller, which is the same with the caller's pass and list. A get is a seek, and may land what it
-// loads.
+// The calls of the cache by the step that each makes, a file for each step: the cache's call, and a
+// caller's, which fills in its pass and list. A get is a seek. A landing has no caller's call: a
+// get makes it.
 mod clean;
 mod clear;
 mod drop_key;

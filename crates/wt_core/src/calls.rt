@@ -46,11 +46,11 @@ pub enum Reply<V> {
     Join(u64),
     /// The key wasn't found, and a flight of this id was opened to load it.
     Lead(u64),
-    /// The flight landed and its value was stored; so many shared it.
+    /// The flight landed and its value was stored. The number is that of its sharers.
     Kept(u64),
-    /// The flight landed and nothing was stored; so many shared it.
+    /// The flight landed and nothing was stored. The number is that of its sharers.
     Loose(u64),
-    /// The flight landed with an error; so many shared it.
+    /// The flight landed with an error. The number is that of its sharers.
     Failed(u64),
     /// There was no such flight.
     Gone,

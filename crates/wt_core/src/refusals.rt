@@ -82,7 +82,7 @@ impl<K: CacheKey, V: Share + Weighs> Core<K, V> {
     }
 
     /// Returns how many loads are open after the call's step, or the fault by which the state
-    /// refuses the call. A call that isn't refused so can still be refused memory.
+    /// refuses the call. The call may still fail with `NoMemory`.
     ///
     /// The faults come in the order in which the call has them. Takes no memory. Expected O(1),
     /// unless an attacker chooses the keys (see `Seeded`).

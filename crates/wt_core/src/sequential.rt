@@ -4,8 +4,7 @@
 //         ──► sketch     how often each key was counted, for the duel
 //         ──► flights    the loads that are open
 //
-// Each of the eight steps is a function of the whole state. What can be refused comes first, and
-// the count of the key last, so that a refused step leaves all as it was.
+// Each of the eight steps (`steps/`) is a function of the whole state.
 ghost use Rattle.std.specs.Prelude.{◌≡◌, ◌≤◌, ◌==◌, IfOk, length};
 ghost use Rattle.std.specs.Map.{keys_of};
 ghost use Rattle.std.specs.Option.{option_map};

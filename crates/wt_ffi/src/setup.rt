@@ -26,11 +26,11 @@ pub struct Setup {
     pub flights: u32,
     /// How much the entries may weigh together: 1 to 2^48.
     pub bound: u64,
-    /// An entry expires so many milliseconds after it was written; 0: never.
+    /// How long after it was written an entry expires, in milliseconds; 0: never.
     pub after_write: u64,
-    /// An entry expires so many milliseconds after it was used; 0: never.
+    /// How long after it was used an entry expires, in milliseconds; 0: never.
     pub after_access: u64,
-    /// An entry is due for a further load so many milliseconds after it was written; 0: never.
+    /// How long after it was written an entry is due for a further load, in milliseconds; 0: never.
     pub refresh: u64,
 }
 

@@ -1,4 +1,4 @@
-// Going through all entries, each call one step of the definition, whichever keys the cache has.
+// The one step that a clear or a clean of C makes, whichever keys the cache has.
 ghost use Rattle.std.specs.Prelude.{◌≡◌, ◌<◌, IsSome};
 ghost use Rattle.wt_ffi.specs.Sweeps.{sweep_call, after, number_after, answer_after, IsRefused};
 ghost use Rattle.wt_ffi.specs.Handle.{cache_of, Has, IfOpen, IsIdleIfClosed};

@@ -22,7 +22,7 @@ impl<T: Drop> From<AllocFailed<T>> for NoMemory {
     }
 }
 
-/// One setting of a cache or of the program, where it can be out of its range.
+/// A setting of a cache or of the program, which may be out of its range.
 #[derive(Clone, Copy, Debug, PartialEq, Eq)]
 pub enum Field {
     /// The number of shards.

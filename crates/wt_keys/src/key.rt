@@ -7,10 +7,10 @@ use std::hash::Hash;
 ///
 /// The word is a function of the key, of 64 bits. The places of a key in the hash rows and its
 /// shard are made from it, so that keys with one word are counted together, and lie in one shard.
-/// Keys that compare equal must be equal, since an entry is found by an equal key and told of by
-/// its own.
+/// Keys that compare equal must be equal, since a look-up finds an entry by an equal key, and a
+/// notice returns the entry's own.
 ///
-/// Words and hashes of plain keys can be foreseen by everybody: let keys that strangers pick be
+/// Everybody can foresee the words and hashes of plain keys: make keys from outside
 /// [`Seeded`](crate::Seeded).
 pub trait CacheKey: Copy + Eq + Hash + Send + Sync {
     ghost word: { Self → ℕ };

@@ -101,7 +101,7 @@ impl Hash for Name {
 
 /// The word of a name is the FNV-1a hash of its bytes, in 64 bits.
 ///
-/// It is computed at each call, a multiplication a byte: keep it where it is used more than once.
+/// Each call computes it anew, a multiplication a byte: keep it if you use it more than once.
 impl CacheKey for Name {
     ghost use Rattle.std.specs.Cmp.Lexicographic.{same_text};
     ghost use Rattle.std.proofs.Common.{sym};
@@ -119,8 +119,8 @@ impl CacheKey for Name {
     ghost same = { λ a b e. same_text a b (sym e) };
 }
 
-/// Writes the name's text, padded to a width as a `str` is. Where the bytes aren't UTF-8, U+FFFD
-/// stands for each invalid sequence, and a width doesn't count.
+/// Writes the name's text, padded to a width as a `str` is. If the bytes aren't UTF-8, writes
+/// U+FFFD for each invalid sequence, and ignores the width.
 impl fmt::Display for Name {
     ghost output = { λ n. Some (utf8_lossy n) };
 

@@ -62,7 +62,7 @@ pub fn bits_for(entries: u32) -> u32
     bits
 }
 
-/// Returns the shard of a word, from 0, where there are 1, 2 or 4.
+/// Returns the shard of a word, from 0, among `shards`, which is 1, 2 or 4.
 ///
 /// Takes no memory. O(1). The scheme is multiply-shift; the factor is ours.
 pub fn shard_of(word: u64, shards: usize) -> usize

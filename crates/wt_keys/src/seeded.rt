@@ -23,10 +23,10 @@ pub struct Seed {
 }
 
 impl Seed {
-    /// Takes 16 bytes from the source: from the runtime those of the operating system.
+    /// Makes a seed of 16 bytes of `source`: the runtime's are those of the operating system.
     ///
-    /// The error is the source's, and there is no seed then. Takes no memory. What a source gives
-    /// isn't promised: `FixedBytes`, for tests, gives what everybody can read.
+    /// The error is the source's. Takes no memory. Not promised: that the bytes are secret. Those
+    /// of `FixedBytes`, for tests, are known to everybody.
     pub fn new(source: &impl RandomSource) -> io::Result<Seed> {
         Ok(Seed {
             state: RandomState::new(source)?,
@@ -132,7 +132,7 @@ impl<K: fmt::Debug> fmt::Debug for Seeded<K> {
 #[derive(Clone, Copy)]
 pub struct FixedBytes(pub [u8; 16]);
 
-/// Gives its bytes from the first on, in each call, and leaves what is past the last of them.
+/// Fills the buffer from the first byte on, and leaves what is behind the sixteenth as it is.
 impl RandomSource for FixedBytes {
     fn fill_bytes(&self, buf: &mut [u8]) -> io::Result<()> {
         for (place, byte) in buf.iter_mut().zip(self.0) {

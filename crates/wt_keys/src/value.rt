@@ -28,7 +28,7 @@ pub trait Share: Sized + Drop {
     }
 }
 
-/// A value that knows which keys it may stand for: those for which a loader may answer it.
+/// A value that knows which keys it may stand for: those for which a loader may return it.
 pub trait Answers<K> {
     ghost answers: { Self → K → Bool };
 

@@ -17,11 +17,11 @@ pub struct Caps {
     pub window: u32,
     /// How much all entries may weigh together: 1 to 2^48.
     pub bound: u64,
-    /// An entry expires so long after it was written.
+    /// How long after it was written an entry expires, in milliseconds.
     pub after_write: Option<u64>,
-    /// An entry expires so long after it was used.
+    /// How long after it was used an entry expires, in milliseconds.
     pub after_access: Option<u64>,
-    /// An entry is due for a further load so long after it was written.
+    /// How long after it was written an entry is due for a further load, in milliseconds.
     pub refresh: Option<u64>,
 }
 

@@ -43,10 +43,10 @@ pub struct Notice<K, V> {
     pub cause: Cause,
 }
 
-/// The notices of what left, in the order of leaving, with room for more that is made beforehand.
+/// The entries that left, in order, with room for more that was made beforehand.
 ///
-/// A call that tells notices asks for room for as many entries as the regions may hold, and never
-/// tells more: so telling takes no memory. Contracts see the list and the room that is left.
+/// A call that appends notices requires room for as many as the regions may hold entries, and never
+/// appends more: so it takes no memory for them. Contracts see the list and the room that is left.
 #[derive(Drop)]
 pub struct Notices<K, V> {
     items: Vec<Notice<K, V>>,
@@ -66,9 +66,9 @@ impl<K, V> Model for Notices<K, V> {
 }
 
 impl<K, V> Notices<K, V> {
-    /// Makes an empty list with room for so many notices.
+    /// Makes an empty list with room for `room` notices.
     ///
-    /// `NoMemory` where that room can't be made. O(1) beside the allocation.
+    /// `NoMemory` if that room can't be made. O(1) beside the allocation.
     pub fn new(alloc: Global, room: usize) -> Result<Self, NoMemory>
         ensures { IfOk result (λ notices. notices ≡ no_notices room) }
     {
@@ -76,7 +76,7 @@ impl<K, V> Notices<K, V> {
         Ok(Notices { items, most: room })
     }
 
-    /// Returns whether there is room for so many more. Takes no memory. O(1).
+    /// Returns whether there is room for `more` more. Takes no memory. O(1).
     pub fn has_room(&self, more: usize) -> bool
         ensures { result ≡ nat_le more self.now.room }
     {

@@ -22,10 +22,10 @@ use wt_sketch::Sketch;
 
 /// The entries of a cache in three regions: window, probation and protected.
 ///
-/// The structure is W-TinyLFU's: a new entry comes to window, under LRU and without admission; what
-/// window gives up enters probation only against its last entry, by how often each was counted; an
-/// entry that is used in probation comes to protected. Which entry stays is this type's to say, and
-/// it never counts: the caller hands its sketch in.
+/// The structure is W-TinyLFU's. A new entry comes to window, under LRU and without admission. Once
+/// main is full, what window gives up enters probation only against its last entry, by how often
+/// each was counted. An entry that is used in probation comes to protected. This type decides which
+/// entry stays, and never counts a use: the caller passes its sketch in.
 ///
 /// Contracts see three lists, the most recent entry first, and the limits. Moments are the
 /// caller's, in milliseconds; no call keeps one but in the entry that it writes or uses.
@@ -69,10 +69,10 @@ impl<K: CacheKey, V: Share + Weighs> Regions<K, V> {
     /// Looks the key up at the moment `now`. A hit is used: it goes to the front of its region, or
     /// from probation to protected.
     ///
-    /// An expired entry is answered as `Expired` and stays where it is. `now` is in milliseconds.
+    /// Returns `Expired` for an expired entry, which stays where it is. `now` is in milliseconds.
     /// Only a hit takes memory: a share for the caller, and from probation one or two more with a
-    /// place for each. Expected O(1) for keys that nobody picks (see `Seeded`): the key is looked up
-    /// in each region at most twice. The rule of the move is segmented LRU's.
+    /// place for each. Expected O(1), unless an attacker chooses the keys (see `Seeded`): the key
+    /// is looked up in each region at most twice. The rule of the move is segmented LRU's.
     pub fn get(&mut self, key: K, now: u64) -> Result<Found<V>, NoMemory>
         ensures found { IfOk result (λ found. found ≡ found_at K.eq key now self.old) }
         ensures state { OnOk result (self.new ≡ looked_at K.eq key now self.old) }
@@ -91,9 +91,9 @@ impl<K: CacheKey, V: Share + Weighs> Regions<K, V> {
     /// this order.
     ///
     /// `now` is in milliseconds, weights are the caller's. `TooHeavy` comes before memory is asked
-    /// for; `NoMemory` where a place or a share of a value that moves was refused. Expected O(1)
-    /// for keys that nobody picks (see `Seeded`), O(entries) where a trim takes many out. The duel
-    /// is TinyLFU's; that a tie refuses the candidate is ours.
+    /// for; `NoMemory` if a place or a share of a value that moves was refused. Expected O(1),
+    /// unless an attacker chooses the keys (see `Seeded`); O(entries) if a trim takes many out. The
+    /// duel is TinyLFU's; that a tie refuses the candidate is ours.
     pub fn store(
         &mut self,
         key: K,
@@ -140,7 +140,7 @@ impl<K: CacheKey, V: Share + Weighs> Regions<K, V> {
     /// Takes the key's entry out, and answers whether an unexpired one left.
     ///
     /// It leaves as `Explicit`, an expired one as `Expired`. `now` is in milliseconds. Takes no
-    /// memory. Expected O(1) for keys that nobody picks (see `Seeded`).
+    /// memory. Expected O(1), unless an attacker chooses the keys (see `Seeded`).
     pub fn remove(&mut self, key: K, now: u64, notices: &mut Notices<K, V>) -> bool
         requires room { self.old.caps.entries ≤ notices.old.room }
         ensures answer { result ≡ has_at K.eq key now self.old }

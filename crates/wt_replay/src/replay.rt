@@ -14,13 +14,13 @@ use wt_trace::{
     Gate, MOST_BYTES, Options, ReplayFault, Tallied, read_up_to, summary_text, write_out,
 };
 
-/// Replays the trace turn by turn with so many threads on one shared cache, each with a pass of its
-/// own: line n is done by thread (n - 1) modulo `threads`. Writes one line, the summary, whose hits
-/// and misses are the look-ups.
+/// Replays the trace turn by turn on `threads` threads with one shared cache, each with a pass of
+/// its own: line n is done by thread (n - 1) modulo `threads`. Writes one line, the summary, whose
+/// hits and misses are the look-ups.
 ///
 /// A `G` is a load where the key isn't there, an `L` a look-up, a `P` a store, a `D` a removal, an
 /// `F` a forget, a `C` a clean, an `X` a clear. Loads that fail, values too heavy and loads without
-/// a place are passed over. With `options.workers` above 0 so many threads run the loads, which
+/// a place are passed over. With `options.workers` above 0, that many threads run the loads, which
 /// wait in a line of 64. Faults in their order: an option out of its range (nothing was read or
 /// written); `ReadFault`, exactly where the reader failed, and no memory; the fault of the first
 /// faulty line, where a line of letter S or E is a bad one; `GateShut` of a line before which the

@@ -6,9 +6,9 @@
 //     landings   where the outcome of each open load will stand, in the order of opening
 //     books      how many steps were made and how many of them hit, as sums of what callers hold
 //
-// A step decides whether it is refused, then moves the fewest oldest records over to the lagging
-// copy, then makes the cache's step and records it. So what may be refused for memory comes before
-// the cache changes.
+// A step (`shard/stepping.rt`) decides whether it is refused, then moves the fewest oldest records
+// over to the lagging copy, then makes the cache's step and records it. So what may be refused for
+// memory comes before the cache changes.
 ghost use Rattle.std.specs.Prelude.{◌≡◌, ℕ, ◌+◌, ◌-◌, ◌<◌, ◌≤◌, ◌^◌, ◌==◌, None, Some, IsTrue, IsSome, IsOk, IfOk, IfErr, OnOk, OnErr, IsOkUnless, MatchOption, Ok, Err, length, take, drop, [], ◌∷◌, ◌++◌, false, true, is_some, if◌then◌else◌};
 ghost use Rattle.wt_keys.specs.declared.fault.Fault.TheVariants as fault;
 ghost use Rattle.wt_flights.specs.Rows.{row_of};
@@ -100,7 +100,7 @@ impl<K: CacheKey, V: Share + Weighs + Answers<K>, S: ShardLedger, H: Ledger> Sha
     ghost use Rattle.wt_shards.specs.Audited.{IsAudited, IsShardState, IsHome, IsCaughtUp, new_shard, moved, excess, shard_step};
     ghost use Rattle.wt_shards.specs.Sought.{reply_of, opened_by, IsOfLandings};
 
-    /// Makes an empty shard, of this number among so many.
+    /// Makes an empty shard, number `index` of `shards`.
     ///
     /// `BadConfig` as `Config::check` answers it, before memory is asked for. Takes memory for the
     /// cache and its copy, the ring, the landings and the copy's notices. O(entries + ring).

@@ -22,9 +22,9 @@ impl<
     /// Takes every expired entry out, shard after shard. Without it an expired entry leaves when
     /// its key is next asked for, or to make room.
     ///
-    /// `now` is in milliseconds. Where a shard refuses, those before it were swept. Takes no memory
-    /// of its own, and each shard's lock for one step, so another thread may move between two of
-    /// them. O(entries).
+    /// `now` is in milliseconds. If a shard refuses, those before it are done. Takes no memory of
+    /// its own, and each shard's lock in turn for one step; another thread may change a shard in
+    /// between. O(entries).
     pub fn clean_up<R: Wait>(
         &self,
         rt: &R,

@@ -19,11 +19,11 @@ impl<
     L: Loader<K, V> + Drop,
     B: Books,
 > LoadingCache<K, V, L, B> {
-    /// Takes every entry out, shard after shard. No open load is joined any more, and none stored.
+    /// Takes every entry out, shard after shard. Open loads are no longer joined, nor stored.
     ///
-    /// `now` is in milliseconds. Where a shard refuses, those before it were swept. Takes no memory
-    /// of its own, and each shard's lock for one step, so another thread may move between two of
-    /// them. O(entries).
+    /// `now` is in milliseconds. If a shard refuses, those before it are done. Takes no memory of
+    /// its own, and each shard's lock in turn for one step; another thread may change a shard in
+    /// between. O(entries).
     pub fn invalidate_all<R: Wait>(
         &self,
         rt: &R,

@@ -23,7 +23,7 @@ impl<
     /// is no longer joined, and its value not stored.
     ///
     /// `now` is in milliseconds. Takes no memory of its own, and the lock of the key's shard for
-    /// one step. Expected O(1) for keys that nobody picks (see `Seeded`).
+    /// one step. Expected O(1), unless an attacker chooses the keys (see `Seeded`).
     pub fn invalidate<R: Wait>(
         &self,
         rt: &R,

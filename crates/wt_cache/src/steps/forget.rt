@@ -19,11 +19,11 @@ impl<
     L: Loader<K, V> + Drop,
     B: Books,
 > LoadingCache<K, V, L, B> {
-    /// Makes the key's open load one that nobody joins any more and whose value is not stored, and
-    /// returns whether there was one. The key's entry stays, unless it has expired: then it leaves.
+    /// Lets no further caller join the key's open load, keeps its value out, and returns whether
+    /// there was one. The key's entry stays, unless it has expired: then it leaves.
     ///
     /// `now` is in milliseconds. Takes no memory of its own, and the lock of the key's shard for
-    /// one step. Expected O(1) for keys that nobody picks (see `Seeded`).
+    /// one step. Expected O(1), unless an attacker chooses the keys (see `Seeded`).
     pub fn forget<R: Wait>(
         &self,
         rt: &R,
@@ -49,7 +49,7 @@ impl<
     B: Books,
     R: Wait,
 > Caller<'c, K, V, L, B, R> {
-    /// Makes the key's open load one whose value is not stored, and returns whether there was one:
+    /// Lets no further caller join the key's open load, and returns whether there was one:
     /// `LoadingCache::forget`, which has the rest of what this call does.
     ///
     /// `now` is in milliseconds. First the list of what left is emptied.

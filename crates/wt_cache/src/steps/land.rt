@@ -1,11 +1,11 @@
-// How a load is run.
+// How a load is run, and how its outcome is waited for.
 //
 //   lead ─► load ─► land at the lead's moment ─► publish ─► ring
 //
 // One function does it, for a caller without a line, a poster that came too late and a worker. A
 // load is landed before it is published, and both for each lead once: landing borrows the lead,
-// publishing takes it away. So who is told a value finds it in the cache, unless it has left
-// meanwhile.
+// publishing takes it away. So a caller that gets a value that was stored finds it in the cache,
+// unless it has left since.
 ghost use Rattle.std.specs.Prelude.{◌≡◌, ◌≤◌, true, IsTrue, IfOk, IfErr};
 ghost use Rattle.wt_flights.specs.Outcomes.{outcome_answers};
 ghost use Rattle.wt_shards.specs.Asked.{LandAnswers};
@@ -147,12 +147,12 @@ impl<
         }
     }
 
-    /// Gives up a load: whoever waits for it is told `Abandoned`, and no entry changes but the
-    /// key's own expired one, which leaves.
+    /// Gives up a load: the callers that wait for it get `Abandoned`, and no entry changes, but
+    /// that the key's own leaves if it has expired.
     ///
-    /// For a lead that a seek of the shards gave. Where the landing is refused the outcome is
-    /// published and rung all the same; `NoMemory` and `StepsSpent` come only where the load isn't
-    /// open any more. Takes the lock of the key's shard, then that of the load's bell.
+    /// The lead is one that a seek of the shards returned. If the landing is refused, the outcome
+    /// is published and rung all the same; `NoMemory` and `StepsSpent` come only if the load is no
+    /// longer open. Takes the lock of the key's shard, then that of the load's bell.
     pub fn abandon<R: Wait>(
         &self,
         rt: &R,

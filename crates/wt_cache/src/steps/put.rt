@@ -21,7 +21,7 @@ impl<
     ///
     /// `now` is in milliseconds. `TooHeavy` comes before `StepsSpent`, and both before memory is
     /// asked for; a refused value is dropped. Takes the lock of the key's shard for one step.
-    /// Expected O(1) for keys that nobody picks (see `Seeded`), O(entries) where many leave.
+    /// Expected O(1), unless an attacker chooses the keys (see `Seeded`); O(entries) if many leave.
     pub fn put<R: Wait>(
         &self,
         rt: &R,

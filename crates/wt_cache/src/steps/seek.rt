@@ -39,21 +39,21 @@ impl<
     L: Loader<K, V> + Drop,
     B: Books,
 > LoadingCache<K, V, L, B> {
-    /// Returns the value of the key: the one that is there, or the one that is loaded for all who
-    /// ask meanwhile.
+    /// Returns the value of the key: the one that is there, or the one that is loaded, once for all
+    /// callers that ask meanwhile.
     ///
     /// A caller whose seek opened the load runs it, or posts it to the line and waits; one whose
-    /// seek joined it waits. An entry that is due is answered as it is, and loaded anew (Guava's
-    /// refresh after write). A value that is loaded is stored as of the moment of the seek, and
-    /// only if its key was not put, removed or forgotten since then.
+    /// seek joined it waits. An entry that is due is returned as it is, and loaded anew (Guava's
+    /// refresh after write). A loaded value is stored as of the moment of the seek, and only if its
+    /// key was not put, removed or forgotten since then.
     ///
-    /// `now` is in milliseconds; one before the latest moment counts as the latest. First the
-    /// faults of the seek, `StepsSpent`, `TooManyFlights`, `NoMemory`; then that of a landing of
-    /// this caller; then those of the outcome: `NoMemory` where the caller's own share of it is
-    /// refused, `LoadFailed`, `Abandoned`. After them the seek stands. A failed refresh is not
-    /// told. A hit takes memory for a share, a load for its row and its landing. Takes the lock of
-    /// the key's shard for each step, and none while it loads or waits. Not promised: that the
-    /// loader, and so the call, returns; that it is woken.
+    /// `now` is in milliseconds; one before the latest moment counts as the latest. Faults come in
+    /// this order: those of the seek (`StepsSpent`, `TooManyFlights`, `NoMemory`); that of this
+    /// caller's landing; those of the outcome (`LoadFailed`, `Abandoned`, `Mixed`, and `NoMemory`
+    /// if this caller's share is refused). After the last two the seek stands. A failed refresh
+    /// isn't reported. A hit takes memory for a share, a load for its row and its landing. Takes
+    /// the lock of the key's shard for each step, and none while it loads or waits. Not promised:
+    /// that the loader, and so the call, returns; that it is woken.
     #[tactic(auto, using(crate::proofs::Faults::of_seek, crate::proofs::Faults::of_land, crate::proofs::Faults::late_land, crate::proofs::Faults::of_late))]
     pub fn get<R: Wait>(
         &self,

@@ -11,7 +11,7 @@ use wt_regions::{Notices, Weighs};
 impl<K: CacheKey, V: Share + Weighs> Core<K, V> {
     ghost use Rattle.wt_core.specs.Contract.{Steps, Tells, RefusesOnly, KeepsWhole};
 
-    /// Takes every entry out. No load that is open now is joined any longer, nor its value stored.
+    /// Takes every entry out. Loads open now are no longer joined, nor are their values stored.
     ///
     /// The entries leave as `Explicit`, the expired ones as `Expired`: window, probation,
     /// protected, each from last to first. `now` is in milliseconds. `StepsSpent` is the only

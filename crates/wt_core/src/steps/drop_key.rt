@@ -12,12 +12,12 @@ use wt_regions::{Notices, Weighs};
 impl<K: CacheKey, V: Share + Weighs> Core<K, V> {
     ghost use Rattle.wt_core.specs.Contract.{Steps, RepliesBy, Tells, RefusesOnly, KeepsWhole};
 
-    /// Takes the key's entry out, and answers whether an unexpired one left. Its current load is no
-    /// longer joined, and its value not stored.
+    /// Takes the key's entry out, and returns whether an unexpired one left. From then on no caller
+    /// joins the key's current load, and its value isn't stored.
     ///
     /// The entry leaves as `Explicit`, an expired one as `Expired`. `now` is in milliseconds.
-    /// `StepsSpent` is the only refusal. Takes no memory. Expected O(1) for keys that nobody picks
-    /// (see `Seeded`).
+    /// `StepsSpent` is the only refusal. Takes no memory. Expected O(1), unless an attacker chooses
+    /// the keys (see `Seeded`).
     ///
     /// In use: `uses::plain::drop_key`.
     pub fn drop_key(&mut self, key: K, now: u64, notices: &mut Notices<K, V>) -> Result<bool, Fault>

@@ -11,11 +11,12 @@ use wt_regions::{Notices, Weighs};
 impl<K: CacheKey, V: Share + Weighs> Core<K, V> {
     ghost use Rattle.wt_core.specs.Contract.{Steps, RepliesBy, Tells, RefusesOnly, KeepsWhole};
 
-    /// Lets no further caller join the key's current load, nor its value be stored, and answers
-    /// whether there was one. The load stays open until it lands (`Forget` of Go's singleflight).
+    /// Lets no further caller join the key's current load, keeps its value out, and returns whether
+    /// there was one. The load stays open until it lands (`Forget` of Go's singleflight).
     ///
     /// The key's own expired entry leaves; another stays. `now` is in milliseconds. `StepsSpent` is
-    /// the only refusal. Takes no memory. Expected O(1) for keys that nobody picks (see `Seeded`).
+    /// the only refusal. Takes no memory. Expected O(1), unless an attacker chooses the keys (see
+    /// `Seeded`).
     ///
     /// In use: `uses::plain::forget`.
     pub fn forget(&mut self, key: K, now: u64, notices: &mut Notices<K, V>) -> Result<bool, Fault>

@@ -12,12 +12,12 @@ use wt_regions::{Found, Notices, Weighs};
 impl<K: CacheKey, V: Share + Weighs> Core<K, V> {
     ghost use Rattle.wt_core.specs.Contract.{Steps, Replies, Tells, Refuses, KeepsWhole, SucceedsAbsent};
 
-    /// Looks the key up at the moment `now`, in milliseconds, and answers `Hit` with a share of its
-    /// value, or `Absent`. A hit is used: it goes where segmented LRU puts it.
+    /// Looks the key up at the moment `now`, in milliseconds, and returns `Hit` with a share of its
+    /// value, or `Absent`. A hit is a use: the entry moves as in segmented LRU.
     ///
     /// The key's own expired entry leaves first. The key is counted last. `StepsSpent` comes before
     /// memory is asked for. Only a hit takes memory: shares, and from probation a place or two.
-    /// Expected O(1) for keys that nobody picks (see `Seeded`).
+    /// Expected O(1), unless an attacker chooses the keys (see `Seeded`).
     ///
     /// In use: `uses::plain::look`.
     pub fn look(&mut self, key: K, now: u64, notices: &mut Notices<K, V>) -> Result<Reply<V>, Fault>

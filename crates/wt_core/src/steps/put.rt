@@ -14,10 +14,10 @@ impl<K: CacheKey, V: Share + Weighs> Core<K, V> {
     /// Stores the value under the key, in place of one that is there. The key's current load is no
     /// longer joined, and its value not stored.
     ///
-    /// `now` is in milliseconds. The old value leaves as `Replaced`, an expired one as `Expired`;
-    /// what finds no place or makes the weights too great leaves as `Size`. The key is counted
-    /// last. `TooHeavy` comes before `StepsSpent`, and both before memory is asked for; the refused
-    /// value is dropped. Expected O(1) for keys that nobody picks (see `Seeded`), O(entries) where
+    /// `now` is in milliseconds. The old value leaves as `Replaced`, or as `Expired` if it is; an
+    /// entry that finds no place, or exceeds the bound, leaves as `Size`. The key is counted last.
+    /// `TooHeavy` comes before `StepsSpent`, and both before memory is asked for; the refused value
+    /// is dropped. Expected O(1), unless an attacker chooses the keys (see `Seeded`); O(entries) if
     /// many leave.
     ///
     /// In use: `uses::plain::put`.

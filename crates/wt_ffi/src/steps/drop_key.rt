@@ -10,10 +10,10 @@ use crate::text::{Text, name_of};
 use std::alloc::Global;
 use wt_core::Call;
 
-/// Takes the key's entry out: `RD_DROPPED`, with 1 where an unexpired entry left, else 0.
+/// Takes the key's entry out: `RD_DROPPED`, with 1 if an unexpired entry left, else 0.
 ///
-/// The key's current load stores nothing. Takes no memory. Expected O(1) for keys that nobody
-/// picks.
+/// The key's current load stores nothing. Takes no memory. Expected O(1), unless an attacker
+/// chooses the keys.
 #[unsafe(no_mangle)]
 pub extern "C" fn rd_drop_key(
     alloc: Global,
@@ -27,9 +27,10 @@ pub extern "C" fn rd_drop_key(
     make(alloc, handle, Call::DropKey(key, now), answer)
 }
 
-/// Takes the name's entry out: `RD_DROPPED`, with 1 where an unexpired entry left, else 0.
+/// Takes the name's entry out: `RD_DROPPED`, with 1 if an unexpired entry left, else 0.
 ///
-/// The name's current load stores nothing. Takes no memory. Expected O(1).
+/// The name's current load stores nothing. Takes no memory. Expected O(1), unless an attacker
+/// chooses the names.
 #[unsafe(no_mangle)]
 pub extern "C" fn rd_drop_name(
     alloc: Global,

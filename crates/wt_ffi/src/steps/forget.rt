@@ -10,10 +10,10 @@ use crate::text::{Text, name_of};
 use std::alloc::Global;
 use wt_core::Call;
 
-/// Lets no further caller join the key's current load: `RD_FORGOT`, with 1 where there was one,
-/// else 0.
+/// Lets no further caller join the key's current load: `RD_FORGOT`, with 1 if there was one, else
+/// 0.
 ///
-/// That load stores nothing. Takes no memory. Expected O(1) for keys that nobody picks.
+/// That load stores nothing. Takes no memory. Expected O(1), unless an attacker chooses the keys.
 #[unsafe(no_mangle)]
 pub extern "C" fn rd_forget(
     alloc: Global,
@@ -27,9 +27,9 @@ pub extern "C" fn rd_forget(
     make(alloc, handle, Call::Forget(key, now), answer)
 }
 
-/// Lets no further caller join the name's current load: `RD_FORGOT`, with 1 where there was one.
+/// Lets no further caller join the name's current load: `RD_FORGOT`, with 1 if there was one.
 ///
-/// That load stores nothing. Takes no memory. Expected O(1).
+/// That load stores nothing. Takes no memory. Expected O(1), unless an attacker chooses the names.
 #[unsafe(no_mangle)]
 pub extern "C" fn rd_forget_name(
     alloc: Global,

@@ -11,11 +11,12 @@ use crate::token::Token;
 use std::alloc::Global;
 use wt_core::{Call, Land};
 
-/// Closes a load with a value, which is stored where the load is current and it isn't too heavy.
+/// Closes a load with a value, which is stored if the load is current and the value isn't too
+/// heavy.
 ///
-/// `RD_KEPT` where it was stored, else `RD_LOOSE`, both with the number of sharers; `RD_GONE` where
-/// no such load of the key is open. Takes memory only where it stores. Expected O(1) for keys that
-/// nobody picks, O(entries) in a trim.
+/// `RD_KEPT` if it was stored, else `RD_LOOSE`, both with the number of sharers; `RD_GONE` if no
+/// such load of the key is open. Takes memory only if it stores. Expected O(1), unless an attacker
+/// chooses the keys; O(entries) in a trim.
 #[unsafe(no_mangle)]
 pub extern "C" fn rd_land_keep(
     alloc: Global,
@@ -40,7 +41,7 @@ pub extern "C" fn rd_land_keep(
 /// Closes a load with a value that isn't to be stored: `RD_LOOSE` with the number of sharers, or
 /// `RD_GONE`.
 ///
-/// Takes no memory. Expected O(1) for keys that nobody picks.
+/// Takes no memory. Expected O(1), unless an attacker chooses the keys.
 #[unsafe(no_mangle)]
 pub extern "C" fn rd_land_loose(
     alloc: Global,
@@ -57,7 +58,7 @@ pub extern "C" fn rd_land_loose(
 
 /// Closes a load that failed: `RD_FAILED` with the number of sharers, or `RD_GONE`.
 ///
-/// Takes no memory. Expected O(1) for keys that nobody picks.
+/// Takes no memory. Expected O(1), unless an attacker chooses the keys.
 #[unsafe(no_mangle)]
 pub extern "C" fn rd_land_failed(
     alloc: Global,
@@ -79,8 +80,8 @@ pub extern "C" fn rd_land_failed(
 
 /// Closes a load of the name with a value, which is stored where the load is current.
 ///
-/// It answers as `rd_land_keep` does: `RD_KEPT`, `RD_LOOSE` or `RD_GONE`. Takes memory only where
-/// it stores. Expected O(1), O(entries) in a trim.
+/// It answers as `rd_land_keep` does: `RD_KEPT`, `RD_LOOSE` or `RD_GONE`. Takes memory only if it
+/// stores. Expected O(1), O(entries) in a trim.
 #[unsafe(no_mangle)]
 pub extern "C" fn rd_land_keep_name(
     alloc: Global,
@@ -107,7 +108,8 @@ pub extern "C" fn rd_land_keep_name(
 
 /// Closes a load of the name with a value that isn't to be stored.
 ///
-/// `RD_LOOSE` with the number of sharers, or `RD_GONE`. Takes no memory. Expected O(1).
+/// `RD_LOOSE` with the number of sharers, or `RD_GONE`. Takes no memory. Expected O(1), unless an
+/// attacker chooses the names.
 #[unsafe(no_mangle)]
 pub extern "C" fn rd_land_loose_name(
     alloc: Global,
@@ -133,7 +135,7 @@ pub extern "C" fn rd_land_loose_name(
 
 /// Closes a load of the name that failed: `RD_FAILED` with the number of sharers, or `RD_GONE`.
 ///
-/// Takes no memory. Expected O(1).
+/// Takes no memory. Expected O(1), unless an attacker chooses the names.
 #[unsafe(no_mangle)]
 pub extern "C" fn rd_land_failed_name(
     alloc: Global,

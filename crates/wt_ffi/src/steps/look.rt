@@ -12,7 +12,7 @@ use wt_core::Call;
 
 /// Looks the key up at the moment `now`: `RD_HIT` with its token, which is a use, or `RD_ABSENT`.
 ///
-/// Takes memory only for a hit. Expected O(1) for keys that nobody picks.
+/// Takes memory only for a hit. Expected O(1), unless an attacker chooses the keys.
 #[unsafe(no_mangle)]
 pub extern "C" fn rd_look(
     alloc: Global,
@@ -30,7 +30,7 @@ pub extern "C" fn rd_look(
 ///
 /// Here as in the other seven calls by name nothing happens, and 104 is returned where the name is
 /// too long, 100 where the cache is closed, 103 where its keys are numbers, in this order. Takes
-/// memory only for a hit. Expected O(1).
+/// memory only for a hit. Expected O(1), unless an attacker chooses the names.
 #[unsafe(no_mangle)]
 pub extern "C" fn rd_look_name(
     alloc: Global,

@@ -13,9 +13,9 @@ use wt_core::Call;
 
 /// Stores the value under the key, in place of one that is there: `RD_STORED`.
 ///
-/// What leaves is told, the new value itself perhaps. The key's current load stores nothing. A
-/// value that is too heavy is refused before memory is asked for. Expected O(1) for keys that
-/// nobody picks, O(entries) in a trim.
+/// The notices tell what left, which may be the new value itself. The key's current load stores
+/// nothing. A value that is too heavy is refused before memory is asked for. Expected O(1), unless
+/// an attacker chooses the keys; O(entries) in a trim.
 #[unsafe(no_mangle)]
 pub extern "C" fn rd_put(
     alloc: Global,

@@ -10,11 +10,11 @@ use crate::text::{Text, name_of};
 use std::alloc::Global;
 use wt_core::Call;
 
-/// Looks the key up, and where it isn't there joins its current load or opens one.
+/// Looks the key up, and if it isn't there, joins its current load or opens one.
 ///
-/// `RD_HIT`, `RD_JOIN` or `RD_LEAD`, or `RD_HIT_LEAD` where the entry is due for a further load,
-/// the last three with the load's id: who leads makes the load and lands it. Expected O(1) for keys
-/// that nobody picks.
+/// `RD_HIT`, `RD_JOIN` or `RD_LEAD`, or `RD_HIT_LEAD` if the entry is due for a further load, the
+/// last three with the load's id. After `RD_LEAD` or `RD_HIT_LEAD` the caller loads the value and
+/// lands it. Expected O(1), unless an attacker chooses the keys.
 #[unsafe(no_mangle)]
 pub extern "C" fn rd_seek(
     alloc: Global,
@@ -28,9 +28,9 @@ pub extern "C" fn rd_seek(
     make(alloc, handle, Call::Seek(key, now), answer)
 }
 
-/// Looks the name up, and where it isn't there joins its current load or opens one.
+/// Looks the name up, and if it isn't there, joins its current load or opens one.
 ///
-/// It answers as `rd_seek` does. Expected O(1).
+/// It answers as `rd_seek` does. Expected O(1), unless an attacker chooses the names.
 #[unsafe(no_mangle)]
 pub extern "C" fn rd_seek_name(
     alloc: Global,

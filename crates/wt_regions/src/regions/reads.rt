@@ -13,8 +13,8 @@ use wt_keys::{CacheKey, NoMemory, Share};
 impl<K: CacheKey, V: Share + Weighs> Regions<K, V> {
     /// Returns whether an unexpired entry of the key is there. It isn't used by that.
     ///
-    /// `now` is in milliseconds. Takes no memory. Expected O(1) for keys that nobody picks (see
-    /// `Seeded`).
+    /// `now` is in milliseconds. Takes no memory. Expected O(1), unless an attacker chooses the
+    /// keys (see `Seeded`).
     pub fn has(&self, key: K, now: u64) -> bool
         ensures { result ≡ has_at K.eq key now self.now }
     {
@@ -28,8 +28,8 @@ impl<K: CacheKey, V: Share + Weighs> Regions<K, V> {
     /// Returns whether an unexpired entry of the key is there that is due for a further load.
     ///
     /// Due is what was written at least `refresh` milliseconds ago; the rule is Guava's refresh
-    /// after write. `now` is in milliseconds. Takes no memory. Expected O(1) for keys that nobody
-    /// picks (see `Seeded`).
+    /// after write. `now` is in milliseconds. Takes no memory. Expected O(1), unless an attacker
+    /// chooses the keys (see `Seeded`).
     pub fn due(&self, key: K, now: u64) -> bool
         ensures { result ≡ due_at K.eq key now self.now }
     {

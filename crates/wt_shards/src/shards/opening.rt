@@ -64,7 +64,7 @@ fn shares_at<
 }
 
 impl<K: CacheKey, V: Share + Weighs + Answers<K> + Send + Sync, B: Books> Shards<K, V, B> {
-    /// Makes so many empty shards, 1, 2 or 4 of them, each for this configuration.
+    /// Makes `shards` empty shards, 1, 2 or 4, each for this configuration.
     ///
     /// `BadConfig` of the number of shards first, then as `Config::check` answers it, before memory
     /// is asked for. Takes memory for each shard as `Shard::new` does. Takes no lock, and `rt`

@@ -19,8 +19,8 @@ use wt_keys::{Answers, CacheKey, Fault, Share};
 impl<K: CacheKey, V: Share + Weighs + Answers<K>, S: ShardLedger, H: Ledger> Shard<K, V, S, H> {
     /// Takes every expired entry out.
     ///
-    /// `now` is in milliseconds. `StepsSpent` comes before memory is asked for, which only the
-    /// lagging copy may take. O(entries), and what the dropped records cost.
+    /// `now` is in milliseconds. `StepsSpent` comes before `NoMemory`; only the lagging copy may
+    /// take memory. O(entries), and what the dropped records cost.
     pub fn clean(
         &mut self,
         mine: &mut Shares<S, H>,
@@ -41,9 +41,9 @@ impl<K: CacheKey, V: Share + Weighs + Answers<K>, S: ShardLedger, H: Ledger> Sha
 impl<K: CacheKey, V: Share + Weighs + Answers<K> + Send + Sync, B: Books> Shards<K, V, B> {
     /// Takes every expired entry of every shard out, by one step at each in turn.
     ///
-    /// `now` is in milliseconds. Stops at the first shard whose step is refused, by `StepsSpent`
-    /// before memory is asked for, which only a lagging copy may take. Takes each shard's lock in
-    /// turn, never two at once. O(entries) a shard. Not promised: that it returns.
+    /// `now` is in milliseconds. Stops at the first shard that refuses its step: with `StepsSpent`,
+    /// or with `NoMemory` if its lagging copy finds none. Takes each shard's lock in turn, never
+    /// two at once. O(entries) a shard. Not promised: that it returns.
     pub fn clean<R: Wait>(
         &self,
         rt: &R,

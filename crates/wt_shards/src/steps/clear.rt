@@ -17,10 +17,10 @@ use wt_core::{Call, Notices, Weighs};
 use wt_keys::{Answers, CacheKey, Fault, Share};
 
 impl<K: CacheKey, V: Share + Weighs + Answers<K>, S: ShardLedger, H: Ledger> Shard<K, V, S, H> {
-    /// Takes every entry out. No load that is open now is joined any longer, nor its value stored.
+    /// Takes every entry out. Loads open now are no longer joined, nor are their values stored.
     ///
-    /// `now` is in milliseconds. `StepsSpent` comes before memory is asked for, which only the
-    /// lagging copy may take. O(entries), and what the dropped records cost.
+    /// `now` is in milliseconds. `StepsSpent` comes before `NoMemory`; only the lagging copy may
+    /// take memory. O(entries), and what the dropped records cost.
     pub fn clear(
         &mut self,
         mine: &mut Shares<S, H>,
@@ -42,10 +42,10 @@ impl<K: CacheKey, V: Share + Weighs + Answers<K> + Send + Sync, B: Books> Shards
     /// Takes every entry of every shard out, by one step at each in turn. No load that is open at a
     /// shard when its step is made is joined any longer, nor its value stored.
     ///
-    /// `now` is in milliseconds. Stops at the first shard whose step is refused, by `StepsSpent`
-    /// before memory is asked for, which only a lagging copy may take. Takes each shard's lock in
-    /// turn, never two at once. O(entries) a shard. Not promised: that it returns, and that at some
-    /// moment all shards are empty.
+    /// `now` is in milliseconds. Stops at the first shard that refuses its step: with `StepsSpent`,
+    /// or with `NoMemory` if its lagging copy finds none. Takes each shard's lock in turn, never
+    /// two at once. O(entries) a shard. Not promised: that it returns, and that at some moment all
+    /// shards are empty.
     pub fn clear<R: Wait>(
         &self,
         rt: &R,

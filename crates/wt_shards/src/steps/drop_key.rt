@@ -20,11 +20,11 @@ use wt_core::{Call, Notices, Reply, Weighs};
 use wt_keys::{Answers, CacheKey, Fault, Share, shard_of};
 
 impl<K: CacheKey, V: Share + Weighs + Answers<K>, S: ShardLedger, H: Ledger> Shard<K, V, S, H> {
-    /// Takes the key's entry out, and answers whether an unexpired one left. Its current load is no
+    /// Takes the key's entry out, and returns whether an unexpired one left. Its current load is no
     /// longer joined.
     ///
-    /// `now` is in milliseconds. `StepsSpent` comes before memory is asked for, which only the
-    /// lagging copy may take. Expected O(1) for keys that nobody picks (see `Seeded`), and what the
+    /// `now` is in milliseconds. `StepsSpent` comes before `NoMemory`; only the lagging copy may
+    /// take memory. Expected O(1), unless an attacker chooses the keys (see `Seeded`), and what the
     /// dropped records cost.
     pub fn drop_key(
         &mut self,
@@ -78,12 +78,12 @@ fn drop_key_at<
 }
 
 impl<K: CacheKey, V: Share + Weighs + Answers<K> + Send + Sync, B: Books> Shards<K, V, B> {
-    /// Takes the key's entry out, and answers whether an unexpired one left, and the number of the
+    /// Takes the key's entry out, and returns whether an unexpired one left, and the number of the
     /// step at the key's shard. Its current load is no longer joined.
     ///
-    /// `now` is in milliseconds. `StepsSpent` comes before memory is asked for, which only the
-    /// shard's lagging copy may take. Takes that shard's lock, for one step. Expected O(1) for keys
-    /// that nobody picks (see `Seeded`). Not promised: that it returns.
+    /// `now` is in milliseconds. `StepsSpent` comes before `NoMemory`; only the shard's lagging
+    /// copy may take memory. Takes that shard's lock, for one step. Expected O(1), unless an
+    /// attacker chooses the keys (see `Seeded`). Not promised: that it returns.
     pub fn drop_key<R: Wait>(
         &self,
         rt: &R,

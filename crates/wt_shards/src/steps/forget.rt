@@ -20,11 +20,11 @@ use wt_core::{Call, Notices, Reply, Weighs};
 use wt_keys::{Answers, CacheKey, Fault, Share, shard_of};
 
 impl<K: CacheKey, V: Share + Weighs + Answers<K>, S: ShardLedger, H: Ledger> Shard<K, V, S, H> {
-    /// Lets no further caller join the key's current load, nor its value be stored, and answers
-    /// whether there was one.
+    /// Lets no further caller join the key's current load, keeps its value out, and returns whether
+    /// there was one.
     ///
-    /// `now` is in milliseconds. `StepsSpent` comes before memory is asked for, which only the
-    /// lagging copy may take. Expected O(1) for keys that nobody picks (see `Seeded`), and what the
+    /// `now` is in milliseconds. `StepsSpent` comes before `NoMemory`; only the lagging copy may
+    /// take memory. Expected O(1), unless an attacker chooses the keys (see `Seeded`), and what the
     /// dropped records cost.
     pub fn forget(
         &mut self,
@@ -77,12 +77,12 @@ fn forget_at<
 }
 
 impl<K: CacheKey, V: Share + Weighs + Answers<K> + Send + Sync, B: Books> Shards<K, V, B> {
-    /// Lets no further caller join the key's current load, nor its value be stored, and answers
-    /// whether there was one, and the number of the step at the key's shard.
+    /// Lets no further caller join the key's current load, keeps its value out, and returns whether
+    /// there was one, and the number of the step at the key's shard.
     ///
-    /// `now` is in milliseconds. `StepsSpent` comes before memory is asked for, which only the
-    /// shard's lagging copy may take. Takes that shard's lock, for one step. Expected O(1) for keys
-    /// that nobody picks (see `Seeded`). Not promised: that it returns.
+    /// `now` is in milliseconds. `StepsSpent` comes before `NoMemory`; only the shard's lagging
+    /// copy may take memory. Takes that shard's lock, for one step. Expected O(1), unless an
+    /// attacker chooses the keys (see `Seeded`). Not promised: that it returns.
     pub fn forget<R: Wait>(
         &self,
         rt: &R,

@@ -25,13 +25,13 @@ use wt_keys::{Answers, CacheKey, Fault, Share, shard_of};
 impl<K: CacheKey, V: Share + Weighs + Answers<K>, S: ShardLedger, H: Ledger> Shard<K, V, S, H> {
     ghost use Rattle.wt_shards.specs.Audited.{excess};
 
-    /// Closes the load with this id, if it is open and the key's, and answers `Kept`, `Loose` or
-    /// `Failed` with the number of those who shared it, or else `Gone`.
+    /// Closes the load `id`, if it is open and of this key, and returns `Kept`, `Loose` or `Failed`
+    /// with the number of its sharers. If there is no such load, returns `Gone`.
     ///
-    /// `now` is in milliseconds. An open load has its place in the ring, and drops no record.
-    /// `StepsSpent` comes only if the answer would be `Gone`. A value that is stored takes memory;
-    /// if the answer would be `Gone`, the lagging copy may. Expected O(log(open loads)) and a move
-    /// of the landings behind it, O(entries) where many leave.
+    /// `now` is in milliseconds. An open load has a free place in the ring, so its landing drops no
+    /// record. Only a landing that would return `Gone` may fail with `StepsSpent`, or take memory
+    /// for the lagging copy; a value that is stored takes memory too. Expected O(log(open loads))
+    /// and a move of the landings behind it, O(entries) if many leave.
     pub fn land(
         &mut self,
         mine: &mut Shares<S, H>,
@@ -90,14 +90,14 @@ fn land_at<
 }
 
 impl<K: CacheKey, V: Share + Weighs + Answers<K> + Send + Sync, B: Books> Shards<K, V, B> {
-    /// Closes the load of a lead, if it is open, and answers `Kept`, `Loose` or `Failed` with the
-    /// number of those who shared it, or else `Gone`, and the number of the step at the key's
-    /// shard.
+    /// Closes the load of `lead`, if it is open, and returns `Kept`, `Loose` or `Failed` with the
+    /// number of its sharers, or else `Gone`, and the number of the step at the key's shard.
     ///
-    /// `now` is in milliseconds. `StepsSpent` comes only if the answer would be `Gone`. A value that
-    /// is stored takes memory; if the answer would be `Gone`, the lagging copy may. Takes that
-    /// shard's lock, for one step. Expected O(open loads), O(entries) where many leave. Not
-    /// promised: that it returns. A lead of other shards at most closes a load of its id and key.
+    /// `now` is in milliseconds. Only a landing that would return `Gone` may fail with
+    /// `StepsSpent`, or take memory for the lagging copy; a value that is stored takes memory too.
+    /// Takes that shard's lock, for one step. Expected O(log(open loads)) and a move of the
+    /// landings behind it, O(entries) if many leave. Not promised: that it returns. A lead of
+    /// another `Shards` closes at most a load with its id and key.
     pub fn land<R: Wait>(
         &self,
         rt: &R,

@@ -20,11 +20,11 @@ use wt_core::{Call, Notices, Reply, Weighs};
 use wt_keys::{Answers, CacheKey, Fault, Share, shard_of};
 
 impl<K: CacheKey, V: Share + Weighs + Answers<K>, S: ShardLedger, H: Ledger> Shard<K, V, S, H> {
-    /// Looks the key up at the moment `now`, in milliseconds, and answers `Hit` with a share of its
+    /// Looks the key up at the moment `now`, in milliseconds, and returns `Hit` with a share of its
     /// value, or `Absent`.
     ///
-    /// `StepsSpent` comes before memory is asked for, which a hit takes and the lagging copy may.
-    /// Expected O(1) for keys that nobody picks (see `Seeded`), and what the dropped records cost.
+    /// `StepsSpent` comes before `NoMemory`; a hit takes memory, and the lagging copy may. Expected
+    /// O(1), unless an attacker chooses the keys (see `Seeded`), and what the dropped records cost.
     pub fn look(
         &mut self,
         mine: &mut Shares<S, H>,
@@ -75,13 +75,13 @@ fn look_at<
 }
 
 impl<K: CacheKey, V: Share + Weighs + Answers<K> + Send + Sync, B: Books> Shards<K, V, B> {
-    /// Looks the key up at its shard, and answers `Hit` with a share of its value, or `Absent`, and
+    /// Looks the key up at its shard, and returns `Hit` with a share of its value, or `Absent`, and
     /// the number of the step there.
     ///
-    /// `now` is in milliseconds. `StepsSpent` comes before memory is asked for, which a hit takes
-    /// and the shard's lagging copy may. Takes that shard's lock, for one step. Expected O(1) for
-    /// keys that nobody picks (see `Seeded`). Not promised: that it returns, and that the state of
-    /// which it tells is the present one.
+    /// `now` is in milliseconds. `StepsSpent` comes before `NoMemory`; a hit takes memory, and the
+    /// shard's lagging copy may. Takes that shard's lock, for one step. Expected O(1), unless an
+    /// attacker chooses the keys (see `Seeded`). Not promised: that the call returns, and that the
+    /// shard is still in the state that it tells of.
     pub fn look<R: Wait>(
         &self,
         rt: &R,

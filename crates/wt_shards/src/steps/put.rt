@@ -25,8 +25,8 @@ impl<K: CacheKey, V: Share + Weighs + Answers<K>, S: ShardLedger, H: Ledger> Sha
     /// Stores the value under the key, in place of one that is there.
     ///
     /// `now` is in milliseconds. `TooHeavy` comes before `StepsSpent`, and both before memory is
-    /// asked for; the refused value is dropped. Expected O(1) for keys that nobody picks (see
-    /// `Seeded`), O(entries) where many leave, and what the dropped records cost.
+    /// asked for; the refused value is dropped. Expected O(1), unless an attacker chooses the keys
+    /// (see `Seeded`); O(entries) if many leave, and what the dropped records cost.
     pub fn put(
         &mut self,
         mine: &mut Shares<S, H>,
@@ -84,13 +84,13 @@ fn put_at<
 }
 
 impl<K: CacheKey, V: Share + Weighs + Answers<K> + Send + Sync, B: Books> Shards<K, V, B> {
-    /// Stores the value under the key, in place of one that is there, and answers the number of the
+    /// Stores the value under the key, in place of one that is there, and returns the number of the
     /// step at the key's shard.
     ///
     /// `now` is in milliseconds. `TooHeavy` comes before `StepsSpent`, and both before memory is
     /// asked for; the refused value is dropped. Takes that shard's lock, for one step. Expected
-    /// O(1) for keys that nobody picks (see `Seeded`), O(entries) where many leave. Not promised:
-    /// that it returns.
+    /// O(1), unless an attacker chooses the keys (see `Seeded`); O(entries) if many leave. Not
+    /// promised: that it returns.
     pub fn put<R: Wait>(
         &self,
         rt: &R,

@@ -33,14 +33,15 @@ impl<K: CacheKey, V: Share + Weighs + Answers<K>, S: ShardLedger, H: Ledger> Sha
     ghost use Rattle.wt_shards.specs.Audited.{IsCaughtUp, shard_step};
     ghost use Rattle.wt_shards.specs.Sought.{IsOfLandings, opened_by};
 
-    /// Looks the key up at the moment `now`, and where it isn't there joins its current load or
-    /// opens one.
+    /// Looks the key up at the moment `now`; if it isn't there, joins its current load or opens
+    /// one.
     ///
-    /// Answers `Hit`, a `Join` with a ticket, or a `Lead` with the right to load and a ticket; or
-    /// `HitLead`, where the entry is due. Leads and tickets are of the landing that the shard keeps
+    /// Returns `Hit`, a `Join` with a ticket, or a `Lead` with the right to load and a ticket; or
+    /// `HitLead`, if the entry is due. Leads and tickets are of the landing that the shard keeps
     /// for the load; the lead's moment is `now`, in milliseconds. `StepsSpent` comes before
-    /// `TooManyFlights`, and both before memory is asked for. Expected O(1) for keys that nobody
-    /// picks (see `Seeded`), O(log(open loads)) on a join, and what the dropped records cost.
+    /// `TooManyFlights`, and both before memory is asked for. Expected O(1), unless an attacker
+    /// chooses the keys (see `Seeded`); O(log(open loads)) on a join; and what the dropped records
+    /// cost.
     pub fn seek(
         &mut self,
         mine: &mut Shares<S, H>,
@@ -166,14 +167,14 @@ fn seek_at<
 }
 
 impl<K: CacheKey, V: Share + Weighs + Answers<K> + Send + Sync, B: Books> Shards<K, V, B> {
-    /// Looks the key up at its shard, and where it isn't there joins its current load or opens one;
-    /// answers the number of the step there too.
+    /// Looks the key up at its shard; if it isn't there, joins its current load or opens one.
+    /// Returns the number of the step there too.
     ///
-    /// Answers `Hit`, a `Join` with a ticket, or a `Lead` with the right to load and a ticket; or
-    /// `HitLead`, where the entry is due. `now` is in milliseconds. `StepsSpent` comes before
+    /// The reply is `Hit`, a `Join` with a ticket, or a `Lead` with the right to load and a ticket;
+    /// or `HitLead`, if the entry is due. `now` is in milliseconds. `StepsSpent` comes before
     /// `TooManyFlights`, and both before memory is asked for. Takes that shard's lock, for one
-    /// step. Expected O(1) for keys that nobody picks (see `Seeded`), O(log(open loads)) on a join.
-    /// Not promised: that it returns.
+    /// step. Expected O(1), unless an attacker chooses the keys (see `Seeded`); O(log(open loads))
+    /// on a join. Not promised: that it returns.
     pub fn seek<R: Wait>(
         &self,
         rt: &R,
