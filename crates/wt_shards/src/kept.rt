@@ -1,5 +1,5 @@
 // The landing of an open load, as a shard keeps it.
-ghost use Rattle.std.specs.Prelude.{◌≡◌, ℕ, ◌+◌, ◌<◌, ◌≤◌, ◌++◌, get_or, ◌==◌, Some, None, option_copied, IfOk, IfSome, length, vec_capacity, filter, not, ◌&&◌};
+ghost use Rattle.std.specs.Prelude.{◌≡◌, ℕ, ◌<◌, ◌≤◌, ◌++◌, get_or, ◌==◌, Some, None, option_copied, IfOk, length, vec_capacity, not, ◌&&◌};
 ghost use Rattle.std.specs.List.{find};
 ghost use Rattle.std.specs.Option.{option_to_list};
 ghost use Rattle.std.specs.Arc.{arc_value};

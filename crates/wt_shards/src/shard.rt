@@ -9,16 +9,13 @@
 // A step (`shard/stepping.rt`) decides whether it is refused, then moves the fewest oldest records
 // over to the lagging copy, then makes the cache's step and records it. So what may be refused for
 // memory comes before the cache changes.
-ghost use Rattle.std.specs.Prelude.{◌≡◌, ℕ, ◌+◌, ◌-◌, ◌<◌, ◌≤◌, ◌^◌, ◌==◌, None, Some, IsTrue, IsSome, IsOk, IfOk, IfErr, OnOk, OnErr, IsOkUnless, MatchOption, Ok, Err, length, take, drop, [], ◌∷◌, ◌++◌, false, true, is_some, if◌then◌else◌};
+ghost use Rattle.std.specs.Prelude.{◌≡◌, ◌+◌, ◌<◌, ◌≤◌, ◌==◌, None, Some, IsOk, IfOk, OnOk, OnErr, IsOkUnless, MatchOption, Ok, Err, length, if◌then◌else◌};
 ghost use Rattle.wt_keys.specs.declared.fault.Fault.TheVariants as fault;
-ghost use Rattle.wt_flights.specs.Rows.{row_of};
-ghost use Rattle.wt_regions.specs.Notices.{appended};
-ghost use Rattle.wt_core.specs.declared.calls.Call.TheVariants as call;
 ghost use Rattle.wt_core.specs.State.{config_fault, stats_of};
 ghost use Rattle.wt_core.specs.Lawful.{AreSmall};
 ghost use Rattle.wt_shards.specs.StateAt.{IsStateAt};
 ghost use Rattle.wt_shards.specs.Totals.{total_of};
-ghost use Rattle.wt_shards.specs.Counts.{counted, no_steps, is_hit, IsBlankOf};
+ghost use Rattle.wt_shards.specs.Counts.{no_steps, IsBlankOf};
 
 mod stepping;
 
@@ -28,13 +25,12 @@ use crate::kept::Kept;
 use crate::shade::Shade;
 use crate::shard_ledger::ShardLedger;
 use crate::shares::Shares;
-use crate::sought::Sought;
 use crate::total::Total;
 use circular_buffer::HeapCircularBuffer;
 use std::alloc::Global;
 use std::marker::Model;
 use std::sync::ledger::{Blank, Book, Ledger, Share as Part};
-use wt_core::{Call, Config, Core, Land, Notices, Reply, Stats, Weighs};
+use wt_core::{Call, Config, Core, Notices, Stats, Weighs};
 use wt_keys::{Answers, CacheKey, Fault, NoMemory, Share};
 
 /// An audited cache: at all times its outline is that of its lagging copy followed by the recorded
@@ -96,9 +92,8 @@ impl<K: CacheKey, V: Share + Weighs + Answers<K>, S: ShardLedger, H: Ledger> Mod
 }
 
 impl<K: CacheKey, V: Share + Weighs + Answers<K>, S: ShardLedger, H: Ledger> Shard<K, V, S, H> {
-    ghost use Rattle.wt_core.specs.Step.{step, refusal_of};
-    ghost use Rattle.wt_shards.specs.Audited.{IsAudited, IsShardState, IsHome, IsCaughtUp, new_shard, moved, excess, shard_step};
-    ghost use Rattle.wt_shards.specs.Sought.{reply_of, opened_by, IsOfLandings};
+    ghost use Rattle.wt_core.specs.Step.{step};
+    ghost use Rattle.wt_shards.specs.Audited.{IsAudited, new_shard};
 
     /// Makes an empty shard, number `index` of `shards`.
     ///

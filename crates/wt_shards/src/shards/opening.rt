@@ -1,8 +1,7 @@
 // How shards and passes are made.
-ghost use Rattle.std.specs.Prelude.{◌≡◌, ◌+◌, ◌*◌, ◌<◌, ◌≤◌, ◌^◌, ◌==◌, ◌||◌, ◌↔◌, IsTrue, IfOk, IfErr, IsSome, IsOkUnless, MatchOption, Err};
+ghost use Rattle.std.specs.Prelude.{◌≡◌, ◌+◌, ◌<◌, ◌==◌, ◌||◌, ◌↔◌, IsTrue, IfOk, IfErr, IsSome, IsOkUnless, MatchOption, Err};
 ghost use Rattle.wt_keys.specs.declared.fault.Fault.TheVariants as fault;
 ghost use Rattle.wt_shards.specs.Counts.{IsBlankOf, no_steps};
-ghost use Rattle.wt_core.specs.Lawful.{AreSmall};
 ghost use Rattle.wt_shards.specs.Opening.{AreBlanks, ArePlacesOf, layout_fault};
 ghost use Rattle.wt_shards.specs.Passes.{counts_of, new_pass};
 ghost use Rattle.wt_shards.specs.Place.{place_of};
@@ -17,7 +16,7 @@ use crate::shares::Shares;
 use std::alloc::Global;
 use std::sync::ledger::{Blank, Ledger};
 use std::sync::{Mutex, Wait};
-use wt_core::{Config, Stats, Weighs};
+use wt_core::{Config, Weighs};
 use wt_keys::{Answers, CacheKey, Fault, Field, Share};
 
 // One shard behind its lock.
