@@ -162,7 +162,8 @@ impl Write for Moody {
     }
 
     fn flush(&mut self) -> io::Result<()> {
-        Err(io::Error::from(io::ErrorKind::Other))
+        self.next(0)?;
+        Ok(())
     }
 }
 
@@ -179,6 +180,8 @@ fn what_the_inner_one_answers_is_answered(rt: HostRuntime) {
     assert_eq!(rt; writer.write(b"four").ok(), Some(2));
     assert_eq!(rt; writer.write(b"four").ok(), Some(0));
     assert_eq!(rt; writer.write(b"four").ok(), None);
+    assert_eq!(rt; writer.flush().ok(), Some(()));
+    assert_eq!(rt; writer.flush().ok(), Some(()));
     assert_eq!(rt; writer.flush().ok(), None);
     assert_eq!(rt; writer.reads(), 0);
     assert_eq!(rt; writer.failures(), 2);
