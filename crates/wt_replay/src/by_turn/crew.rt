@@ -107,7 +107,7 @@ fn handle_all<K: TraceKey, N: Names + Send + Sync, G: Gate, R: Threads + Wait + 
     ran
 }
 
-// Has the workers run loads until the line is closed.
+// Has each of the workers run loads until the line is closed.
 fn load_all<K: TraceKey, N: Names + Send + Sync, R: Threads + Wait + Sync>(
     rt: &R,
     alloc: Global,
@@ -115,7 +115,8 @@ fn load_all<K: TraceKey, N: Names + Send + Sync, R: Threads + Wait + Sync>(
     workers: usize,
     manned: &AtomicBool,
 ) -> Result<Worked<Of<N>>, AllocError>
-    ensures { IfOk result (λ worked. AreWorked worked.items) }
+    ensures len { IfOk result (λ worked. vec_len worked ≡ workers) }
+    ensures faults { IfOk result (λ worked. AreWorked worked.items) }
 {
     thread::map_indices(
         rt,
@@ -142,6 +143,7 @@ pub(crate) fn work_all<K: TraceKey, N: Names + Send + Sync, G: Gate, R: Threads 
     requires { cache.now.layout.shards ≤ 4 }
     ensures each { HaveRan (keys_by K.eq K.word K.read K.shown) deal.now.loader.now.options
         cache.now (G.answers gate.now) deal.now.first deal.now.lines.now deal.now.threads result.0 }
+    ensures len { IfOk result.1 (λ worked. vec_len worked ≡ workers) }
     ensures faults { IfOk result.1 (λ worked. AreWorked worked.items) }
 {
     let manned = AtomicBool::new(false);
@@ -170,7 +172,8 @@ pub(crate) fn work_all<K: TraceKey, N: Names + Send + Sync, G: Gate, R: Threads 
             handle_all(rt, alloc, cache, &deal, gate, &manned)
         },
         || -> Result<Worked<Of<N>>, AllocError>
-            ensures { IfOk result (λ worked. AreWorked worked.items) }
+            ensures { IfOk result (λ worked. (vec_len worked ≡ workers)
+                × AreWorked worked.items) }
         { load_all(rt, alloc, cache, workers, &manned) },
     )
 }
