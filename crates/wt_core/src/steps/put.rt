@@ -15,10 +15,10 @@ impl<K: CacheKey, V: Share + Weighs> Core<K, V> {
     /// longer joined, and its value not stored.
     ///
     /// `now` is in milliseconds. The old value leaves as `Replaced`, or as `Expired` if it is; an
-    /// entry that finds no place, or exceeds the bound, leaves as `Size`. The key is counted last.
-    /// `TooHeavy` comes before `StepsSpent`, and both before memory is asked for; the refused value
-    /// is dropped. Expected O(1), unless an attacker chooses the keys (see `Seeded`); O(entries) if
-    /// many leave.
+    /// entry that finds no place, or has to go because the weights are above the bound, leaves as
+    /// `Size`. The key is counted last. `TooHeavy` comes before `StepsSpent`, and both before
+    /// memory is asked for; the refused value is dropped. Expected O(1), unless an attacker chooses
+    /// the keys (see `Seeded`); O(entries) if many leave.
     ///
     /// In use: `uses::plain::put`.
     pub fn put(
