@@ -94,7 +94,7 @@ pub record IsLentGet {K V : Type 0} (eq : K → K → Bool) (word : K → ℕ) (
 abbrev pub IsBrought : {A : Type 0} → (Result A Fault → Type 0) → Result A Fault → Type 0
 IsBrought gives result = gives result ⊎ IsErrAnd result (λ f. (f ≡ NoMemory) ⊎ (f ≡ PassesSpent))
 
--- what so many threads bring, each of them by its number
+-- what `threads` threads bring, each of them by its number
 abbrev pub AreBrought : {A : Type 0} → (ℕ → Result A Fault → Type 0) → ℕ → List (Result A Fault) → Type 0
 AreBrought {A} gives threads answers = (t : ℕ) (d : Result A Fault) → t < threads → IsBrought (gives t) (slice_index_or answers t d)
 

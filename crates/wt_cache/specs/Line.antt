@@ -46,7 +46,7 @@ module _ {K : Type 0} where
   abbrev pub AllNamed : List (ℕ × K) → List (ℕ × (ℕ × K)) → Type 0
   AllNamed log ps = (j : ℕ) (p : ℕ × (ℕ × K)) → get_elem? ps j ≡ some p → get_elem? log p.0 ≡ some p.1
 
--- no line is made with so many places: it has 1 to 4,096
+-- no line is made with `capacity` places: it has 1 to 4,096
 abbrev pub IsNoCapacity : ℕ → Type 0
 IsNoCapacity capacity = (capacity < 1) ⊎ (4096 < capacity)
 

@@ -52,7 +52,7 @@ module _ {K V : Type 0} (eq : K → K → Bool) (word : K → ℕ) (weight : V �
   abbrev pub SucceedsBare : {R : Type 0} → Call K V → State K V → Result R Fault → Type 0
   SucceedsBare c old result = TakesNone eq weight old c → refusal_of eq word weight old c ≡ None → IsOk result
 
-  -- the state doesn't refuse the call, and so many loads are open after its step
+  -- the state doesn't refuse the call, and `rows` loads are open after its step
   abbrev pub Allows : Call K V → State K V → ℕ → Type 0
   Allows c s rows = (refusal_of eq word weight s c ≡ None) × (rows ≡ length (step eq word weight s c).state.flights.rows)
 

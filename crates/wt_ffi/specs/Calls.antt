@@ -88,7 +88,7 @@ module _ {K : Type 0} (eq : K → K → Bool) (word : K → ℕ) where
   abbrev pub number_after : ℕ → Call K Token → Open K → ℕ
   number_after kind call c = if kind == 0 then 1 else number_of (made_of call c).reply
 
-  -- the answer that is told
+  -- the answer that C reads
   abbrev pub answer_after : ℕ → Call K Token → Open K → Answer
   answer_after kind call c = if kind == 0 then plain 0 1 0 else answer_of (made_of call c).reply (length (made_of call c).notices)
 

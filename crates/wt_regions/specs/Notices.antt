@@ -8,7 +8,7 @@ pub record NoticeList (K V : Type 0) : Type 0 where
   pub room : ℕ
 
 module _ {K V : Type 0} where
-  -- none, with room for so many
+  -- none, with room for `room` of them
   abbrev pub no_notices : ℕ → NoticeList K V
   no_notices room = record { list = []; room = room }
 

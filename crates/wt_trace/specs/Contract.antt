@@ -35,7 +35,7 @@ pub record IsReadyOn (n : ℕ) (o : Options) (first count : ℕ) : Type 0 where
   pub few : first + count ≤ line_end
   pub threads : 0 < n
 
--- lines of a report that can be printed on threads: each shard has a text for each, and a thread prints at most so many
+-- lines of a report that can be printed on threads: each shard has a text for each, and a thread prints at most `len`
 pub record IsCut (first : ℕ) (all : List Answers) (count len : ℕ) : Type 0 where
   pub whole : All (λ a. length a.texts ≡ count) all
   pub fits : first + count < 2 ^ 64
@@ -86,7 +86,7 @@ module _ {K : Type 0} (keys : Keys K) (o : Options) (gate : ℕ → Bool → Typ
     -- there is no memory, or the gate was shut before a line
     pub err : IfErr result (IsStop (λ n. gate n false))
 
-  -- what thread t of so many promises, whose part is that of its shards
+  -- what thread t of `threads` promises, whose part is that of its shards
   abbrev pub IsPartOf : ℕ → ℕ → Result (List (Option Answers)) ReplayFault → Type 0
   IsPartOf threads t part = IsPart (answers keys o first lines) (λ n. gate n false) (λ shard. AreAsked (belongs keys o shard) (λ n. gate n true) first lines) o.shards threads t part
 
@@ -190,7 +190,7 @@ module _ {K : Type 0} (m : KeyMembers K) where
       AreShown (keys_of m) n bytes (map standing_of old) (map standing_of new) before.items after.items result
 
 module _ {K G : Type 0} (m : KeyMembers K) (o : Options) (says : G → ℕ → Bool → Type 0) (gate : G) (first : ℕ) (t : Trace K) where
-  -- what thread i of so many promises of its part, which is that of its shards
+  -- what thread i of `threads` promises of its part, which is that of its shards
   abbrev pub IsPartOn : ℕ → ℕ → Result (List (Option Answers)) ReplayFault → Type 0
   IsPartOn threads i part = IsPartOf (keys_of m) o (says gate) first t.lines threads i part
 

@@ -18,7 +18,7 @@ ring_of o = unwrap_or o.ring (max (o.flights + 1) 64)
 abbrev pub is_outside : ℕ → ℕ → ℕ → Bool
 is_outside low high n = nat_lt n low || nat_lt high n
 
--- whether there can be so many shards
+-- whether there can be `n` shards
 abbrev pub is_shard_count : ℕ → Bool
 is_shard_count n = n == 1 || (n == 2 || n == 4)
 

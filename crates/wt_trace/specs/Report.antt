@@ -18,11 +18,11 @@ pub record Report : Type 0 where
 unfoldable pub line_text : ℕ → List Answers → ℕ → List ℕ
 line_text first all i = decimal (first + i) ++ (flat_map (λ (a : Answers). get_or a.texts i []) all ++ codes "\n")
 
--- so many lines from line i on
+-- `len` lines from line i on
 abbrev pub lines_text : ℕ → List Answers → ℕ → ℕ → List ℕ
 lines_text first all i len = flat_map (line_text first all) (range_with_len i len)
 
--- piece t of so many lines, of at most so many each
+-- piece t of `count` lines, in pieces of at most `most`
 abbrev pub piece_text : ℕ → List Answers → ℕ → ℕ → ℕ → List ℕ
 piece_text first all count most t = lines_text first all (min (t * most) count) (min most (count - min (t * most) count))
 
@@ -55,7 +55,7 @@ summary all =
     (sum_text (codes " failed ") (λ s. s.failed) all ++ (sum_text (codes " evicted ") (λ s. s.evicted) all ++
     (sum_text (codes " entries ") (λ s. s.entries) all ++ (sum_text (codes " weight ") (λ s. s.weight) all ++ codes "\n")))))))
 
--- so many lines by what the shards answer, and the summary where no line was at fault
+-- `count` lines by what the shards answer, and the summary where no line was at fault
 unfoldable pub printed : ℕ → ℕ → Bool → List Answers → List ℕ
 printed first count complete all = lines_text first all 0 count ++ (if complete then summary all else [])
 
