@@ -15,7 +15,7 @@ use wt_shards::{Books, Pass, Shards};
 /// A cache that any number of threads share, and that loads what isn't there: one load for all who
 /// ask for a key at once.
 ///
-/// A load is run by the caller whose seek opened it, or, where the cache has a line, by a worker.
+/// A load is run by the caller whose seek opened it, or, if the cache has a line, by a worker.
 #[derive(Drop)]
 pub struct LoadingCache<
     K: CacheKey,

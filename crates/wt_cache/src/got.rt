@@ -9,7 +9,7 @@ pub enum How {
     Loaded,
     /// It was loaded by a load that was open already.
     Joined,
-    /// It was there and due: this call opened a load of it anew, and answers the value that was
+    /// It was there and due: this call opened a load of it anew, and returns the value that was
     /// there.
     Refreshed,
 }

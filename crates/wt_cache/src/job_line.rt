@@ -88,7 +88,7 @@ impl<K: Copy + Drop, V: Drop> JobLine<K, V> {
 
     /// Makes a pass of this line that has put and taken nothing.
     ///
-    /// `NoMemory` only where a further owner of the queue is refused. Takes the lock of the line's
+    /// `NoMemory` only if a further owner of the queue is refused. Takes the lock of the line's
     /// first pass.
     pub fn pass<R: Wait>(&self, rt: &R) -> Result<LinePass<K, V>, NoMemory>
         ensures { IfOk result (λ pass. pass ≡ hand [] []) }
@@ -98,8 +98,8 @@ impl<K: Copy + Drop, V: Drop> JobLine<K, V> {
 
     /// Puts a load at the end of the line, or hands its lead back.
     ///
-    /// Answers `Line` where the line was open still after the put, and wakes a worker if one sleeps;
-    /// `Late` where it was closed by then. `LineClosed` comes before `LineFull`. The pass is to be
+    /// Returns `Line` if the line was open still after the put, and wakes a worker if one sleeps;
+    /// `Late` if it was closed by then. `LineClosed` comes before `LineFull`. The pass is to be
     /// one of this line: it goes by its own queue. Takes no memory, and after the put the lock of
     /// the line's bell. That anyone takes the load is not promised.
     pub fn post<R: Wait>(
@@ -128,7 +128,7 @@ impl<K: Copy + Drop, V: Drop> JobLine<K, V> {
         Ok(Posted::Line)
     }
 
-    /// Takes the load that stands first in the line, or `None` where there is none.
+    /// Takes the load that stands first in the line, or `None` if there is none.
     ///
     /// Whoever takes it is to run it. A closed line is taken from like an open one. Takes no memory
     /// and no lock.
@@ -186,7 +186,7 @@ impl<K: Copy + Drop, V: Drop> JobLine<K, V> {
         drop(gate);
     }
 
-    /// Returns whether the line is closed. Takes no lock. What it answers may be old at once.
+    /// Returns whether the line is closed. Takes no lock. What it returns may be old at once.
     pub fn is_closed(&self) -> bool {
         self.closed.load(Ordering::SeqCst)
     }

@@ -74,7 +74,7 @@ impl<K, V> Model for LinePass<K, V> {
 }
 
 impl<K: Copy + Drop, V: Drop> LinePass<K, V> {
-    // Pushes a load to the queue's end, or hands it back where the queue is full.
+    // Pushes a load to the queue's end, or hands it back if the queue is full.
     pub(crate) fn push<R: Wait>(&mut self, rt: &R, lead: Lead<K, V>) -> Result<(), Lead<K, V>>
         ensures moved { IsPut result (λ back. back) lead self.old self.new }
     {

@@ -5,7 +5,7 @@ use wt_keys::Answers;
 
 /// What loads the value of a key, in the caller's thread or in a worker's.
 pub trait Loader<K, V: Answers<K>>: Sync {
-    /// Loads the value of the key, or answers a code of the loader's own.
+    /// Loads the value of the key, or returns a code of the loader's own.
     ///
     /// It is called with no lock held, by several threads at once for different keys. It must not
     /// ask the cache for its own key: it would wait for itself. That it returns is not promised.

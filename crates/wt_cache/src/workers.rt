@@ -24,8 +24,8 @@ impl<
 > LoadingCache<K, V, L, B> {
     /// Takes loads off the line and runs them, and reports how many there were.
     ///
-    /// Ends where it read that the line is closed and a take after that found none; after 2^40
-    /// loads; or at once where the cache has no line. While the line is open and empty it looks
+    /// Ends once it read that the line is closed and a take after that found none; after 2^40
+    /// loads; or at once if the cache has no line. While the line is open and empty it looks
     /// again for some 20 microseconds, and then sleeps until a post or the close wakes it. A load
     /// whose landing is refused is published and rung all the same. What leaves the cache is
     /// counted and dropped, and so is what the list held before. Any number of workers may run at

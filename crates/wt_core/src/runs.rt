@@ -31,7 +31,7 @@ impl<K: CacheKey, V: Share + Weighs> Core<K, V> {
     /// takes.
     ///
     /// In use: `uses::plain::take`.
-    // Inlined, so that the kind of call is known where its caller makes it.
+    // Inlined, so that the kind of call is known to the caller that makes it.
     #[inline(always)]
     pub fn take(
         &mut self,
@@ -73,7 +73,7 @@ impl<K: CacheKey, V: Share + Weighs> Core<K, V> {
     }
 }
 
-/// Makes the calls one after another, and answers their replies. A call that the state refuses
+/// Makes the calls one after another, and returns their replies. A call that the state refuses
 /// replies `Refused` and is no step.
 ///
 /// The notices are emptied before each call, so those of the last stay. `NoMemory` ends the run;

@@ -79,7 +79,7 @@ impl<K: CacheKey, V: Share + Weighs> Core<K, V> {
 
     /// Makes an empty cache.
     ///
-    /// `BadConfig` as [`Config::check`] answers it, before memory is asked for. Takes memory for
+    /// `BadConfig` as [`Config::check`] returns it, before memory is asked for. Takes memory for
     /// the tables of the three regions and the sketch. O(entries).
     ///
     /// In use: `uses::plain::new`.

@@ -67,7 +67,7 @@ pub record IsSweptCall (sweep : Sweep) (now : ℕ) (old new : Handle) (before to
 
 -- an opening, of numbers or of names: the cache that is meant, on a closed handle alone
 pub record IsOpening (meant : Setup → Opened) (setup : Setup) (old new : Handle) (result : ℕ) : Type 0 where
-  -- where it succeeds the cache is open
+  -- if it succeeds the cache is open
   pub state : result ≡ 0 → Has new (meant setup)
   -- a closed handle is refused exactly a setting out of its range, or memory
   pub refusal : IsNone (cache_of old) → Opens (config_fault (config_of setup)) result

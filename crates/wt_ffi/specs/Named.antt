@@ -1,4 +1,4 @@
--- What C is told of a call where keys are names.
+-- What C is told of a call if keys are names.
 use Rattle.std.specs.Prelude.{ℕ, nat_eq, List}
 use Rattle.std.specs.Cmp.Lexicographic.{pointwise}
 use Rattle.wt_keys.specs.Hash.{word_of_name}

@@ -7,7 +7,7 @@ use Rattle.wt_ffi.specs.declared.opened.Opened.TheVariants as kind
 use Rattle.wt_ffi.specs.Handle.{cache_of}
 use Rattle.wt_ffi.specs.Open.{Open}
 
--- the name that a text stands for: its first bytes, where they are at most 24
+-- the name that a text stands for: its first bytes, if they are at most 24
 abbrev pub name_of : Text → Option (List ℕ)
 name_of t = if nat_le t.length 24 then Some (take t.length t.bytes) else None
 
@@ -35,7 +35,7 @@ asked t h = asked_for (name_of t) (cache_of h)
 abbrev pub IfAsked : Text → Handle → (Asked → Type 0) → Type 0
 IfAsked t h P = IfSome (asked t h) P
 
--- the number that is returned where it goes to nothing: the name is too long, the cache closed, or its keys numbers
+-- the number that is returned if it goes to nothing: the name is too long, the cache closed, or its keys numbers
 abbrev pub number_for_none : Option (List ℕ) → Option Opened → ℕ
 number_for_none None opened = 104
 number_for_none (Some name) None = 100

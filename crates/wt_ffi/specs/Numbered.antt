@@ -1,4 +1,4 @@
--- What C is told of a call where keys are numbers.
+-- What C is told of a call if keys are numbers.
 use Rattle.std.specs.Prelude.{ℕ, nat_eq}
 use Rattle.wt_core.specs.declared.calls.Call.{Call}
 use Rattle.wt_ffi.specs.declared.token.Token.{Token}

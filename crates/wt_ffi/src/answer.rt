@@ -9,7 +9,7 @@ use wt_core::Reply;
 #[repr(C)]
 #[derive(Clone, Copy, PartialEq, Eq)]
 pub struct Answer {
-    /// Which answer it is, from 1; 0 where memory was refused.
+    /// Which answer it is, from 1; 0 if memory was refused.
     pub kind: u32,
     /// The weight of the token of a hit.
     pub weight: u32,

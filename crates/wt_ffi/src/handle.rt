@@ -8,8 +8,8 @@ use crate::raw_box::RawBox;
 use std::alloc::Global;
 use std::{mem, ptr};
 
-// What a call returns where the cache is closed, where it is open already, where there is no such
-// notice, where the cache has keys of the other kind, and where a name is longer than 24 bytes.
+// What a call returns if the cache is closed, if it is open already, if there is no such
+// notice, if the cache has keys of the other kind, and if a name is longer than 24 bytes.
 pub(crate) const CLOSED: u64 = 100;
 
 pub(crate) const OPEN: u64 = 101;

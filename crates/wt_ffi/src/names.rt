@@ -61,7 +61,7 @@ fn name_left_of(notice: &Notice<Name, Token>) -> NameLeft
 
 /// Tells a notice of the latest call on a cache of names, by its place from 0, and returns 0.
 ///
-/// 100 where the cache is closed, 103 where its keys are numbers, 102 where there is no such
+/// 100 if the cache is closed, 103 if its keys are numbers, 102 if there is no such
 /// notice. Takes no memory. O(1).
 #[unsafe(no_mangle)]
 pub extern "C" fn rd_get_notice_name(

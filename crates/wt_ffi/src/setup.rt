@@ -74,7 +74,7 @@ pub(crate) fn cached<K: CacheKey>(alloc: Global, config: &Config) -> Result<Cach
     }
 }
 
-// Puts the cache into a closed handle, and answers 0; where memory is refused the handle stays
+// Puts the cache into a closed handle, and returns 0; if memory is refused the handle stays
 // closed, and it is 1.
 pub(crate) fn hold(alloc: Global, handle: &mut Handle, opened: Opened) -> u64
     requires { IsNone (cache_of handle.old) }
@@ -93,7 +93,7 @@ pub(crate) fn hold(alloc: Global, handle: &mut Handle, opened: Opened) -> u64
 
 /// Opens an empty cache whose keys are numbers, and returns 0.
 ///
-/// 101 where the handle is open already, 2 where the setup is out of its ranges, 1 where memory is
+/// 101 if the handle is open already, 2 if the setup is out of its ranges, 1 if memory is
 /// refused, in this order; the handle is then as it was. Takes memory for all the entries.
 #[unsafe(no_mangle)]
 pub extern "C" fn rd_open(alloc: Global, setup: &Setup, handle: &mut Handle) -> u64
@@ -108,7 +108,7 @@ pub extern "C" fn rd_open(alloc: Global, setup: &Setup, handle: &mut Handle) -> 
     }
 }
 
-/// Closes the cache and returns 0; 100 where it is closed already. No notice tells of what it held.
+/// Closes the cache and returns 0; 100 if it is closed already. No notice tells of what it held.
 ///
 /// That its memory is freed is in no clause.
 #[unsafe(no_mangle)]
@@ -124,7 +124,7 @@ pub extern "C" fn rd_close(alloc: Global, handle: &mut Handle) -> u64
 }
 
 /// Returns the number of the first setting that is out of its range: 1 entries, 2 window, 3
-/// flights, 4 bound, 5 after_write, 6 after_access, 7 refresh; 0 where none is. Takes no memory.
+/// flights, 4 bound, 5 after_write, 6 after_access, 7 refresh; 0 if none is. Takes no memory.
 #[unsafe(no_mangle)]
 pub extern "C" fn rd_check(setup: &Setup) -> u64
     ensures { Checks setup.now result }

@@ -100,7 +100,7 @@ impl<K: CacheKey> Cached<K> {
     }
 }
 
-/// Tells the numbers of the cache, and returns 0; 100 where it is closed.
+/// Tells the numbers of the cache, and returns 0; 100 if it is closed.
 ///
 /// At all times hits and misses together are the look-ups, the entries and their weight are within
 /// the setup's limits, and no number wraps. Takes no memory. O(1).
@@ -123,7 +123,7 @@ pub extern "C" fn rd_get_numbers(alloc: Global, handle: &mut Handle, numbers: &m
     0
 }
 
-// What a reading of a notice returns, and writes where there is one.
+// What a reading of a notice returns, and writes if there is one.
 pub(crate) fn tell<L: Copy>(found: Option<L>, left: &mut L) -> u64
     ensures { Reads found result left.old left.new }
 {
@@ -138,7 +138,7 @@ pub(crate) fn tell<L: Copy>(found: Option<L>, left: &mut L) -> u64
 
 /// Tells a notice of the latest call on a cache of numbers, by its place from 0, and returns 0.
 ///
-/// 100 where the cache is closed, 103 where its keys are names, 102 where there is no such notice.
+/// 100 if the cache is closed, 103 if its keys are names, 102 if there is no such notice.
 /// Takes no memory. O(1).
 #[unsafe(no_mangle)]
 pub extern "C" fn rd_get_notice(alloc: Global, handle: &mut Handle, i: u64, left: &mut Left) -> u64

@@ -19,10 +19,10 @@ word_of s = s.word
 abbrev pub seeded_word : Seed → HashWrites → ℕ
 seeded_word seed writes = sip.finish (fold sip.write (initial_hasher seed.state) writes)
 
--- a key with its word under a seed, where it feeds a hasher as told
+-- a key with its word under a seed, if it feeds a hasher as told
 abbrev pub seeded : {K : Type 0} → (K → HashWrites) → Seed → K → Seeded K
 seeded hash_input seed key = record { word = seeded_word seed (hash_input key); key = key }
 
--- a test of seeded keys finds those of one seed equal exactly where a test of keys finds the keys so
+-- a test of seeded keys finds those of one seed equal exactly if a test of keys finds the keys so
 abbrev pub TellsKeysApart : {K : Type 0} → (Seeded K → Seeded K → Bool) → (K → K → Bool) → (K → HashWrites) → Type 0
 TellsKeysApart {K} seeded_eq eq hash_input = (seed : Seed) (one other : K) → seeded_eq (seeded hash_input seed one) (seeded hash_input seed other) ≡ eq one other

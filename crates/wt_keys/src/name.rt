@@ -20,7 +20,7 @@ use std::marker::Model;
 /// A name of at most 24 bytes, which lie in the value itself. Contracts see it as its list of
 /// bytes.
 ///
-/// Two names are equal exactly where their bytes are. The bytes need not be text.
+/// Two names are equal exactly if their bytes are. The bytes need not be text.
 #[derive(Clone, Copy)]
 pub struct Name {
     // The bytes, and zeros behind them; never changes.
@@ -73,7 +73,7 @@ impl Name {
     }
 }
 
-/// Equal exactly where the bytes are.
+/// Equal exactly if the bytes are.
 impl PartialEq for Name {
     ghost eq = { pointwise nat_eq };
 

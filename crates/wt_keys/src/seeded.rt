@@ -35,7 +35,7 @@ impl Seed {
 
     /// Returns the key with the word that it has under this seed: its SipHash-1-3.
     ///
-    /// A function of the two. Takes no memory. O(length of the key): make a key once where it is
+    /// A function of the two. Takes no memory. O(length of the key): make a key once if it is
     /// used more than once. Whoever sees words can tell keys apart by them, so keep words to
     /// yourself.
     pub fn key<K: CacheKey>(&self, key: K) -> Seeded<K>
@@ -103,7 +103,7 @@ impl<K: CacheKey> CacheKey for Seeded<K> {
     } };
 }
 
-/// Keys of one seed are equal exactly where the keys that they were made from are.
+/// Keys of one seed are equal exactly if the keys that they were made from are.
 ///
 /// A law of the definitions: the function does nothing, and takes no memory.
 pub fn seeds_tell_keys_apart<K: CacheKey>()

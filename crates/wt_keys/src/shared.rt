@@ -44,7 +44,7 @@ impl<T> Shared<T> {
     }
 }
 
-/// The share is a further owner. `NoMemory` only where there are 2^64 - 1 of them.
+/// The share is a further owner. `NoMemory` only if there are 2^64 - 1 of them.
 impl<T: Drop> Share for Shared<T> {
     fn share(&self) -> Result<Shared<T>, NoMemory> {
         Ok(Shared {

@@ -18,7 +18,7 @@ module _ {K V : Type 0} where
     abbrev pub without_expired : K → ℕ → Lists K V → Told K V
     without_expired k now r = option_map_or (λ h. if is_expired r.caps now h then (without eq k r, notice Expired (k, h) ∷ []) else (r, [])) (held_for eq k r) (r, [])
 
-    -- what is told where the entry of the key leaves: Expired if it is expired, else Explicit
+    -- what is told if the entry of the key leaves: Expired if it is expired, else Explicit
     abbrev pub removal : K → ℕ → Lists K V → List (Notice K V)
     removal k now r = option_map_or (λ h. notice (if is_expired r.caps now h then Expired else Explicit) (k, h) ∷ []) (held_for eq k r) []
 
@@ -27,7 +27,7 @@ module _ {K V : Type 0} where
     removed k now r = (without eq k r, removal k now r)
 
   module _ (eq : K → K → Bool) (estimate : K → ℕ) (now : ℕ) where
-    -- the entry settles where no other of its key is there; it takes the place of one that isn't expired, and an expired one leaves first
+    -- the entry settles if no other of its key is there; it takes the place of one that isn't expired, and an expired one leaves first
     abbrev pub placed : Entry K V → Lists K V → Told K V
     placed e r =
         option_map_or (λ h.

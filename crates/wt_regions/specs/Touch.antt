@@ -10,7 +10,7 @@ use Rattle.wt_regions.specs.declared.held.Held.{Held}
 use Rattle.wt_regions.specs.Lists.{Entry, Lists, all_but_last, protected_cap, found_at, used}
 
 module _ {K V : Type 0} where
-  -- an entry of probation goes to the front of protected, and where that is past its cap its last goes to the front of probation
+  -- an entry of probation goes to the front of protected, and if that is past its cap its last goes to the front of probation
   abbrev pub promoted : Caps → Entry K V → List (Entry K V) → List (Entry K V) → List (Entry K V) × List (Entry K V)
   promoted c e probation protected =
       if nat_lt (length protected) (protected_cap c) then (probation, e ∷ protected) else

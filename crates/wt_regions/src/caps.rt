@@ -32,7 +32,7 @@ const MOST_ENTRIES: u32 = 65_536;
 const MOST_BOUND: u64 = 0x1_0000_0000_0000;
 
 impl Caps {
-    /// The first field that is out of its range, in the order of the fields; `None` where each is
+    /// The first field that is out of its range, in the order of the fields; `None` if each is
     /// within.
     ///
     /// Takes no memory. O(1).

@@ -137,7 +137,7 @@ impl<K: CacheKey, V: Share + Weighs> Regions<K, V> {
         }
     }
 
-    /// Takes the key's entry out, and answers whether an unexpired one left.
+    /// Takes the key's entry out, and returns whether an unexpired one left.
     ///
     /// It leaves as `Explicit`, an expired one as `Expired`. `now` is in milliseconds. Takes no
     /// memory. Expected O(1), unless an attacker chooses the keys (see `Seeded`).

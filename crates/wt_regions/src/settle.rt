@@ -30,7 +30,7 @@ use wt_sketch::Sketch;
 pub enum Fate {
     /// It leaves.
     Leaves(Cause),
-    /// It enters probation, where there is room.
+    /// It enters probation, if there is room.
     Enters,
     /// It enters probation, and the victim, probation's last, leaves.
     Ousts(Cause),

@@ -104,11 +104,11 @@ pub record IsGood (t : Total) : Type 0 where
   pub looked : t.stats.hits + t.stats.misses ≡ t.stats.lookups
   pub small : AreSmall t.stats
 
--- the numbers of a shard, where there is one
+-- the numbers of a shard, if there is one
 abbrev pub numbers_of : Option Total → Stats
 numbers_of None = no_numbers
 numbers_of (Some total) = total.stats
 
--- what each of the four numbers of a shard ended with, where it is in use
+-- what each of the four numbers of a shard ended with, if it is in use
 abbrev pub shards_of : Settled → List (Option Total)
 shards_of t = t.zero ∷ t.one ∷ t.two ∷ t.three ∷ []

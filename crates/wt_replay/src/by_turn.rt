@@ -1,7 +1,7 @@
 // A replay turn by turn: the threads take turns with the lines of a trace, on one shared cache.
 //
 //     line n ──► thread (n - 1) modulo the threads ──► the cache, by a pass of the thread's own
-//                                                        │ loads, where there are workers
+//                                                        │ loads, if there are workers
 //     workers, each with a pass ◄── a line of 64 loads ◄─┘
 //
 // When all threads have ended the line is closed, the workers end, and all passes are settled.
@@ -65,7 +65,7 @@ fn sum_of<B: Books>(totals: &Totals<B>) -> Stats
     zero.plus(&one).plus(&two).plus(&three)
 }
 
-// A new cache at given ledgers, with a line where there are workers.
+// A new cache at given ledgers, with a line if there are workers.
 fn opened<K: TraceKey, N: Names + Send + Sync, R: Wait>(
     rt: &R,
     alloc: Global,
@@ -98,7 +98,7 @@ fn opened<K: TraceKey, N: Names + Send + Sync, R: Wait>(
     }
 }
 
-// The sums of the numbers of all shards, where the passes account for all steps.
+// The sums of the numbers of all shards, if the passes account for all steps.
 fn settled<K: TraceKey, N: Names + Send + Sync, R: Wait>(
     rt: &R,
     alloc: Global,

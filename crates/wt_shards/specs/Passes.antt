@@ -7,7 +7,7 @@ pub record Passed : Type 0 where
   pub shards : ℕ
   pub counts : List Counted
 
--- what was done, where anything was
+-- what was done, if anything was
 abbrev pub counts_of : Option Counted → Counted
 counts_of None = no_steps
 counts_of (Some c) = c

@@ -66,7 +66,7 @@ impl<B: Books> Pass<B> {
     }
 }
 
-// The steps at a shard, where there is one.
+// The steps at a shard, if there is one.
 fn steps_of<S: Ledger, H: Ledger>(shares: &Option<Shares<S, H>>) -> u64
     ensures { result ≡ (counts_of shares.now).steps }
 {
@@ -76,7 +76,7 @@ fn steps_of<S: Ledger, H: Ledger>(shares: &Option<Shares<S, H>>) -> u64
     }
 }
 
-// The hits at a shard, where there is one.
+// The hits at a shard, if there is one.
 fn hits_of<S: Ledger, H: Ledger>(shares: &Option<Shares<S, H>>) -> u64
     ensures { result ≡ (counts_of shares.now).hits }
 {

@@ -97,7 +97,7 @@ impl<K: CacheKey, V: Share + Weighs + Answers<K>, S: ShardLedger, H: Ledger> Sha
 
     /// Makes an empty shard, number `index` of `shards`.
     ///
-    /// `BadConfig` as `Config::check` answers it, before memory is asked for. Takes memory for the
+    /// `BadConfig` as `Config::check` returns it, before memory is asked for. Takes memory for the
     /// cache and its copy, the ring, the landings and the copy's notices. O(entries + ring).
     pub fn new(
         alloc: Global,

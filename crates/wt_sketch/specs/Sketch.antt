@@ -74,7 +74,7 @@ halved s = record {
 abbrev pub aged : Counters → Counters
 aged s = if s.additions == 10 * s.entries then halved s else s
 
--- one occurrence counted: an addition only where a counter rises
+-- one occurrence counted: an addition only if a counter rises
 unfoldable pub counted : List ℕ → Counters → Counters
 counted ps s = if rose ps s then aged (with_addition ps s) else s
 

@@ -138,7 +138,7 @@ impl Sketch {
         least.min(counter_at(&self.row_2, places[2]).min(counter_at(&self.row_3, places[3])))
     }
 
-    /// Counts one occurrence of a key, at its four places, and answers whether a counter rose.
+    /// Counts one occurrence of a key, at its four places, and returns whether a counter rose.
     ///
     /// Counters stop at 15. At ten times `entries` additions all counters and the additions are
     /// halved, rounding down (the reset of TinyLFU; that a count at four full counters is no
@@ -171,7 +171,7 @@ impl Sketch {
     /// Counts each word once, in order, at the word's own places.
     ///
     /// On a sketch that had counted nothing, no word's estimate is then below the number that a
-    /// counter of its own would show: raised to at most 15 at each of its counts, and halved where
+    /// counter of its own would show: raised to at most 15 at each of its counts, and halved when
     /// the sketch halves. Never fails and takes no memory. O(words), and O(width) at each halving.
     pub fn count_all(&mut self, words: &[u64])
         ensures counted { self.new ≡ counted_words self.old words.now }

@@ -25,7 +25,7 @@ pub(crate) fn counter_at(row: &[u64], place: usize) -> u8
     ((row[place / 16] >> (4 * (place % 16))) % 16) as u8
 }
 
-// Raises the counter at a place where it is below 15, and answers whether it was.
+// Raises the counter at a place if it is below 15, and returns whether it was.
 pub(crate) fn raise(row: &mut [u64], place: usize) -> bool
     requires { place < 16 * length row.old }
     ensures row { unpacked row.new ≡ raised place (unpacked row.old) }

@@ -125,9 +125,9 @@ pub record IsWritten {W : Type 0} (contents : W → Option (List ℕ)) (old new 
   pub err : IfErr result (λ e. (e ≡ fault.WriteFault) × AppendsPrefix (contents old.inner) (contents new.inner) bytes)
   -- no fault is one of the options
   pub kind : IfErr result (λ e. is_config_fault e ≡ false)
-  -- the fault comes exactly where the writer failed
+  -- the fault comes exactly if the writer failed
   pub failed : Rises old.failures new.failures result fault.WriteFault
-  -- where all were written no failure was counted
+  -- if all were written no failure was counted
   pub fine : OnOk result (new.failures ≡ old.failures)
 
 -- what each replay promises of its reader and its writer, of which it did what `Did` says
@@ -139,13 +139,13 @@ pub record IsRun {R W : Type 0} (Did : Option (List ℕ) → Option (List ℕ) �
       (λ field. (result ≡ Err (fault.Cache (cache.BadConfig field))) × (read ≡ reader) × (written ≡ writer))
   -- what was read, and what was written of it
   pub replayed : Did (remaining reader.inner) (remaining read.inner) (contents writer.inner) (contents written.inner) result
-  -- a fault of the reader comes exactly where it failed
+  -- a fault of the reader comes exactly if it failed
   pub reads : Rises reader.failures read.failures result fault.ReadFault
   -- how often the reader is asked
   pub turns : read.reads ≤ reader.reads + read_end + 1
-  -- a fault of the writer comes exactly where it failed
+  -- a fault of the writer comes exactly if it failed
   pub writes : Rises writer.failures written.failures result fault.WriteFault
-  -- a shut gate is the fault only where it was shut
+  -- a shut gate is the fault only if it was shut
   pub shut : ShutsOnly stops result
 
 -- ---- the same in the words of a clause: of a key's members, of texts before and after, and of what a gate says

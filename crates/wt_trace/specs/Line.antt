@@ -35,7 +35,7 @@ module _ {K : Type 0} where
 -- ---- the relation
 
 module _ {K : Type 0} (IsKey : List ℕ → K → Type 0) where
-  -- a letter, and where there is a key a space and the key
+  -- a letter, and if there is a key a space and the key
   abbrev pub IsAsked : ℕ → Option K → List ℕ → Type 0
   IsAsked letter (Some k) bytes = (key : List ℕ) × IsKey key k × (bytes ≡ letter ∷ 32 ∷ key)
   IsAsked letter None bytes = bytes ≡ letter ∷ []

@@ -50,6 +50,6 @@ option_fault o =
 abbrev pub config_of : Options → Config
 config_of o = record { entries = o.entries; window = window_of o; bound = o.weight; after_write = o.write; after_access = o.access; refresh = o.refresh; flights = o.flights; ring = ring_of o }
 
--- what stands where nothing is given
+-- what stands if nothing is given
 abbrev pub default_options : Options
 default_options = record { shards = 1; entries = 1024; window = None; weight = 281474976710656; modulus = 1; write = None; access = None; refresh = None; fail_mod = None; flights = 32; ring = None; threads = 0; turn = 0; workers = 0 }

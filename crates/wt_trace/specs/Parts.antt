@@ -5,7 +5,7 @@ use Rattle.wt_trace.specs.Answers.{Answers}
 use Rattle.wt_trace.specs.Stops.{IsStop}
 use Rattle.wt_trace.specs.declared.fault.ReplayFault.{ReplayFault}
 
--- what thread t of `threads` makes of a shard: what it answers, where its number modulo the threads is t
+-- what thread t of `threads` makes of a shard: what it answers, if its number modulo the threads is t
 abbrev pub part_at : (ℕ → Answers) → ℕ → ℕ → ℕ → Option Answers
 part_at answers threads t shard = if shard % threads == t then Some (answers shard) else None
 

@@ -41,7 +41,7 @@ abbrev pub is_config_fault : ReplayFault → Bool
 is_config_fault (Cache (BadConfig field)) = true
 is_config_fault fault = false
 
--- Below the greatest count: this fault is answered exactly where the count rose.
+-- Below the greatest count: this fault is returned exactly if the count rose.
 abbrev pub Rises : {X : Type 0} → ℕ → ℕ → Result X ReplayFault → ReplayFault → Type 0
 Rises old new result fault = old < 2 ^ 64 - 1 → (result ≡ Err fault) ↔ (old < new)
 
@@ -49,7 +49,7 @@ Rises old new result fault = old < 2 ^ 64 - 1 → (result ≡ Err fault) ↔ (ol
 abbrev pub ShutsOnly : {X : Type 0} → (ℕ → Type 0) → Result X ReplayFault → Type 0
 ShutsOnly shut result = (n : ℕ) → result ≡ Err (GateShut n) → shut n
 
--- where a report was made, each line of the bytes that the reader gave was let through
+-- if a report was made, each line of the bytes that the reader gave was let through
 abbrev pub LetThrough : Options → (ℕ → Type 0) → Option (List ℕ) → Option (List ℕ) → Result (Unit {0}) ReplayFault → Type 0
 LetThrough o passed r s (Err (Cache fault)) = Unit {0}
 LetThrough o passed r s (Err ReadFault) = Unit {0}

@@ -55,7 +55,7 @@ summary all =
     (sum_text (codes " failed ") (λ s. s.failed) all ++ (sum_text (codes " evicted ") (λ s. s.evicted) all ++
     (sum_text (codes " entries ") (λ s. s.entries) all ++ (sum_text (codes " weight ") (λ s. s.weight) all ++ codes "\n")))))))
 
--- `count` lines by what the shards answer, and the summary where no line was at fault
+-- `count` lines by what the shards answer, and the summary if no line was at fault
 unfoldable pub printed : ℕ → ℕ → Bool → List Answers → List ℕ
 printed first count complete all = lines_text first all 0 count ++ (if complete then summary all else [])
 

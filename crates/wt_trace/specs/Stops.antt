@@ -1,4 +1,4 @@
--- Why a shard stops before its last line, and what was asked where it doesn't.
+-- Why a shard stops before its last line, and what was asked if it doesn't.
 use Rattle.std.specs.Prelude.{◌≡◌, ◌⊎◌, ◌+◌, ◌<◌, ℕ, Bool, true, false, List, [], ◌∷◌, drop}
 use Rattle.wt_trace.specs.declared.trace.line.Act.{Act}
 use Rattle.wt_trace.specs.declared.trace.line.Line.{Line}

@@ -78,7 +78,7 @@ impl ReplayFault {
 /// Returns the exit status of a run that ended by this fault, which is 1, and the line for standard
 /// error: `fault <number>`, then for an option ` field <name>`, for a line ` line <n>`.
 ///
-/// `NoMemory` where the line finds no memory; the status is 1 all the same.
+/// `NoMemory` if the line finds no memory; the status is 1 all the same.
 pub fn status_and_line(alloc: Global, fault: &ReplayFault) -> Result<(u8, String), NoMemory>
     ensures { IfOk result (λ r. (r.0 ≡ 1) × (string_bytes r.1 ≡ spec.fault_line fault.now)) }
 {

@@ -92,14 +92,14 @@ fn is_shard_count(n: u64) -> bool
 impl Options {
     ghost use Rattle.wt_trace.specs.Options.{option_fault, later_fault, window_of, ring_of, config_of};
 
-    // The window, where none was given its default.
+    // The window, its default if none was given.
     fn window(&self) -> u64
         ensures { result ≡ window_of self.now }
     {
         self.window.unwrap_or((self.entries / 100).max(1))
     }
 
-    // The ring, where none was given its default.
+    // The ring, its default if none was given.
     fn ring(&self) -> u64
         requires { self.now.flights < 2 ^ 63 }
         ensures { result ≡ ring_of self.now }
@@ -164,7 +164,7 @@ impl Options {
         None
     }
 
-    /// Checks each option against its range, in the order of the fields, and answers `BadConfig` of
+    /// Checks each option against its range, in the order of the fields, and returns `BadConfig` of
     /// the first that is out of it. Takes no memory.
     pub fn check(&self) -> Result<(), ReplayFault>
         ensures { IsChecked self.now result }
@@ -175,7 +175,7 @@ impl Options {
         }
     }
 
-    /// Returns what each shard is made for, where each option is in its range. Takes no memory.
+    /// Returns what each shard is made for, if each option is in its range. Takes no memory.
     pub fn config(&self) -> Config
         requires { option_fault self.now ≡ None }
         ensures { result ≡ config_of self.now }
@@ -192,7 +192,7 @@ impl Options {
         }
     }
 
-    /// Returns the number of shards, where each option is in its range: 1, 2 or 4.
+    /// Returns the number of shards, if each option is in its range: 1, 2 or 4.
     pub fn shards(&self) -> usize
         requires { option_fault self.now ≡ None }
         ensures value { result ≡ self.now.shards }

@@ -24,7 +24,7 @@ pub const MOST_BYTES: usize = 65_000_001;
 /// Returns all that the reader gives, or its first bytes up to a limit, which takes memory for
 /// them.
 ///
-/// `ReadFault` exactly where the reader failed; `NoMemory`, after which what was read is lost. The
+/// `ReadFault` exactly if the reader failed; `NoMemory`, after which what was read is lost. The
 /// reader is asked at most once for each byte of the limit, and once more.
 pub fn read_up_to<R: Read>(
     alloc: Global,
@@ -56,7 +56,7 @@ pub fn read_up_to<R: Read>(
 
 /// Writes all of the bytes. Takes no memory.
 ///
-/// `WriteFault` exactly where the writer failed or took nothing: a prefix of the bytes was written.
+/// `WriteFault` exactly if the writer failed or took nothing: a prefix of the bytes was written.
 pub fn write_out<W: Write>(writer: &mut Tallied<W>, bytes: &[u8]) -> Result<(), ReplayFault>
     ensures made { IsWritten W.contents writer.old writer.new bytes.now result }
 {
@@ -86,8 +86,8 @@ fn write_pieces<W: Write>(writer: &mut Tallied<W>, text: &Texts) -> Result<(), R
 ///
 /// Reads until the reader's end, its failure or 65,000,001 bytes, and makes the whole report before
 /// it writes. Faults in their order: an option out of its range (nothing was read or written);
-/// `ReadFault`, exactly where the reader failed, and no memory (nothing was written); `WriteFault`,
-/// exactly where the writer failed or took nothing (a prefix of the report was written); then the
+/// `ReadFault`, exactly if the reader failed, and no memory (nothing was written); `WriteFault`,
+/// exactly if the writer failed or took nothing (a prefix of the report was written); then the
 /// fault of the first faulty line (the report of the lines before it was written). Takes memory for
 /// the bytes, the shards and the report.
 pub fn replay<R: Read, W: Write>(
@@ -115,7 +115,7 @@ pub fn replay<R: Read, W: Write>(
 /// A line that the gate doesn't let through ends the run with `GateShut` of such a line, after all
 /// threads have ended; nothing was written. Where several threads fail, that of the least shard
 /// tells its fault. Takes memory as `replay` does, and for the lines, what the shards answer to them,
-/// and the threads. It isn't promised that the threads run at the same time: where one can't be made,
+/// and the threads. It isn't promised that the threads run at the same time: if one can't be made,
 /// its lines are run after those of another.
 pub fn replay_by_shard<H: Threads + Sync, R: Read, W: Write, G: Gate>(
     rt: &H,

@@ -29,7 +29,7 @@ use wt_core::{Call, Core, Notices, Reply, Stats};
 use wt_keys::{NoMemory, shard_of};
 
 // Bytes that are asked for at once for what a shard adds to a line: some 10 to a line that belongs
-// to it, which of four shards is every fourth. More are asked for where they are needed.
+// to it, which of four shards is every fourth. More are asked for if they are needed.
 const TEXT_A_LINE: usize = 4;
 
 // A shard with its cache, and what its latest call told.
@@ -227,7 +227,7 @@ fn belongs<K: TraceKey>(options: &Options, shard: usize, act: &Act<K>) -> bool
     }
 }
 
-// How long a text is, in 4 bytes: no memory where they can't hold it.
+// How long a text is, in 4 bytes: no memory if they can't hold it.
 fn end_of(text: &Vec<u8>) -> Result<u32, NoMemory>
     ensures { IfOk result (λ end. end ≡ vec_len text.now) }
 {

@@ -26,7 +26,7 @@ use wt_shards::{Books, Pass};
 /// How a load ended, for whoever ran it.
 #[derive(Drop)]
 pub(crate) struct Ran {
-    /// Whether the loader answered an error.
+    /// Whether the loader returned an error.
     pub failed: bool,
     /// Whether the landing was made.
     pub landed: Result<(), Fault>,
@@ -93,7 +93,7 @@ impl<
         Ok(())
     }
 
-    // Lands a load with its value: kept, or loose where the share or the landing found no memory.
+    // Lands a load with its value: kept, or loose if the share or the landing found no memory.
     fn land_value<R: Wait>(
         &self,
         rt: &R,

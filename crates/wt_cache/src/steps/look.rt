@@ -20,7 +20,7 @@ impl<
     L: Loader<K, V> + Drop,
     B: Books,
 > LoadingCache<K, V, L, B> {
-    /// Returns a share of the key's value, `Hit`, or `Absent` where there is none. Loads nothing,
+    /// Returns a share of the key's value, `Hit`, or `Absent` if there is none. Loads nothing,
     /// and waits for no load.
     ///
     /// `now` is in milliseconds. `StepsSpent` comes before `NoMemory`, which a hit can meet, and a

@@ -104,7 +104,7 @@ impl<
         }
     }
 
-    // Has a load run: by a worker where the line takes it, else here.
+    // Has a load run: by a worker if the line takes it, else here.
     //
     // What a late poster needs is made before the post, so that afterwards nothing is refused.
     fn hand_on<R: Wait>(

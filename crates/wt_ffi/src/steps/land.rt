@@ -78,9 +78,9 @@ pub extern "C" fn rd_land_failed(
     )
 }
 
-/// Closes a load of the name with a value, which is stored where the load is current.
+/// Closes a load of the name with a value, which is stored if the load is current.
 ///
-/// It answers as `rd_land_keep` does: `RD_KEPT`, `RD_LOOSE` or `RD_GONE`. Takes memory only if it
+/// It returns as `rd_land_keep` does: `RD_KEPT`, `RD_LOOSE` or `RD_GONE`. Takes memory only if it
 /// stores. Expected O(1), O(entries) in a trim.
 #[unsafe(no_mangle)]
 pub extern "C" fn rd_land_keep_name(

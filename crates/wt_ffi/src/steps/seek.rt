@@ -30,7 +30,7 @@ pub extern "C" fn rd_seek(
 
 /// Looks the name up, and if it isn't there, joins its current load or opens one.
 ///
-/// It answers as `rd_seek` does. Expected O(1), unless an attacker chooses the names.
+/// It returns as `rd_seek` does. Expected O(1), unless an attacker chooses the names.
 #[unsafe(no_mangle)]
 pub extern "C" fn rd_seek_name(
     alloc: Global,

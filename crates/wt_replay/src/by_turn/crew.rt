@@ -68,7 +68,7 @@ fn turns<K: TraceKey, N: Names + Send + Sync, G: Gate, R: Threads + Wait + Sync>
     )
 }
 
-// Closes the line of loads where no worker comes to it, so that each caller loads for itself.
+// Closes the line of loads if no worker comes to it, so that each caller loads for itself.
 fn await_worker<K: TraceKey, N: Names + Send + Sync, R: Wait>(
     rt: &R,
     cache: &LoadingCache<K, Version<K>, TraceLoader, Of<N>>,

@@ -58,7 +58,7 @@ impl<K: CacheKey, V: Share + Weighs + Answers<K>, S: ShardLedger, H: Ledger> Sha
         ensures refusal { MatchOption (refusal_of K.eq K.word V.weight self.old.core call)
             (IsOkUnless result fault.NoMemory) (λ f. (result ≡ Err f) × (self.new ≡ self.old)) }
         ensures faults { IfErr result (λ f. is_fault_of call f ≡ true) }
-        // No memory is refused to a call that takes none where no record goes over.
+        // No memory is refused to a call that takes none if no record goes over.
         ensures none_succeeds { refusal_of K.eq K.word V.weight self.old.core call ≡ None
             → TakesNone K.eq V.weight self.old.core call
             → excess K.eq K.word V.weight call self.old ≡ 0 → IsOk result }

@@ -51,7 +51,7 @@ fn hits_sum<B: Books>(passes: &Vec<Pass<B>>, shard: usize) -> Option<u64>
     Some(sum)
 }
 
-// Ends a shard whose lock is gone: its books are closed exactly where the passes add up to them.
+// Ends a shard whose lock is gone: its books are closed exactly if the passes add up to them.
 fn close<
     K: CacheKey,
     V: Share + Weighs + Answers<K> + Send + Sync,

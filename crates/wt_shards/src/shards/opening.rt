@@ -41,7 +41,7 @@ fn locked<K: CacheKey, V: Share + Weighs + Answers<K> + Send + Sync, S: ShardLed
     Ok(Some(Mutex::new(shard)))
 }
 
-// Shares of the books of one shard, where there is one.
+// Shares of the books of one shard, if there is one.
 fn shares_at<
     K: CacheKey,
     V: Share + Weighs + Answers<K> + Send + Sync,
@@ -65,7 +65,7 @@ fn shares_at<
 impl<K: CacheKey, V: Share + Weighs + Answers<K> + Send + Sync, B: Books> Shards<K, V, B> {
     /// Makes `shards` empty shards, 1, 2 or 4, each for this configuration.
     ///
-    /// `BadConfig` of the number of shards first, then as `Config::check` answers it, before memory
+    /// `BadConfig` of the number of shards first, then as `Config::check` returns it, before memory
     /// is asked for. Takes memory for each shard as `Shard::new` does. Takes no lock, and `rt`
     /// isn't used. O(shards × (entries + ring)).
     pub fn new<R>(
@@ -101,7 +101,7 @@ impl<K: CacheKey, V: Share + Weighs + Answers<K> + Send + Sync, B: Books> Shards
         Ok(made)
     }
 
-    // The shards, where their number is allowed.
+    // The shards, if their number is allowed.
     fn made(
         alloc: Global,
         blanks: Blanks,

@@ -12,7 +12,7 @@ use std::sync::{Mutex, Wait};
 use wt_core::{Stats, Weighs};
 use wt_keys::{Answers, CacheKey, Share};
 
-// The numbers of one shard, where there is one.
+// The numbers of one shard, if there is one.
 fn stats_at<
     K: CacheKey,
     V: Share + Weighs + Answers<K> + Send + Sync,

@@ -14,7 +14,7 @@ use std::thread;
 use std::thread::Threads;
 use wt_keys::NoMemory;
 
-// Bytes that are asked for at once for a printed line. More are asked for where they are needed.
+// Bytes that are asked for at once for a printed line. More are asked for if they are needed.
 const PRINTED_A_LINE: usize = 24;
 
 // Appends line i of the report: its number, and what each shard adds to it.

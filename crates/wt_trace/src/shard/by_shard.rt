@@ -24,7 +24,7 @@ use std::thread;
 use std::thread::Threads;
 use wt_keys::Name;
 
-// What a thread makes: a place for each shard, where its own stand as what they answer.
+// What a thread makes: a place for each shard, of which its own hold what they answer.
 #[derive(Drop)]
 struct Part {
     places: Vec<Option<Answers>>,
