@@ -9,6 +9,9 @@ use wt_keys::{Fault, NoMemory, Share};
 use wt_regions::{Caps, Found, Notices, Regions, Weighs};
 use wt_sketch::Sketch;
 
+// The stamp of each store: the greatest, so that none is refused for its stamp.
+const STAMP: u64 = u64::MAX;
+
 // Regions with a sketch, which counts the key of each look and each put last, and with the notices
 // of the latest step alone.
 #[derive(Drop)]
@@ -43,7 +46,7 @@ impl<V: Share + Weighs> Run<V> {
     fn put(&mut self, key: u64, value: V, now: u64) -> Result<(), Fault> {
         self.notices.empty();
         self.regions
-            .store(key, value, now, 0, &self.sketch, &mut self.notices)?;
+            .store(key, value, now, STAMP, &self.sketch, &mut self.notices)?;
         self.sketch.count_all(&[key]);
         Ok(())
     }

@@ -3,7 +3,7 @@ use super::{Run, caps};
 use std::process::Abort;
 use std::test::Fail;
 use wt_keys::{Fault, Field, Shared};
-use wt_regions::{Caps, Cause, Found, Region, Regions, Weighs};
+use wt_regions::{Caps, Cause, Found, Notices, Region, Regions, Weighs};
 use wt_tests::Loaded;
 
 impl Run<Loaded> {
@@ -231,5 +231,13 @@ fn a_shared_value_weighs_as_its_value(rt: HostRuntime) -> Result<(), Fail> {
     ] {
         assert_eq!(rt; cause.was_evicted(), evicted);
     }
+    Ok(())
+}
+
+#[test]
+fn notices_of_no_room_are_made(rt: HostRuntime) -> Result<(), Fail> {
+    let none: Notices<u64, Loaded> = Notices::new(rt.alloc(), 0)?;
+    assert!(rt; none.has_room(0) && !none.has_room(1));
+    assert!(rt; none.list().is_empty());
     Ok(())
 }
