@@ -18,7 +18,7 @@ module _ {K V : Type 0} where
     abbrev pub without_expired : K → ℕ → Lists K V → Told K V
     without_expired k now r = option_map_or (λ h. if is_expired r.caps now h then (without eq k r, notice Expired (k, h) ∷ []) else (r, [])) (held_for eq k r) (r, [])
 
-    -- what is told if the entry of the key leaves: Expired if it is expired, else Explicit
+    -- the notice if the entry of the key leaves: Expired if it is expired, else Explicit
     abbrev pub removal : K → ℕ → Lists K V → List (Notice K V)
     removal k now r = option_map_or (λ h. notice (if is_expired r.caps now h then Expired else Explicit) (k, h) ∷ []) (held_for eq k r) []
 
