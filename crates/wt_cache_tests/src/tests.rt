@@ -3,17 +3,11 @@
 mod asleep;
 mod callers;
 mod calls;
-mod late;
 mod leads;
-mod lending;
-mod lines;
 mod one_caller;
 mod refusals;
-mod serving;
-mod shares;
 mod soak;
 mod stage;
-mod tallies;
 mod threads;
 mod together;
 mod workers;

@@ -1,11 +1,12 @@
-//! What the tests of several crates share: a value, one whose shares can be refused, what is done
-//! and said as rows of a table, random numbers, and the rules of the regions once more over plain
-//! lists. Its contracts promise nothing.
+//! What the tests of several crates share: a value, one whose shares can be refused, one whose
+//! shares wait, what is done and said as rows of a table, random numbers, and the rules of the
+//! regions once more over plain lists. Its contracts promise nothing.
 #![tactic(auto)]
 
 mod acts;
 mod dice;
 mod fussy;
+mod gated;
 mod lists;
 mod loaded;
 mod said;
@@ -13,6 +14,7 @@ mod said;
 pub use acts::{Do, call_of, choose};
 pub use dice::Dice;
 pub use fussy::Fussy;
+pub use gated::{Gate, Gated};
 pub use lists::{Lists, Row, is_past};
 pub use loaded::{Loaded, light};
 pub use said::{Said, comparable};

@@ -6,7 +6,7 @@ use crate::tests::asleep::sleepers;
 use crate::tests::calls::{Led, get, led};
 use crate::tests::stage::{Cache, Marks, Plain, Rules, Version, Way, new_marks};
 use crate::tests::threads::{given_up, one_load, put_beside_load};
-use crate::tests::workers::{full_line, one_worker, refresh, two_workers};
+use crate::tests::workers::{full_line, many_loads, one_worker, refresh, two_workers};
 use std::alloc::Global;
 use std::marker::Brand;
 use std::process::Abort;
@@ -28,6 +28,8 @@ pub enum Scene {
     FullLine,
     /// One worker runs the loads of one caller, of which the first fails.
     OneWorker,
+    /// One worker runs the loads of one caller, more than a line may have places.
+    ManyLoads,
     /// Two workers run two loads, each of which ends only once the other has begun.
     TwoWorkers,
     /// One worker loads a value that is due.
@@ -43,7 +45,11 @@ impl Scene {
     fn way(self) -> Way {
         match self {
             Scene::OneLoad | Scene::PutBesideLoad => Way::HoldsOne,
-            Scene::FullLine | Scene::Refresh | Scene::GivenUp | Scene::Sleepers => Way::Plain,
+            Scene::FullLine
+            | Scene::ManyLoads
+            | Scene::Refresh
+            | Scene::GivenUp
+            | Scene::Sleepers => Way::Plain,
             Scene::OneWorker => Way::FailsOne,
             Scene::TwoWorkers => Way::InPairs,
         }
@@ -53,7 +59,7 @@ impl Scene {
     fn places(self) -> u32 {
         match self {
             Scene::OneLoad | Scene::PutBesideLoad | Scene::GivenUp => 0,
-            Scene::FullLine | Scene::OneWorker | Scene::Refresh => 1,
+            Scene::FullLine | Scene::OneWorker | Scene::ManyLoads | Scene::Refresh => 1,
             Scene::TwoWorkers | Scene::Sleepers => 2,
         }
     }
@@ -115,6 +121,7 @@ fn act<N: Names + Send + Sync, R: Threads + Wait + Abort + Sync>(
         Scene::PutBesideLoad => put_beside_load(rt, alloc, cache, marks),
         Scene::FullLine => full_line(rt, alloc, cache, open),
         Scene::OneWorker => one_worker(rt, alloc, cache),
+        Scene::ManyLoads => many_loads(rt, alloc, cache),
         Scene::TwoWorkers => two_workers(rt, alloc, cache),
         Scene::Refresh => refresh(rt, alloc, cache),
         Scene::Sleepers => sleepers(rt, alloc, cache),
@@ -145,8 +152,9 @@ fn played<N: Names + Send + Sync, R: Threads + Wait + Abort + Sync>(
     act(rt, alloc, &cache, marks, open, scene)
 }
 
-// The one place that names the ledgers of these caches.
-fn plays_at<R: Threads + Wait + Abort + Sync>(
+/// Plays on a cache of `count` shards, 1, 2 or 4. The one place that names the ledgers of these
+/// caches.
+pub fn plays_at<R: Threads + Wait + Abort + Sync>(
     rt: &R,
     alloc: Global,
     config: &Config,

@@ -1,7 +1,7 @@
 // The line and its workers: who runs a load, and what is reported.
 use crate::tests::calls::{Led, get, put};
 use crate::tests::stage::{Cache, Version, config};
-use crate::tests::together::{Answer, Scene, gets, plays};
+use crate::tests::together::{Answer, Scene, gets, plays, plays_at};
 use std::alloc::Global;
 use std::process::Abort;
 use std::sync::Wait;
@@ -82,17 +82,16 @@ fn beside_a_full_or_closed_line_the_caller_loads(rt: HostRuntime) -> Result<(), 
     Ok(())
 }
 
-// One caller gets three keys in turn; then the line is closed.
-fn get_three<N: Names, R: Wait>(
-    rt: &R,
-    alloc: Global,
-    cache: &Cache<N>,
-) -> (Answer, Answer, Answer) {
-    let one = gets(rt, alloc, cache, 1);
-    let two = gets(rt, alloc, cache, 2);
-    let three = gets(rt, alloc, cache, 6);
+// One caller gets three keys in turn, and the first once more; then the line is closed.
+fn get_four<N: Names, R: Wait>(rt: &R, alloc: Global, cache: &Cache<N>) -> [Answer; 4] {
+    let got = [
+        gets(rt, alloc, cache, 1),
+        gets(rt, alloc, cache, 2),
+        gets(rt, alloc, cache, 6),
+        gets(rt, alloc, cache, 1),
+    ];
     close(rt, cache);
-    (one, two, three)
+    got
 }
 
 /// One worker beside one caller, in a cache whose shards have one entry each, and whose loader
@@ -104,19 +103,63 @@ pub fn one_worker<N: Names + Send + Sync, R: Threads + Wait + Abort + Sync>(
 ) -> Result<(), Fault> {
     let (got, report) = thread::join(
         rt,
-        || get_three(rt, alloc, cache),
+        || get_four(rt, alloc, cache),
         || works(rt, alloc, cache),
     );
-    assert_eq!(rt; got.0, Err(Fault::LoadFailed { code: 300 }));
-    assert_eq!(rt; got.1, Ok((How::Loaded, 0)));
-    assert_eq!(rt; got.2, Ok((How::Loaded, 0)));
-    assert_eq!(rt; report, Ok((3, 1, 1)));
+    let failed: Answer = Err(Fault::LoadFailed { code: 300 });
+    let loaded = Ok((How::Loaded, 0));
+    assert_eq!(rt; got, [failed, loaded, loaded, failed]);
+    assert_eq!(rt; report, Ok((4, 2, 1)));
     Ok(())
 }
 
 #[test]
 fn a_worker_counts_jobs_failures_and_removals(rt: HostRuntime) -> Result<(), Fail> {
     plays(&rt, rt.alloc(), &config(1, 8, None), Scene::OneWorker)?;
+    Ok(())
+}
+
+// More loads than a line may have places.
+const MANY: u64 = 5_000;
+
+// One caller gets many keys in turn. Returns how many were loaded.
+fn load_many<N: Names, R: Wait>(rt: &R, alloc: Global, cache: &Cache<N>) -> Result<u64, Fault> {
+    let mut pass = cache.pass(rt, alloc)?;
+    let mut loaded = 0u64;
+    for key in 0..MANY {
+        let (how, _line, _step) = get(rt, alloc, cache, &mut pass, key, 0)?;
+        if how == How::Loaded {
+            loaded = loaded.wrapping_add(1);
+        }
+    }
+    Ok(loaded)
+}
+
+/// One worker beside one caller that gets many keys. The worker runs each load, and reports each
+/// entry that isn't in the cache any more.
+pub fn many_loads<N: Names + Send + Sync, R: Threads + Wait + Abort + Sync>(
+    rt: &R,
+    alloc: Global,
+    cache: &Cache<N>,
+) -> Result<(), Fault> {
+    let (got, report) = thread::join(
+        rt,
+        || {
+            let loaded = load_many(rt, alloc, cache);
+            close(rt, cache);
+            loaded
+        },
+        || works(rt, alloc, cache),
+    );
+    assert_eq!(rt; got, Ok(MANY));
+    let left = MANY.wrapping_sub(cache.stats(rt).entries);
+    assert_eq!(rt; report, Ok((MANY, 0, left)));
+    Ok(())
+}
+
+#[test]
+fn a_worker_runs_loads_until_the_line_is_closed(rt: HostRuntime) -> Result<(), Fail> {
+    plays_at(&rt, rt.alloc(), &config(4, 8, None), 1, Scene::ManyLoads)?;
     Ok(())
 }
 

@@ -1,94 +1,29 @@
-// Shards have locks of their own: while one look holds its shard, each call at another shard goes on.
+// Shards have locks of their own: while one look holds its shard, each call at another shard goes on,
+// and a clear that waits for it holds no other.
 ghost use Rattle.std.specs.Prelude.{◌≡◌};
 ghost use Rattle.wt_shards.specs.Opening.{AreBlanksOf};
 
 use super::config;
 use std::alloc::Global;
-use std::marker::{Brand, Model};
-use std::sync::atomic::{AtomicBool, Ordering};
+use std::marker::Brand;
 use std::sync::{Arc, Wait};
 use std::test::Fail;
 use std::thread;
 use std::thread::Threads;
-use wt_core::{Config, Land, Notices, Reply, Weighs};
-use wt_keys::{Answers, Fault, NoMemory, Share};
+use wt_core::{Config, Land, Notices, Reply};
+use wt_keys::Fault;
 use wt_shards::{Blanks, Books, Names, Of, Pass, Shards, Sought};
-
-#[derive(Drop)]
-struct Marks {
-    begun: AtomicBool,
-    open: AtomicBool,
-}
-
-// Whether the mark is set within so many turns.
-fn comes(mark: &AtomicBool) -> bool {
-    for _ in 0..10_000_000u32 {
-        if mark.load(Ordering::SeqCst) {
-            return true;
-        }
-        thread::yield_now();
-    }
-    false
-}
-
-// A value whose share waits for a mark, if it has marks.
-#[derive(Drop)]
-struct Gated {
-    marks: Option<Arc<Marks, Global>>,
-}
-
-/// Contracts see nothing of it, so that a share equals its value whatever its marks are.
-impl Model for Gated {
-    ghost use Rattle.std.specs.Prelude.{ℕ};
-
-    ghost Value = { ℕ };
-
-    ghost view = { λ v. 0 };
-}
-
-impl Share for Gated {
-    fn share(&self) -> Result<Gated, NoMemory> {
-        let Some(shared) = &self.marks else {
-            return Ok(Gated { marks: None });
-        };
-        let marks: &Marks = shared;
-        marks.begun.store(true, Ordering::SeqCst);
-        if !comes(&marks.open) {
-            return Err(NoMemory);
-        }
-        Ok(Gated {
-            marks: Some(Arc::try_clone(shared)?),
-        })
-    }
-}
-
-impl Weighs for Gated {
-    ghost weight = { λ v. 1 };
-
-    fn weight(&self) -> u32 {
-        1
-    }
-}
-
-impl Answers<u64> for Gated {
-    ghost use Rattle.std.specs.Prelude.{true};
-
-    ghost answers = { λ v key. true };
-
-    fn answers(&self, _key: &u64) -> bool {
-        true
-    }
-}
+use wt_tests::{Gate, Gated};
 
 fn is_hit<B: Books, R: Wait>(
     rt: &R,
     alloc: Global,
     shards: &Shards<u64, Gated, B>,
-    mut pass: Pass<B>,
+    pass: &mut Pass<B>,
     key: u64,
 ) -> Result<bool, Fault> {
     let mut notices = Notices::new(alloc, shards.entries() as usize)?;
-    match shards.look(rt, &mut pass, key, 0, &mut notices) {
+    match shards.look(rt, pass, key, 0, &mut notices) {
         Ok(done) => match done.reply {
             Reply::Hit(_) => Ok(true),
             _ => Ok(false),
@@ -120,7 +55,7 @@ fn calls_meet<B: Books, R: Wait>(
     pass: &mut Pass<B>,
     key: u64,
 ) -> Result<bool, Fault> {
-    put(rt, alloc, shards, pass, key, Gated { marks: None })?;
+    put(rt, alloc, shards, pass, key, Gated::free())?;
     let room = shards.entries() as usize;
     let mut notices = Notices::new(alloc, room)?;
     let dropped = shards.drop_key(rt, pass, key, 0, &mut notices)?.reply;
@@ -153,30 +88,21 @@ fn look_apart<N: Names + Send + Sync, R: Threads + Wait + Sync>(
     let shards: Shards<u64, Gated, Of<N>> = Shards::new(rt, alloc, blanks, limits, 4)?;
     let mut a = shards.pass(rt, alloc)?;
     let mut b = shards.pass(rt, alloc)?;
-    let marks = Arc::new(
-        alloc,
-        Marks {
-            begun: AtomicBool::new(false),
-            open: AtomicBool::new(false),
-        },
-    )?;
-    let theirs = Arc::try_clone(&marks)?;
-    let gated = Gated {
-        marks: Some(theirs),
-    };
+    let gate = Gate::new(alloc)?;
+    let gated = Gated::by(Arc::try_clone(&gate)?);
     put(rt, alloc, &shards, &mut a, 4, gated)?;
-    put(rt, alloc, &shards, &mut a, 3, Gated { marks: None })?;
+    put(rt, alloc, &shards, &mut a, 3, Gated::free())?;
     let shared = &shards;
-    let marks: &Marks = &marks;
+    let gate: &Gate = &gate;
     let (a, b) = thread::join(
         rt,
-        || is_hit(rt, alloc, shared, a, 4),
+        || is_hit(rt, alloc, shared, &mut a, 4),
         || -> Result<bool, Fault> {
-            let begun = comes(&marks.begun);
+            let begun = gate.begins();
             let met = calls_meet(rt, alloc, shared, &mut b, 3);
-            let put = put(rt, alloc, shared, &mut b, 3, Gated { marks: None });
-            let hit = is_hit(rt, alloc, shared, b, 3);
-            marks.open.store(true, Ordering::SeqCst);
+            let put = put(rt, alloc, shared, &mut b, 3, Gated::free());
+            let hit = is_hit(rt, alloc, shared, &mut b, 3);
+            gate.open();
             put?;
             Ok(begun && met? && hit?)
         },
@@ -188,5 +114,92 @@ fn look_apart<N: Names + Send + Sync, R: Threads + Wait + Sync>(
 fn shards_have_locks_of_their_own(rt: HostRuntime) -> Result<(), Fail> {
     let hits = look_apart::<Brand, HostRuntime>(&rt, rt.alloc(), Blanks::new(), &config(1000));
     assert_eq!(rt; hits, Ok((true, true)));
+    Ok(())
+}
+
+// Takes out all that is in the four shards.
+fn clear<B: Books, R: Wait>(
+    rt: &R,
+    alloc: Global,
+    shards: &Shards<u64, Gated, B>,
+    pass: &mut Pass<B>,
+) -> Result<(), Fault> {
+    let count = shards.shards();
+    if count > 4 {
+        return Err(Fault::Mixed);
+    }
+    let mut notices = Notices::new(alloc, count * shards.entries() as usize)?;
+    shards.clear(rt, pass, 0, &mut notices)
+}
+
+// Returns whether the key's entry leaves within 10,000,000 turns.
+fn leaves<B: Books, R: Wait>(
+    rt: &R,
+    alloc: Global,
+    shards: &Shards<u64, Gated, B>,
+    pass: &mut Pass<B>,
+    key: u64,
+) -> Result<bool, Fault> {
+    for _ in 0..10_000_000u32 {
+        if !is_hit(rt, alloc, shards, pass, key)? {
+            return Ok(true);
+        }
+        thread::yield_now();
+    }
+    Ok(false)
+}
+
+// Of four shards key 1 is of the last, and key 2 of the one before it.
+fn clear_apart<N: Names + Send + Sync, R: Threads + Wait + Sync>(
+    rt: &R,
+    alloc: Global,
+    blanks: Blanks,
+    limits: &Config,
+) -> Result<(bool, bool), Fault>
+    requires layout { N.layout ≡ record { shards = 4; config = limits.now } }
+    requires blanks { AreBlanksOf N.name blanks }
+{
+    let shards: Shards<u64, Gated, Of<N>> = Shards::new(rt, alloc, blanks, limits, 4)?;
+    let mut a = shards.pass(rt, alloc)?;
+    let mut b = shards.pass(rt, alloc)?;
+    let mut c = shards.pass(rt, alloc)?;
+    let gate = Gate::new(alloc)?;
+    put(
+        rt,
+        alloc,
+        &shards,
+        &mut a,
+        1,
+        Gated::by(Arc::try_clone(&gate)?),
+    )?;
+    put(rt, alloc, &shards, &mut a, 2, Gated::free())?;
+    let shared = &shards;
+    let gate: &Gate = &gate;
+    let (held, (cleared, gone)) = thread::join(
+        rt,
+        || is_hit(rt, alloc, shared, &mut a, 1),
+        || {
+            thread::join(
+                rt,
+                || -> Result<bool, Fault> {
+                    let begun = gate.begins();
+                    clear(rt, alloc, shared, &mut b)?;
+                    Ok(begun)
+                },
+                || -> Result<bool, Fault> {
+                    let gone = leaves(rt, alloc, shared, &mut c, 2);
+                    gate.open();
+                    gone
+                },
+            )
+        },
+    );
+    Ok((held?, cleared? && gone?))
+}
+
+#[test]
+fn a_clear_holds_one_lock_at_a_time(rt: HostRuntime) -> Result<(), Fail> {
+    let seen = clear_apart::<Brand, HostRuntime>(&rt, rt.alloc(), Blanks::new(), &config(1000));
+    assert_eq!(rt; seen, Ok((true, true)));
     Ok(())
 }

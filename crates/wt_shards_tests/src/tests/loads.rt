@@ -1,18 +1,20 @@
-// What becomes of a load: its outcome is read by all who share it.
+// What becomes of a load: all that share it read its outcome, which goes with the last of them.
 ghost use Rattle.std.specs.Prelude.{◌≡◌};
 ghost use Rattle.wt_shards.specs.Opening.{AreBlanksOf};
 
 use super::run::Run;
 use super::{answered, config};
 use std::alloc::Global;
+use std::cell::Cell;
 use std::marker::{Brand, Model};
 use std::process::Abort;
+use std::rc::Rc;
 use std::test::Fail;
-use wt_core::Config;
+use wt_core::{Config, Land};
 use wt_flights::{Lead, Outcome, Publish, Ticket};
 use wt_keys::Fault;
 use wt_shards::{Blanks, Names, Sought};
-use wt_tests::{Do, Loaded, Said, call_of, light};
+use wt_tests::{Do, Fussy, Loaded, Said, call_of, light};
 
 // The leads and tickets that seeks answered, in this order.
 #[derive(Drop)]
@@ -184,5 +186,52 @@ fn a_join_reads_what_the_lead_publishes(rt: HostRuntime) -> Result<(), Fail> {
         (Act::Poll(1), 7, 6, Told::Value(value)),
     ];
     share_a_load::<Brand>(&rt, rt.alloc(), Blanks::new(), &config(1000), &rows)?;
+    Ok(())
+}
+
+// Opens a load of key 7, and drops the ticket.
+fn opened<N: Names>(run: &mut Run<Fussy, N>) -> Result<Lead<u64, Fussy>, Fault> {
+    match run.seek(7, 3)? {
+        Sought::Lead(lead, _ticket) => Ok(lead),
+        _ => Err(Fault::Mixed),
+    }
+}
+
+// Joins the load of key 7, and drops the ticket. Returns whether it was open.
+fn joins<N: Names>(run: &mut Run<Fussy, N>) -> Result<bool, Fault> {
+    Ok(matches!(run.seek(7, 4)?, Sought::Join(_)))
+}
+
+// Publishes the value of a load, and drops the ticket. Returns whether it was the first outcome.
+fn publishes(lead: Lead<u64, Fussy>, value: Fussy) -> bool {
+    matches!(lead.publish(Outcome::Value(value)), Publish::Published(_))
+}
+
+// A load with one joiner, whose value is published. Once all that share it are dropped and the load
+// has landed, nothing owns the value.
+fn share_and_drop<N: Names>(
+    rt: &impl Abort,
+    alloc: Global,
+    blanks: Blanks,
+    limits: &Config,
+) -> Result<(), Fault>
+    requires layout { N.layout ≡ record { shards = 1; config = limits.now } }
+    requires blanks { AreBlanksOf N.name blanks }
+{
+    let mut run: Run<Fussy, N> = Run::new(alloc, limits, blanks)?;
+    let owned = Rc::new(alloc, Cell::new(0))?;
+    let lead = opened(&mut run)?;
+    let id = lead.id();
+    assert!(rt; joins(&mut run)?);
+    assert!(rt; publishes(lead, Fussy::new(5, owned.clone()?)));
+    assert_eq!(rt; Rc::strong_count(&owned), 2);
+    run.land(id, 7, Land::Loose, 5)?;
+    assert_eq!(rt; Rc::strong_count(&owned), 1);
+    Ok(())
+}
+
+#[test]
+fn a_value_goes_with_the_last_who_shares_its_load(rt: HostRuntime) -> Result<(), Fail> {
+    share_and_drop::<Brand>(&rt, rt.alloc(), Blanks::new(), &config(1000))?;
     Ok(())
 }

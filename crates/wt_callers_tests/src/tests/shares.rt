@@ -1,9 +1,8 @@
-// Values of which one share is refused: who loads finds no place for the value and answers it all
-// the same, who asks is refused, and what is asked again goes well.
+// Values of which one share is refused: a caller that loads can't store the value and returns it all
+// the same, a caller that only asks is refused, and the same call made again succeeds.
 ghost use Rattle.std.specs.Prelude.{◌≡◌};
 ghost use Rattle.wt_shards.specs.Opening.{AreBlanksOf};
 
-use crate::tests::stage::config;
 use std::alloc::Global;
 use std::marker::{Brand, Model};
 use std::process::Abort;
@@ -332,7 +331,7 @@ fn plays_at<R: Wait + Abort>(
 
 #[test]
 fn a_value_that_cannot_be_shared_is_not_stored(rt: HostRuntime) -> Result<(), Fail> {
-    let config = config(4, 8, None);
+    let config = Config::of(4).with_refresh(50);
     for row in rows() {
         plays_at(&rt, rt.alloc(), &config, 1, row)?;
         plays_at(&rt, rt.alloc(), &config, 4, row)?;

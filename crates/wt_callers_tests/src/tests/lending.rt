@@ -3,7 +3,6 @@
 ghost use Rattle.std.specs.Prelude.{◌≡◌};
 ghost use Rattle.wt_shards.specs.Opening.{AreBlanksOf};
 
-use crate::tests::stage::{Plain, Rules, Version, Way, config, new_marks};
 use std::alloc::Global;
 use std::marker::Brand;
 use std::process::Abort;
@@ -11,16 +10,30 @@ use std::sync::Wait;
 use std::test::Fail;
 use std::thread;
 use std::thread::Threads;
-use wt_cache::{Caller, Callers, How, LoadingCache};
+use wt_cache::{Caller, Callers, How, Keyed, Loader, LoadingCache};
 use wt_core::{Cause, Config, Notices, Reply};
 use wt_keys::Fault;
 use wt_shards::{Blanks, Names, Of, Shards};
 
-// A cache of versions that lends callers.
-type Lender<N> = Callers<u64, Version, Rules, Of<N>>;
+// A number that knows its key.
+type Number = Keyed<u64, u64>;
+
+// A source that has 0 for each key.
+#[derive(Drop)]
+struct Zeros {}
+
+impl Loader<u64, Number> for Zeros {
+    fn load(&self, key: &u64) -> Result<Number, u32> {
+        let key = *key;
+        Ok(Keyed { key, value: 0 })
+    }
+}
+
+// A cache of numbers that lends callers.
+type Lender<N> = Callers<u64, Number, Zeros, Of<N>>;
 
 // A caller of it.
-type Lent<'c, N, R> = Caller<'c, u64, Version, Rules, Of<N>, R>;
+type Lent<'c, N, R> = Caller<'c, u64, Number, Zeros, Of<N>, R>;
 
 // What is done with the callers.
 #[derive(Clone, Copy, Debug, PartialEq, Eq)]
@@ -35,12 +48,12 @@ enum Play {
 // What a cache ended with: its passes, and the steps and hits of the settled books.
 type Ended = (usize, u64, u64);
 
-// Gets a key by a caller that is lent for it: the line of the version.
+// Gets the number of a key by a caller that is lent for it.
 fn ask<N: Names, R: Wait>(rt: &R, callers: &Lender<N>, key: u64) -> Result<u64, Fault> {
     let mut caller = callers.lend(rt)?;
     let got = caller.get(key, 0);
     caller.give_back();
-    Ok(got?.value.line)
+    Ok(got?.value.value)
 }
 
 // Lends a caller 70,000 times, each for one get of key 1.
@@ -82,19 +95,19 @@ fn at_once<N: Names, R: Wait + Abort>(
 // The one entry that left in a caller's latest call, if it was one.
 fn left_of<N: Names, R: Wait>(caller: &Lent<'_, N, R>) -> Option<(u64, u64, Cause)> {
     match caller.left() {
-        [one] => Some((one.key, one.value.line, one.cause)),
+        [one] => Some((one.key, one.value.value, one.cause)),
         _ => None,
     }
 }
 
 // Each call on a key, and what left in it.
 fn uses<N: Names, R: Wait + Abort>(rt: &R, caller: &mut Lent<'_, N, R>) -> Result<(), Fault> {
-    caller.put(1, Version { key: 1, line: 5 }, 0)?;
+    caller.put(1, Keyed { key: 1, value: 5 }, 0)?;
     assert_eq!(rt; caller.left().len(), 0);
-    caller.put(1, Version { key: 1, line: 6 }, 0)?;
+    caller.put(1, Keyed { key: 1, value: 6 }, 0)?;
     assert_eq!(rt; left_of(caller), Some((1, 5, Cause::Replaced)));
     let got = caller.get(1, 0)?;
-    assert_eq!(rt; (got.how, got.value.line), (How::Hit, 6));
+    assert_eq!(rt; (got.how, got.value.value), (How::Hit, 6));
     assert_eq!(rt; caller.left().len(), 0);
     assert!(rt; matches!(caller.get_if_present(2, 0)?.reply, Reply::Absent));
     assert_eq!(rt; caller.get(2, 0)?.how, How::Loaded);
@@ -218,13 +231,8 @@ fn played<N: Names + Send + Sync, R: Threads + Wait + Abort + Sync>(
     requires layout { N.layout ≡ record { shards = count; config = config.now } }
     requires blanks { AreBlanksOf N.name blanks }
 {
-    let shards: Plain<N> = Shards::new(rt, alloc, blanks, config, count)?;
-    let marks = new_marks(alloc)?;
-    let way = Way::Plain;
-    let callers: Lender<N> = Callers::new(
-        alloc,
-        LoadingCache::new(shards, Rules { way, marks }, None),
-    );
+    let shards: Shards<u64, Number, Of<N>> = Shards::new(rt, alloc, blanks, config, count)?;
+    let callers: Lender<N> = Callers::new(alloc, LoadingCache::new(shards, Zeros {}, None));
     match play {
         Play::InARow => in_a_row(rt, &callers)?,
         Play::AtOnce => at_once(rt, alloc, &callers)?,
@@ -252,7 +260,7 @@ fn plays<R: Threads + Wait + Abort + Sync>(
     alloc: Global,
     play: Play,
 ) -> Result<[Ended; 2], Fault> {
-    let config = config(4, 8, None);
+    let config = Config::of(4);
     Ok([
         plays_at(rt, alloc, &config, 1, play)?,
         plays_at(rt, alloc, &config, 4, play)?,
@@ -294,7 +302,7 @@ fn callers_of_many_threads_settle(rt: HostRuntime) -> Result<(), Fail> {
 
 #[test]
 fn a_lend_that_is_refused_memory_loses_no_pass(rt: HostRuntime) -> Result<(), Fail> {
-    let config = config(4, 8, None);
+    let config = Config::of(4);
     let mut ends = plays_at(&rt, rt.alloc(), &config, 1, Play::Refused);
     if ends == Err(Fault::NoMemory) {
         ends = plays_at(&rt, rt.alloc(), &config, 1, Play::Refused);

@@ -1,5 +1,5 @@
 use Rattle.wt_shards.specs.Opening.{names_of}
-use Rattle.wt_cache_tests.proofs.tests.lending.plays_at.Given as goal
+use Rattle.wt_callers_tests.proofs.tests.lending.plays_at.Given as goal
 
 -- the ledgers of a test's cache: named by its blanks, and laid out as it is made
 abbrev pub ghosts-played : goal.ghosts-played

@@ -1,0 +1,10 @@
+// Tests of what no clause says: what callers, services and the line give back, and who holds a lock.
+
+mod apart;
+mod heavy;
+mod late;
+mod lending;
+mod lines;
+mod serving;
+mod shares;
+mod tallies;
