@@ -1,4 +1,4 @@
-//! Pages of a slow source: one load for all who ask at once, a put that a load made meanwhile
+//! Pages of a slow source: one load for all that ask at once, a put that a load made meanwhile
 //! doesn't overwrite, and the source's errors as codes.
 #![tactic(auto)]
 

@@ -1,4 +1,4 @@
-// One caller, who asks for one name at three moments.
+// One caller that asks for one name at three moments.
 ghost use Rattle.std.specs.Prelude.{◌≡◌};
 ghost use Rattle.wt_shards.specs.Opening.{AreBlanksOf};
 

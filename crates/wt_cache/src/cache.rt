@@ -12,8 +12,8 @@ use wt_core::{Stats, Weighs};
 use wt_keys::{Answers, CacheKey, Fault, Share};
 use wt_shards::{Books, Pass, Shards};
 
-/// A cache that any number of threads share, and that loads what isn't there: one load for all who
-/// ask for a key at once.
+/// A cache that any number of threads share, and that loads what isn't there: one load for all
+/// callers that ask for a key at once.
 ///
 /// A load is run by the caller whose seek opened it, or, if the cache has a line, by a worker.
 #[derive(Drop)]

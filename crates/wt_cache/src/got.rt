@@ -5,7 +5,7 @@
 pub enum How {
     /// It was there.
     Hit,
-    /// It was loaded by the load that this call opened, whoever ran that.
+    /// It was loaded by the load that this call opened, which a worker may have run.
     Loaded,
     /// It was loaded by a load that was open already.
     Joined,

@@ -1,9 +1,9 @@
 // The line of loads that wait for a worker.
 //
 // A caller whose seek opened a load may post its lead here and wait; a worker takes it and runs the
-// load. The line is open until it is closed, once and for good. Whoever posts reads the closing
-// mark before the push and after it: a mark that is set by then may mean that no worker comes any
-// more, so that poster runs what is in the line itself.
+// load. The line is open until it is closed, once and for good. A poster reads the closing
+// mark before the push and after it. If it finds the mark set after the push, maybe no worker comes
+// any more: so it runs what is in the line itself.
 //
 //   worker   look for a while ── lock the bell ── look again ── sleep, giving the lock back ──► look
 //   poster   push ── lock the bell ── wake one worker
@@ -32,7 +32,7 @@ const MOST_PLACES: u32 = 4096;
 pub enum Posted {
     /// It was open after the put: a worker finds the load.
     Line,
-    /// It was closed by then: whoever posted takes loads off and runs them until there is none.
+    /// It was closed by then: the poster is to take loads off and run them until there is none.
     Late,
 }
 
@@ -56,7 +56,7 @@ pub struct JobLine<K, V> {
     gate: Mutex<()>,
     // The bell's signal.
     rung: Condvar,
-    // For the lists of those who post.
+    // For the lists of the posters.
     alloc: Global,
 }
 
@@ -130,8 +130,8 @@ impl<K: Copy + Drop, V: Drop> JobLine<K, V> {
 
     /// Takes the load that stands first in the line, or `None` if there is none.
     ///
-    /// Whoever takes it is to run it. A closed line is taken from like an open one. Takes no memory
-    /// and no lock.
+    /// The caller is to run it. A closed line is taken from like an open one. Takes no memory and
+    /// no lock.
     pub fn take<R: Wait>(&self, rt: &R, pass: &mut LinePass<K, V>) -> Option<Lead<K, V>>
         ensures moved { IsTake result pass.old pass.new }
     {

@@ -1,4 +1,4 @@
-//! A cache that loads what isn't there, once for all who ask for it, in the caller or in workers.
+//! A cache that loads what isn't there, once for all callers that ask, in the caller or in workers.
 #![tactic(auto)]
 
 mod cache;

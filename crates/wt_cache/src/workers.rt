@@ -1,4 +1,4 @@
-// Workers, who run the loads that callers posted.
+// Workers, which run the loads that callers posted.
 ghost use Rattle.std.specs.Prelude.{◌≡◌, ◌+◌, ◌^◌, ◌<◌, ◌≤◌, []};
 ghost use Rattle.wt_regions.specs.Notices.{emptied};
 ghost use Rattle.wt_cache.specs.Moves.{HasLanded, HasTaken};
@@ -13,7 +13,7 @@ use wt_flights::Lead;
 use wt_keys::{Answers, CacheKey, Share};
 use wt_shards::{Books, Pass};
 
-// A worker ends after so many jobs, so that its counts can't wrap. Ours.
+// The loads after which a worker ends, so that its counts can't wrap. Ours.
 const MOST_JOBS: u64 = 1 << 40;
 
 impl<

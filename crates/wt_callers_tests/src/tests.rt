@@ -1,4 +1,5 @@
-// Tests of what no clause says: what callers, services and the line give back, and who holds a lock.
+// Tests of what no clause says: what callers, services and the line give back, and which locks a
+// call takes.
 
 mod apart;
 mod heavy;

@@ -36,8 +36,7 @@ impl Seed {
     /// Returns the key with the word that it has under this seed: its SipHash-1-3.
     ///
     /// A function of the two. Takes no memory. O(length of the key): make a key once if it is
-    /// used more than once. Whoever sees words can tell keys apart by them, so keep words to
-    /// yourself.
+    /// used more than once. Keys can be told apart by their words, so keep words to yourself.
     pub fn key<K: CacheKey>(&self, key: K) -> Seeded<K>
         ensures { result ≡ seeded K.hash_input self.now key }
     {

@@ -1,7 +1,7 @@
 // A shard: a cache that is audited.
 //
 //     core       the cache itself
-//     lagging    its outline, so many steps ago
+//     lagging    its outline, as many steps ago as the ring holds
 //     ring       the steps since then, the oldest first; a place for each open load is kept free
 //     landings   where the outcome of each open load will stand, in the order of opening
 //     books      how many steps were made and how many of them hit, as sums of what callers hold

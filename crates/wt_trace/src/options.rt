@@ -82,7 +82,7 @@ fn is_outside(low: u64, high: u64, n: u64) -> bool
     n < low || high < n
 }
 
-// Whether there can be so many shards.
+// Returns whether `n` is a number of shards that there can be.
 fn is_shard_count(n: u64) -> bool
     ensures { result ≡ is_shard_count n }
 {

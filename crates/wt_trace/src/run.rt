@@ -108,13 +108,13 @@ pub fn replay<R: Read, W: Write>(
     verdict
 }
 
-/// Replays as `replay` does, with so many threads: thread t runs the lines of the shards whose
+/// Replays as `replay` does, with `threads` threads. Thread t runs the lines of the shards whose
 /// number modulo `threads` is t, each shard's lines in order, and asks the gate before each of
 /// them.
 ///
 /// A line that the gate doesn't let through ends the run with `GateShut` of such a line, after all
-/// threads have ended; nothing was written. Where several threads fail, that of the least shard
-/// tells its fault. Takes memory as `replay` does, and for the lines, what the shards answer to them,
+/// threads have ended; nothing was written. If several threads fail, the fault is that of the least
+/// shard. Takes memory as `replay` does, and for the lines, what the shards answer to them,
 /// and the threads. It isn't promised that the threads run at the same time: if one can't be made,
 /// its lines are run after those of another.
 pub fn replay_by_shard<H: Threads + Sync, R: Read, W: Write, G: Gate>(

@@ -23,7 +23,7 @@ use wt_flights::{Lead, Outcome, Publish, Ticket};
 use wt_keys::{Answers, CacheKey, Fault, Share};
 use wt_shards::{Books, Pass};
 
-/// How a load ended, for whoever ran it.
+/// How a load ended, for the caller or worker that ran it.
 #[derive(Drop)]
 pub(crate) struct Ran {
     /// Whether the loader returned an error.
@@ -32,7 +32,7 @@ pub(crate) struct Ran {
     pub landed: Result<(), Fault>,
 }
 
-// Publishes the outcome, and wakes those who wait.
+// Publishes the outcome, and wakes the callers that wait for it.
 fn announce<K: CacheKey, V: Share + Answers<K>, R: Wait>(
     rt: &R,
     lead: Lead<K, V>,

@@ -9,10 +9,10 @@
 //                           ├─ to a line that is closed by then: this caller runs what is in it
 //                           └─ to no line, or none that takes it: this caller runs the load
 //
-// A lead has one owner at a time: the caller whose seek opened the load, the line, or whoever took
-// it off the line. That one lands the load and publishes its outcome. A ticket stays with its
-// caller, and each waits on its own, the one that opened the load too. A get holds no lock while it
-// loads or waits.
+// A lead has one owner at a time: the caller whose seek opened the load, the line, or the worker or
+// caller that took it off the line. That one lands the load and publishes its outcome. A ticket
+// stays with its caller, and each waits on its own, the one that opened the load too. A get holds no
+// lock while it loads or waits.
 ghost use Rattle.std.specs.Prelude.{◌≡◌, ◌*◌, ◌≤◌, true, IsTrue, IfOk, IfErr, OnOk};
 ghost use Rattle.wt_core.specs.Faults.{is_step_fault};
 ghost use Rattle.wt_shards.specs.Told.{HasTold};
@@ -171,7 +171,7 @@ impl<
     B: Books,
     R: Wait,
 > Caller<'c, K, V, L, B, R> {
-    /// Returns the value of the key, loaded for all who ask meanwhile if it isn't there:
+    /// Returns the value of the key, loaded for all that ask meanwhile if it isn't there:
     /// `LoadingCache::get`, which has the rest of what this call does.
     ///
     /// `now` is in milliseconds. First the list of what left is emptied.

@@ -52,8 +52,8 @@ fn get_and_close<N: Names, R: Wait>(
     (paused, at_once)
 }
 
-/// Two workers beside one caller, who posts after a pause, and at once. Each get waits for its
-/// load: a post that nobody wakes for, or a close, would never end.
+/// Two workers beside one caller that posts after a pause, and at once. Each get waits for its
+/// load: a post or a close that woke no worker would never end.
 pub fn sleepers<N: Names + Send + Sync, R: Threads + Wait + Abort + Sync>(
     rt: &R,
     alloc: Global,

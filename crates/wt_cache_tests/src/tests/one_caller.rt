@@ -61,7 +61,7 @@ fn act<N: Names, R: Wait + Abort>(
     }
 }
 
-// Plays on a cache of so many shards: key 1 is of the last one.
+// Plays on a cache of `count` shards. Key 1 is of the last one.
 fn played<N: Names, R: Wait + Abort>(
     rt: &R,
     alloc: Global,

@@ -70,7 +70,7 @@ pub struct Rules {
     pub marks: Arc<Marks, Global>,
 }
 
-/// Returns whether the mark rises to so many within 10,000,000 turns.
+/// Returns whether the mark rises to `many` within 10,000,000 turns.
 pub fn rises(mark: &AtomicU64, many: u64) -> bool {
     for _ in 0..10_000_000u64 {
         if mark.load(Ordering::SeqCst) >= many {

@@ -94,7 +94,7 @@ fn led_for<N: Names, R: Wait>(
     }
 }
 
-// A line of so many places, if any.
+// A line of `places` places, or none if it is 0.
 fn line_of<R: Wait>(
     rt: &R,
     alloc: Global,
@@ -129,7 +129,7 @@ fn act<N: Names + Send + Sync, R: Threads + Wait + Abort + Sync>(
     }
 }
 
-// Plays on a cache of so many shards.
+// Plays on a cache of `count` shards.
 fn played<N: Names + Send + Sync, R: Threads + Wait + Abort + Sync>(
     rt: &R,
     alloc: Global,

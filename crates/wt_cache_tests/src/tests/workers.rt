@@ -1,4 +1,4 @@
-// The line and its workers: who runs a load, and what is reported.
+// The line and its workers: which of them runs a load, and what is reported.
 use crate::tests::calls::{Led, get, put};
 use crate::tests::stage::{Cache, Version, config};
 use crate::tests::together::{Answer, Scene, gets, plays, plays_at};

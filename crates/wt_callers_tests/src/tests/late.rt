@@ -45,7 +45,7 @@ fn closes<R: Wait>(rt: &R, line: &Line, turns: u64) {
     line.close(rt);
 }
 
-// Whether the poster beside the close is told Late.
+// Returns whether the post beside the close is `Late`.
 fn meets<R: Threads + Wait + Sync>(rt: &R, alloc: Global, turns: u64) -> Result<bool, Fault> {
     let line = Line::new(rt, alloc, 1)?;
     let shared = &line;
@@ -57,7 +57,7 @@ fn meets<R: Threads + Wait + Sync>(rt: &R, alloc: Global, turns: u64) -> Result<
     late
 }
 
-// The first of so many lines at which a poster is told Late, if one is.
+// The first of 20,000 lines at which a post is `Late`, if there is one.
 fn first_late<R: Threads + Wait + Sync>(rt: &R, alloc: Global) -> Result<Option<u64>, Fault> {
     for round in 0..20_000u64 {
         if meets(rt, alloc, round % 64)? {

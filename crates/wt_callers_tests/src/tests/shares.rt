@@ -85,18 +85,18 @@ type Scarcity<N> = LoadingCache<u64, Scarce, Scarcely, Of<N>>;
 /// A load that is open, if there is one.
 type Open = Option<(Lead<u64, Scarce>, Ticket<u64, Scarce>)>;
 
-// Who asks for key 1.
+// What asks for key 1.
 #[derive(Clone, Copy, Debug, PartialEq, Eq)]
 enum Who {
-    // A caller who finds nothing in the cache.
+    // A caller that finds nothing in the cache.
     Caller,
-    // A caller who finds key 5 alone, whose place in the window the value takes.
+    // A caller that finds key 5 alone, whose place in the window the value takes.
     Second,
-    // A caller who finds the value.
+    // A caller that finds the value.
     Hits,
-    // A caller who finds the value, and it is due.
+    // A caller that finds the value, and it is due.
     Refreshes,
-    // A caller who joins a load whose outcome is told, and which isn't landed yet.
+    // A caller that joins a load whose outcome is published, and which isn't landed yet.
     Sharer,
     // A worker, of a cache that holds key 5.
     Worker,
@@ -283,7 +283,7 @@ fn numbers<N: Names, R: Wait>(rt: &R, cache: &Scarcity<N>) -> [u64; 3] {
     [stats.misses, stats.loads, stats.entries]
 }
 
-// Plays a row on a cache of so many shards: keys 1 and 5 are of the last one.
+// Plays a row on a cache of `count` shards. Keys 1 and 5 are of the last one.
 fn played<N: Names, R: Wait + Abort>(
     rt: &R,
     alloc: Global,

@@ -57,7 +57,7 @@ fn published(lead: Lead<u64, Version>) -> Option<Ticket<u64, Version>> {
     }
 }
 
-// Wakes whoever still waits, so that the test ends.
+// Wakes a waiter that still sleeps, so that the test ends.
 fn rescue(landing: &Landing<u64, Version>, returned: &AtomicU32, number: u32) {
     for _ in 0..1_000_000 {
         if returned.load(Ordering::SeqCst) >= number {

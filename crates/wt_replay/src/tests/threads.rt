@@ -7,7 +7,7 @@ use std::thread;
 use std::thread::Threads;
 use wt_trace::{Gate, Open, Options, ReplayFault, Tallied, replay, replay_by_shard};
 
-// What is written for an input on so many threads, and how the run ends.
+// What is written for an input on `threads` threads, 1 to 64, and how the run ends.
 fn by_shard<H: Threads + Sync + Alloc<A = Global>, G: Gate>(
     rt: &H,
     input: &[u8],

@@ -8,7 +8,7 @@ use std::test::*;
 use std::thread::Threads;
 use wt_trace::{Gate, Open, Options, ReplayFault, Tallied, replay};
 
-// What is written for an input by so many threads in turn, and how the run ends.
+// What is written for an input by `threads` threads in turn, and how the run ends.
 fn by_turn<H: Threads + Wait + Sync + Alloc<A = Global>, G: Gate>(
     rt: &H,
     input: &[u8],

@@ -77,7 +77,7 @@ impl<K: CacheKey, V: Share + Weighs + Answers<K>, S: ShardLedger, H: Ledger> Sha
         }
     }
 
-    // Makes the step of a call that the state doesn't refuse, after which so many loads are open.
+    // Makes the step of a call that the state doesn't refuse, after which `rows` loads are open.
     #[inline(always)]
     #[tactic(auto, using(crate::proofs::Told::told_none, crate::proofs::Loads::empty_takes_none))]
     pub(crate) fn make_allowed(
@@ -141,7 +141,7 @@ impl<K: CacheKey, V: Share + Weighs + Answers<K>, S: ShardLedger, H: Ledger> Sha
         Ok(reply)
     }
 
-    // Moves the fewest oldest records over, so that one is recorded and so many loads have a place
+    // Moves the fewest oldest records over, so that one is recorded and `rows` loads have a place
     // after it.
     #[inline(always)]
     pub(crate) fn make_room(&mut self, rows: usize) -> Result<(), NoMemory>

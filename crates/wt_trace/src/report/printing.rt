@@ -32,7 +32,7 @@ fn show_line(out: &mut Vec<u8>, first: u64, all: &[Answers], i: usize) -> Result
     Ok(())
 }
 
-// Appends so many lines of the report from line i on.
+// Appends `len` lines of the report, from line `from` on.
 fn show_lines(
     out: &mut Vec<u8>,
     first: u64,
@@ -50,7 +50,7 @@ fn show_lines(
     Ok(())
 }
 
-// Piece t, of at most so many lines.
+// Piece `t`, of at most `most` lines.
 fn piece(
     alloc: Global,
     first: u64,

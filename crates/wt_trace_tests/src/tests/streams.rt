@@ -28,7 +28,7 @@ impl Read for Slow<'_> {
     }
 }
 
-// Takes one byte a call, so many times, and then fails or takes nothing.
+// Takes one byte a call, `calls` times, and then fails or takes nothing.
 #[derive(Drop)]
 struct Narrow {
     bytes: Vec<u8>,
@@ -137,7 +137,7 @@ struct Moody {
 }
 
 impl Moody {
-    // The next answer, of so many bytes at most.
+    // The next answer, of `most` bytes at most.
     fn next(&mut self, most: usize) -> io::Result<usize>
         ensures { IfOk result (λ n. n ≤ most) }
     {
