@@ -150,7 +150,8 @@ fn limits() -> Config {
     }
 }
 
-fn rows(second: u64) -> [Row; 22] {
+// `second` is the id of the second load at its shard, `last` that of the last, which fails.
+fn rows(second: u64, last: u64) -> [Row; 24] {
     let old = light(1);
     let new = light(2);
     let loaded = light(3);
@@ -177,24 +178,26 @@ fn rows(second: u64) -> [Row; 22] {
         (Do::Put(new), 6, 100, Said::Stored, 0),
         (Do::Clear, 0, 100, Said::Cleared, 1),
         (Do::Look, 6, 100, Said::Absent, 0),
+        (Do::Seek, 2, 100, Said::Lead(last), 0),
+        (Do::Fail(last), 2, 100, Said::Failed(1), 0),
     ]
 }
 
 #[test]
 fn one_shard_does_as_its_cache_does(rt: HostRuntime) -> Result<(), Fail> {
-    play::<Brand, HostRuntime>(&rt, rt.alloc(), Blanks::new(), &limits(), 1, &rows(2))?;
+    play::<Brand, HostRuntime>(&rt, rt.alloc(), Blanks::new(), &limits(), 1, &rows(2, 3))?;
     Ok(())
 }
 
 // Each of the two keys that are loaded is at a shard of its own, whose first load has the id 1.
 #[test]
 fn two_shards_do_as_their_caches_do(rt: HostRuntime) -> Result<(), Fail> {
-    play::<Brand, HostRuntime>(&rt, rt.alloc(), Blanks::new(), &limits(), 2, &rows(1))?;
+    play::<Brand, HostRuntime>(&rt, rt.alloc(), Blanks::new(), &limits(), 2, &rows(1, 2))?;
     Ok(())
 }
 
 #[test]
 fn four_shards_do_as_their_caches_do(rt: HostRuntime) -> Result<(), Fail> {
-    play::<Brand, HostRuntime>(&rt, rt.alloc(), Blanks::new(), &limits(), 4, &rows(1))?;
+    play::<Brand, HostRuntime>(&rt, rt.alloc(), Blanks::new(), &limits(), 4, &rows(1, 2))?;
     Ok(())
 }
