@@ -75,6 +75,17 @@ fn calls_meet<B: Books, R: Wait>(
     Ok(dropped && matches!(joined, Sought::Join(_)) && forgot && matches!(landed, Reply::Failed(2)))
 }
 
+// Looks the key up as the last thing that this pass does.
+fn hits<B: Books, R: Wait>(
+    rt: &R,
+    alloc: Global,
+    shards: &Shards<u64, Gated, B>,
+    mut pass: Pass<B>,
+    key: u64,
+) -> Result<bool, Fault> {
+    is_hit(rt, alloc, shards, &mut pass, key)
+}
+
 // Of four shards key 4 is of number 0, key 3 of number 1.
 fn look_apart<N: Names + Send + Sync, R: Threads + Wait + Sync>(
     rt: &R,
@@ -96,12 +107,12 @@ fn look_apart<N: Names + Send + Sync, R: Threads + Wait + Sync>(
     let gate: &Gate = &gate;
     let (a, b) = thread::join(
         rt,
-        || is_hit(rt, alloc, shared, &mut a, 4),
+        || hits(rt, alloc, shared, a, 4),
         || -> Result<bool, Fault> {
             let begun = gate.begins();
             let met = calls_meet(rt, alloc, shared, &mut b, 3);
             let put = put(rt, alloc, shared, &mut b, 3, Gated::free());
-            let hit = is_hit(rt, alloc, shared, &mut b, 3);
+            let hit = hits(rt, alloc, shared, b, 3);
             gate.open();
             put?;
             Ok(begun && met? && hit?)
