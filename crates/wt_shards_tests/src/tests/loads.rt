@@ -207,31 +207,38 @@ fn publishes(lead: Lead<u64, Fussy>, value: Fussy) -> bool {
     matches!(lead.publish(Outcome::Value(value)), Publish::Published(_))
 }
 
-// A load with one joiner, whose value is published. Once all that share it are dropped and the load
-// has landed, nothing owns the value.
+// A load with one joiner, whose value is published. Returns whether both were so, and how many own
+// the value once all that share the load are dropped, before it has landed and after.
+fn owners<N: Names>(
+    run: &mut Run<Fussy, N>,
+    owned: &Rc<Cell<u32>>,
+) -> Result<(bool, usize, usize), Fault> {
+    let value = Fussy::new(5, owned.clone()?);
+    let lead = opened(run)?;
+    let id = lead.id();
+    let joined = joins(run)?;
+    let published = publishes(lead, value);
+    let before = Rc::strong_count(owned);
+    run.land(id, 7, Land::Loose, 5)?;
+    Ok((joined && published, before, Rc::strong_count(owned)))
+}
+
 fn share_and_drop<N: Names>(
-    rt: &impl Abort,
     alloc: Global,
     blanks: Blanks,
     limits: &Config,
-) -> Result<(), Fault>
+) -> Result<(bool, usize, usize), Fault>
     requires layout { N.layout ≡ record { shards = 1; config = limits.now } }
     requires blanks { AreBlanksOf N.name blanks }
 {
     let mut run: Run<Fussy, N> = Run::new(alloc, limits, blanks)?;
     let owned = Rc::new(alloc, Cell::new(0))?;
-    let lead = opened(&mut run)?;
-    let id = lead.id();
-    assert!(rt; joins(&mut run)?);
-    assert!(rt; publishes(lead, Fussy::new(5, owned.clone()?)));
-    assert_eq!(rt; Rc::strong_count(&owned), 2);
-    run.land(id, 7, Land::Loose, 5)?;
-    assert_eq!(rt; Rc::strong_count(&owned), 1);
-    Ok(())
+    owners(&mut run, &owned)
 }
 
 #[test]
 fn a_value_goes_with_the_last_who_shares_its_load(rt: HostRuntime) -> Result<(), Fail> {
-    share_and_drop::<Brand>(&rt, rt.alloc(), Blanks::new(), &config(1000))?;
+    let owners = share_and_drop::<Brand>(rt.alloc(), Blanks::new(), &config(1000));
+    assert_eq!(rt; owners, Ok((true, 2, 1)));
     Ok(())
 }
