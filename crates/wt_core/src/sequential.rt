@@ -28,19 +28,21 @@ use wt_sketch::Sketch;
 /// Moments are milliseconds that the caller hands in; one before the latest counts as the latest.
 #[derive(Drop)]
 pub struct Core<K: CacheKey, V: Share + Weighs> {
-    // The entries. Each step may let some leave; a hit moves one, a put and a landing store one.
-    pub(crate) regions: Regions<K, V>,
+    // What a hit writes comes first, so that it stands in few lines of the processor's memory.
+    //
+    // The moment of the last step, in milliseconds; 0 before the first. It never goes back.
+    pub(crate) latest: u64,
+    // How many steps were made: one for each call that wasn't refused.
+    pub(crate) step: u64,
+    // Looks and seeks count as look-ups, landings as loads, and in every step what was evicted.
+    pub(crate) counts: Counts,
     // How often each key was counted. A look, a seek and a put count theirs, last in the step.
     pub(crate) sketch: Sketch,
     // The open loads. A seek opens or joins one, a landing closes it. After a put, a drop, a forget
     // or a clear no further caller joins it.
     pub(crate) flights: FlightTable<K>,
-    // Looks and seeks count as look-ups, landings as loads, and in every step what was evicted.
-    pub(crate) counts: Counts,
-    // The moment of the last step, in milliseconds; 0 before the first. It never goes back.
-    pub(crate) latest: u64,
-    // How many steps were made: one for each call that wasn't refused.
-    pub(crate) step: u64,
+    // The entries. Each step may let some leave; a hit moves one, a put and a landing store one.
+    pub(crate) regions: Regions<K, V>,
     // How much the entries may weigh together, as the regions have it; never changes.
     pub(crate) bound: u64,
     // How many loads may be open, as the flights have it; never changes.

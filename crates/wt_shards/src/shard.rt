@@ -37,21 +37,22 @@ use wt_keys::{Answers, CacheKey, Fault, NoMemory, Share};
 /// steps.
 #[derive(Drop)]
 pub struct Shard<K: CacheKey, V: Share + Weighs + Answers<K>, S: ShardLedger, H: Ledger> {
-    pub(crate) alloc: Global,
-    // What it was made for; never changes.
-    pub(crate) config: Config,
-    pub(crate) core: Core<K, V>,
-    pub(crate) lagging: Core<K, Shade>,
-    pub(crate) ring: HeapCircularBuffer<Call<K, Shade>>,
-    pub(crate) landings: Vec<Kept<K, V>>,
-    // The notices of the lagging copy, which nobody reads.
-    pub(crate) aside: Notices<K, Shade>,
-    // How many shares of the books were given out.
-    pub(crate) given: u32,
+    // What each step writes comes first, beside the lock.
     pub(crate) steps: Book<S>,
     pub(crate) hits: Book<H>,
     pub(crate) steps_left: Part<S>,
     pub(crate) hits_left: Part<H>,
+    // How many shares of the books were given out.
+    pub(crate) given: u32,
+    pub(crate) ring: HeapCircularBuffer<Call<K, Shade>>,
+    pub(crate) core: Core<K, V>,
+    pub(crate) lagging: Core<K, Shade>,
+    pub(crate) landings: Vec<Kept<K, V>>,
+    // The notices of the lagging copy, which nobody reads.
+    pub(crate) aside: Notices<K, Shade>,
+    pub(crate) alloc: Global,
+    // What it was made for; never changes.
+    pub(crate) config: Config,
 }
 
 impl<K: CacheKey, V: Share + Weighs + Answers<K>, S: ShardLedger, H: Ledger> Model
