@@ -28,11 +28,11 @@ macro_rules! end_hit {
 // last the key.
 macro_rules! end_miss {
     ($core:expr, $key:expr, $now:expr, $missed:expr, $notices:expr) => {{
-        let from = $notices.list().len();
-        crate::expired::expire_missed(&mut $core.regions, $key, $now, $missed, $notices);
+        let evicted =
+            crate::expired::expire_missed(&mut $core.regions, $key, $now, $missed, $notices);
         $core.counts.lookups += 1;
         $core.counts.misses += 1;
-        $core.counts.evicted += crate::counting::evicted_since($notices, from);
+        $core.counts.evicted += evicted;
         $core.latest = $now;
         $core.step += 1;
         crate::counting::count_key(&mut $core.sketch, $key);

@@ -12,7 +12,7 @@ use Rattle.wt_core.specs.State.{State, evictions}
 use Rattle.wt_core.proofs.After.{counted-after, bound-after}
 use Rattle.wt_core.proofs.Balance.{without_expired-balanced}
 use Rattle.wt_core.proofs.Hits.{state_of, is_miss, missed-still, hit-state, miss-state, miss-reply, miss-notices}
-use Rattle.wt_core.proofs.Whole.{unspent-is, told-since, whole-told, balanced-told}
+use Rattle.wt_core.proofs.Whole.{unspent-is, whole-told, balanced-told}
 use Rattle.wt_core.proofs.sequential.Core.look.Goals as goal
 
 pub invariant_of-self-in-Hit : goal.invariant_of-self-in-Hit
@@ -35,13 +35,13 @@ invariant_of-self-in_default g c =
     let still : c.get.new.self ≡ i.regions = c.in_ok-missed.ensures.state
     ∙ ap (λ (f : Found g.row.V.Denot). used_if g.K.PartialEq.eq c.args.key c.max-now.result f i.regions) (sym c.in_ok-missed.ensures.found)
     ∙ missed-still g.K.PartialEq.eq c.args.key c.max-now.result i.regions c.in_ok-missed.missed miss in
-    let expire : c.expire_missed.new.regions ≡ (without_expired g.K.PartialEq.eq c.args.key c.max-now.result i.regions).0 = c.expire_missed.ensures.state
+    let expire : c.expire_missed-evicted.new.regions ≡ (without_expired g.K.PartialEq.eq c.args.key c.max-now.result i.regions).0 = c.expire_missed-evicted.ensures.state
     ∙ ap (λ (r : Lists g.row.K.Denot g.row.V.Denot). (without_expired g.K.PartialEq.eq c.args.key c.max-now.result r).0) still in
-    let told : c.expire_missed.new.notices ≡ appended (without_expired g.K.PartialEq.eq c.args.key c.max-now.result i.regions).1 c.args.notices.now = c.expire_missed.ensures.notices
+    let told : c.expire_missed-evicted.new.notices ≡ appended (without_expired g.K.PartialEq.eq c.args.key c.max-now.result i.regions).1 c.args.notices.now = c.expire_missed-evicted.ensures.notices
     ∙ ap (λ (r : Lists g.row.K.Denot g.row.V.Denot). appended (without_expired g.K.PartialEq.eq c.args.key c.max-now.result r).1 c.args.notices.now) still in
-    let evicted : c.evicted_since.result ≡ evictions (without_expired g.K.PartialEq.eq c.args.key c.max-now.result i.regions).1 =
-    told-since (without_expired g.K.PartialEq.eq c.args.key c.max-now.result i.regions).1 c.list-from.result.now c.args.notices.now c.expire_missed.new.notices c.evicted_since.result told c.list-from.ensures c.evicted_since.ensures in
-    let is = miss-state g.K.PartialEq.eq g.K.CacheKey.word g.V.Weighs.weight s c.args.key c.args.now c.max-now.result c.max-now.ensures c.in_ok-missed.missed c.expire_missed.new.regions c.count_key-in_default.new.sketch c.evicted_since.result
+    let evicted : c.expire_missed-evicted.result ≡ evictions (without_expired g.K.PartialEq.eq c.args.key c.max-now.result i.regions).1 = c.expire_missed-evicted.ensures.answer
+    ∙ ap (λ (r : Lists g.row.K.Denot g.row.V.Denot). evictions (without_expired g.K.PartialEq.eq c.args.key c.max-now.result r).1) still in
+    let is = miss-state g.K.PartialEq.eq g.K.CacheKey.word g.V.Weighs.weight s c.args.key c.args.now c.max-now.result c.max-now.ensures c.in_ok-missed.missed c.expire_missed-evicted.new.regions c.count_key-in_default.new.sketch c.expire_missed-evicted.result
     c.in_ok-missed.ensures.found miss expire c.count_key-in_default.ensures evicted in
     let call : Call g.row.K.Denot g.row.V.Denot = Look c.args.key c.args.now in
     let taken = unspent-is s c.in_ok-unspent.ensures.ok in (
@@ -58,13 +58,13 @@ returns-in_default g c =
     let still : c.get.new.self ≡ i.regions = c.in_ok-missed.ensures.state
     ∙ ap (λ (f : Found g.row.V.Denot). used_if g.K.PartialEq.eq c.args.key c.max-now.result f i.regions) (sym c.in_ok-missed.ensures.found)
     ∙ missed-still g.K.PartialEq.eq c.args.key c.max-now.result i.regions c.in_ok-missed.missed miss in
-    let expire : c.expire_missed.new.regions ≡ (without_expired g.K.PartialEq.eq c.args.key c.max-now.result i.regions).0 = c.expire_missed.ensures.state
+    let expire : c.expire_missed-evicted.new.regions ≡ (without_expired g.K.PartialEq.eq c.args.key c.max-now.result i.regions).0 = c.expire_missed-evicted.ensures.state
     ∙ ap (λ (r : Lists g.row.K.Denot g.row.V.Denot). (without_expired g.K.PartialEq.eq c.args.key c.max-now.result r).0) still in
-    let told : c.expire_missed.new.notices ≡ appended (without_expired g.K.PartialEq.eq c.args.key c.max-now.result i.regions).1 c.args.notices.now = c.expire_missed.ensures.notices
+    let told : c.expire_missed-evicted.new.notices ≡ appended (without_expired g.K.PartialEq.eq c.args.key c.max-now.result i.regions).1 c.args.notices.now = c.expire_missed-evicted.ensures.notices
     ∙ ap (λ (r : Lists g.row.K.Denot g.row.V.Denot). appended (without_expired g.K.PartialEq.eq c.args.key c.max-now.result r).1 c.args.notices.now) still in
-    let evicted : c.evicted_since.result ≡ evictions (without_expired g.K.PartialEq.eq c.args.key c.max-now.result i.regions).1 =
-    told-since (without_expired g.K.PartialEq.eq c.args.key c.max-now.result i.regions).1 c.list-from.result.now c.args.notices.now c.expire_missed.new.notices c.evicted_since.result told c.list-from.ensures c.evicted_since.ensures in
-    let is = miss-state g.K.PartialEq.eq g.K.CacheKey.word g.V.Weighs.weight s c.args.key c.args.now c.max-now.result c.max-now.ensures c.in_ok-missed.missed c.expire_missed.new.regions c.count_key-in_default.new.sketch c.evicted_since.result
+    let evicted : c.expire_missed-evicted.result ≡ evictions (without_expired g.K.PartialEq.eq c.args.key c.max-now.result i.regions).1 = c.expire_missed-evicted.ensures.answer
+    ∙ ap (λ (r : Lists g.row.K.Denot g.row.V.Denot). evictions (without_expired g.K.PartialEq.eq c.args.key c.max-now.result r).1) still in
+    let is = miss-state g.K.PartialEq.eq g.K.CacheKey.word g.V.Weighs.weight s c.args.key c.args.now c.max-now.result c.max-now.ensures c.in_ok-missed.missed c.expire_missed-evicted.new.regions c.count_key-in_default.new.sketch c.expire_missed-evicted.result
     c.in_ok-missed.ensures.found miss expire c.count_key-in_default.ensures evicted in
     let room : i.regions.caps.entries ≤ c.args.notices.now.room = rw (← c.self.view_is) at c.requires.room in
     let left = unspent-is s c.in_ok-unspent.ensures.ok in
@@ -74,7 +74,7 @@ returns-in_default g c =
       notices = rw (← c.self.view_is) (told ∙ ap (λ (ns : List (Notice g.row.K.Denot g.row.V.Denot)). appended ns c.args.notices.now) (sym (miss-notices g.K.PartialEq.eq g.K.CacheKey.word g.V.Weighs.weight s c.args.key c.args.now c.max-now.result c.max-now.ensures c.in_ok-missed.missed c.in_ok-missed.ensures.found miss)));
       refusal = rw (← c.self.view_is, left) tt;
       same = rw (← c.self.view_is) (ap (λ (r : Lists g.row.K.Denot g.row.V.Denot). r.caps) expire ∙ (without_expired-balanced g.K.PartialEq.eq c.args.key c.max-now.result i.regions).caps);
-      whole = whole-told (without_expired g.K.PartialEq.eq c.args.key c.max-now.result i.regions).1 c.args.notices.now c.expire_missed.new.notices told
+      whole = whole-told (without_expired g.K.PartialEq.eq c.args.key c.max-now.result i.regions).1 c.args.notices.now c.expire_missed-evicted.new.notices told
           (balanced-told g.K.PartialEq.eq g.V.Weighs.weight i.regions (without_expired g.K.PartialEq.eq c.args.key c.max-now.result i.regions) c.args.notices.now.room c.len-len.ensures.lawful (without_expired-balanced g.K.PartialEq.eq c.args.key c.max-now.result i.regions) room);
       miss_succeeds = λ _ _. refl;
       err = tt;

@@ -16,7 +16,7 @@ use Rattle.wt_core.proofs.Balance.{without_expired-balanced}
 use Rattle.wt_core.proofs.Hits.{state_of, is_miss, missed-still}
 use Rattle.wt_core.proofs.Rows.{sharers-left}
 use Rattle.wt_core.proofs.Sought.{lead-state, lead-taken, hit-state, hit-taken, miss-state, miss-refusal, miss-reply, miss-notices, met-none, limit-met}
-use Rattle.wt_core.proofs.Whole.{told-since, whole-told, balanced-told}
+use Rattle.wt_core.proofs.Whole.{whole-told, balanced-told}
 use Rattle.wt_core.proofs.sequential.Core.seek.Goals as goal
 
 pub invariant_of-self-then-refreshes : goal.invariant_of-self-then-refreshes
@@ -58,13 +58,13 @@ invariant_of-self-in_default g c =
     let still : c.get.new.self ≡ i.regions = c.in_ok-missed.ensures.state
     ∙ ap (λ (f : Found g.row.V.Denot). used_if g.K.PartialEq.eq c.args.key c.max-now.result f i.regions) (sym c.in_ok-missed.ensures.found)
     ∙ missed-still g.K.PartialEq.eq c.args.key c.max-now.result i.regions c.in_ok-missed.missed miss in
-    let expire : c.expire_missed.new.regions ≡ (without_expired g.K.PartialEq.eq c.args.key c.max-now.result i.regions).0 = c.expire_missed.ensures.state
+    let expire : c.expire_missed-evicted.new.regions ≡ (without_expired g.K.PartialEq.eq c.args.key c.max-now.result i.regions).0 = c.expire_missed-evicted.ensures.state
     ∙ ap (λ (r : Lists g.row.K.Denot g.row.V.Denot). (without_expired g.K.PartialEq.eq c.args.key c.max-now.result r).0) still in
-    let told : c.expire_missed.new.notices ≡ appended (without_expired g.K.PartialEq.eq c.args.key c.max-now.result i.regions).1 c.args.notices.now = c.expire_missed.ensures.notices
+    let told : c.expire_missed-evicted.new.notices ≡ appended (without_expired g.K.PartialEq.eq c.args.key c.max-now.result i.regions).1 c.args.notices.now = c.expire_missed-evicted.ensures.notices
     ∙ ap (λ (r : Lists g.row.K.Denot g.row.V.Denot). appended (without_expired g.K.PartialEq.eq c.args.key c.max-now.result r).1 c.args.notices.now) still in
-    let evicted : c.evicted_since.result ≡ evictions (without_expired g.K.PartialEq.eq c.args.key c.max-now.result i.regions).1 =
-    told-since (without_expired g.K.PartialEq.eq c.args.key c.max-now.result i.regions).1 c.list-from.result.now c.args.notices.now c.expire_missed.new.notices c.evicted_since.result told c.list-from.ensures c.evicted_since.ensures in
-    let is = miss-state g.K.PartialEq.eq c.args.key g.K.CacheKey.word g.V.Weighs.weight s c.args.now c.max-now.result c.max-now.ensures c.in_ok-missed.missed c.in_ok-missed.ensures.found miss c.expire_missed.new.regions c.count_key-in_default.new.sketch c.join_or_begin.new.flights c.evicted_since.result
+    let evicted : c.expire_missed-evicted.result ≡ evictions (without_expired g.K.PartialEq.eq c.args.key c.max-now.result i.regions).1 = c.expire_missed-evicted.ensures.answer
+    ∙ ap (λ (r : Lists g.row.K.Denot g.row.V.Denot). evictions (without_expired g.K.PartialEq.eq c.args.key c.max-now.result r).1) still in
+    let is = miss-state g.K.PartialEq.eq c.args.key g.K.CacheKey.word g.V.Weighs.weight s c.args.now c.max-now.result c.max-now.ensures c.in_ok-missed.missed c.in_ok-missed.ensures.found miss c.expire_missed-evicted.new.regions c.count_key-in_default.new.sketch c.join_or_begin.new.flights c.expire_missed-evicted.result
     expire c.count_key-in_default.ensures c.in_ok-reply-in_default.ensures.state evicted in
     let fine : fault_met g.K.PartialEq.eq c.args.key i.flights ≡ None = met-none (fault_met g.K.PartialEq.eq c.args.key i.flights) _ c.in_ok-reply-in_default.reply c.in_ok-reply-in_default.ensures.refusal in
     let taken = miss-refusal g.K.PartialEq.eq c.args.key g.K.CacheKey.word g.V.Weighs.weight s c.args.now c.max-now.result c.max-now.ensures c.in_ok-missed.missed c.in_ok-missed.ensures.found miss c.in_ok-unspent.ensures.ok ∙ fine in (
@@ -82,13 +82,13 @@ returns-in_ok-reply-in_default g c =
     let still : c.get.new.self ≡ i.regions = c.in_ok-missed.ensures.state
     ∙ ap (λ (f : Found g.row.V.Denot). used_if g.K.PartialEq.eq c.args.key c.max-now.result f i.regions) (sym c.in_ok-missed.ensures.found)
     ∙ missed-still g.K.PartialEq.eq c.args.key c.max-now.result i.regions c.in_ok-missed.missed miss in
-    let expire : c.expire_missed.new.regions ≡ (without_expired g.K.PartialEq.eq c.args.key c.max-now.result i.regions).0 = c.expire_missed.ensures.state
+    let expire : c.expire_missed-evicted.new.regions ≡ (without_expired g.K.PartialEq.eq c.args.key c.max-now.result i.regions).0 = c.expire_missed-evicted.ensures.state
     ∙ ap (λ (r : Lists g.row.K.Denot g.row.V.Denot). (without_expired g.K.PartialEq.eq c.args.key c.max-now.result r).0) still in
-    let told : c.expire_missed.new.notices ≡ appended (without_expired g.K.PartialEq.eq c.args.key c.max-now.result i.regions).1 c.args.notices.now = c.expire_missed.ensures.notices
+    let told : c.expire_missed-evicted.new.notices ≡ appended (without_expired g.K.PartialEq.eq c.args.key c.max-now.result i.regions).1 c.args.notices.now = c.expire_missed-evicted.ensures.notices
     ∙ ap (λ (r : Lists g.row.K.Denot g.row.V.Denot). appended (without_expired g.K.PartialEq.eq c.args.key c.max-now.result r).1 c.args.notices.now) still in
-    let evicted : c.evicted_since.result ≡ evictions (without_expired g.K.PartialEq.eq c.args.key c.max-now.result i.regions).1 =
-    told-since (without_expired g.K.PartialEq.eq c.args.key c.max-now.result i.regions).1 c.list-from.result.now c.args.notices.now c.expire_missed.new.notices c.evicted_since.result told c.list-from.ensures c.evicted_since.ensures in
-    let is = miss-state g.K.PartialEq.eq c.args.key g.K.CacheKey.word g.V.Weighs.weight s c.args.now c.max-now.result c.max-now.ensures c.in_ok-missed.missed c.in_ok-missed.ensures.found miss c.expire_missed.new.regions c.count_key-in_default.new.sketch c.join_or_begin.new.flights c.evicted_since.result
+    let evicted : c.expire_missed-evicted.result ≡ evictions (without_expired g.K.PartialEq.eq c.args.key c.max-now.result i.regions).1 = c.expire_missed-evicted.ensures.answer
+    ∙ ap (λ (r : Lists g.row.K.Denot g.row.V.Denot). evictions (without_expired g.K.PartialEq.eq c.args.key c.max-now.result r).1) still in
+    let is = miss-state g.K.PartialEq.eq c.args.key g.K.CacheKey.word g.V.Weighs.weight s c.args.now c.max-now.result c.max-now.ensures c.in_ok-missed.missed c.in_ok-missed.ensures.found miss c.expire_missed-evicted.new.regions c.count_key-in_default.new.sketch c.join_or_begin.new.flights c.expire_missed-evicted.result
     expire c.count_key-in_default.ensures c.in_ok-reply-in_default.ensures.state evicted in
     let fine : fault_met g.K.PartialEq.eq c.args.key i.flights ≡ None = met-none (fault_met g.K.PartialEq.eq c.args.key i.flights) _ c.in_ok-reply-in_default.reply c.in_ok-reply-in_default.ensures.refusal in
     let taken = miss-refusal g.K.PartialEq.eq c.args.key g.K.CacheKey.word g.V.Weighs.weight s c.args.now c.max-now.result c.max-now.ensures c.in_ok-missed.missed c.in_ok-missed.ensures.found miss c.in_ok-unspent.ensures.ok ∙ fine in
@@ -99,7 +99,7 @@ returns-in_ok-reply-in_default g c =
       notices = rw (← c.self.view_is) (told ∙ ap (λ (ns : List (Notice g.row.K.Denot g.row.V.Denot)). appended ns c.args.notices.now) (sym (miss-notices g.K.PartialEq.eq c.args.key g.K.CacheKey.word g.V.Weighs.weight s c.args.now c.max-now.result c.max-now.ensures c.in_ok-missed.missed c.in_ok-missed.ensures.found miss)));
       refusal = rw (← c.self.view_is, taken) tt;
       same = rw (← c.self.view_is) (ap (λ (r : Lists g.row.K.Denot g.row.V.Denot). r.caps) expire ∙ (without_expired-balanced g.K.PartialEq.eq c.args.key c.max-now.result i.regions).caps);
-      whole = whole-told (without_expired g.K.PartialEq.eq c.args.key c.max-now.result i.regions).1 c.args.notices.now c.expire_missed.new.notices told
+      whole = whole-told (without_expired g.K.PartialEq.eq c.args.key c.max-now.result i.regions).1 c.args.notices.now c.expire_missed-evicted.new.notices told
           (balanced-told g.K.PartialEq.eq g.V.Weighs.weight i.regions (without_expired g.K.PartialEq.eq c.args.key c.max-now.result i.regions) c.args.notices.now.room c.len-len.ensures.lawful (without_expired-balanced g.K.PartialEq.eq c.args.key c.max-now.result i.regions) room);
       err = tt;
     }
