@@ -7,11 +7,13 @@
 //
 //   worker   look for a while ── lock the bell ── look again ── sleep, giving the lock back ──► look
 //   poster   push ── lock the bell ── wake one worker
-//   closer   mark ── lock the bell ── wake all workers
+//   closer   lock the bell ── mark ── wake all workers
 //
 // A worker first looks for some 20 microseconds, since a sleep and a wake take as long. It looks for
 // the last time under the bell's lock, which a poster takes after its push. A push that this look
-// missed is rung once the worker sleeps, so it isn't slept through.
+// missed is rung once the worker sleeps, so it isn't slept through. The closer marks under the same
+// lock, so the mark isn't set between a worker's last look and its look at the mark: in whichever
+// order a worker makes the two, it leaves no load behind that its poster doesn't run.
 ghost use Rattle.std.specs.Prelude.{◌≡◌, ◌≤◌, [], IfOk, IfErr, Err, IsOkUnless};
 ghost use Rattle.wt_keys.specs.declared.fault.Fault.TheVariants as fault;
 ghost use Rattle.wt_keys.specs.declared.fault.Field.TheVariants as field;
@@ -152,7 +154,7 @@ impl<K: Copy + Drop, V: Drop> JobLine<K, V> {
     }
 
     // Takes the load that stands first in the line, and sleeps as long as there is none. `None` once
-    // the line was read as closed and a take after that found none.
+    // the line is closed and a take found none.
     pub(crate) fn next<R: Wait>(&self, rt: &R, pass: &mut LinePass<K, V>) -> Option<Lead<K, V>>
         ensures moved { IsTake result pass.old pass.new }
     {
@@ -161,12 +163,10 @@ impl<K: Copy + Drop, V: Drop> JobLine<K, V> {
         }
         let mut gate = self.gate.lock(rt);
         for _ in rt.forever() {
-            // Read before the take: a load that is posted after the mark is run by its poster.
-            let closed = self.is_closed();
             if let Some(lead) = self.take(rt, pass) {
                 return Some(lead);
             }
-            if closed {
+            if self.is_closed() {
                 return None;
             }
             gate = self.rung.wait(rt, gate);
@@ -180,8 +180,8 @@ impl<K: Copy + Drop, V: Drop> JobLine<K, V> {
     ///
     /// In use: `uses::lines::close`.
     pub fn close<R: Wait>(&self, rt: &R) {
-        self.closed.store(true, Ordering::SeqCst);
         let gate = self.gate.lock(rt);
+        self.closed.store(true, Ordering::SeqCst);
         self.rung.notify_all();
         drop(gate);
     }
