@@ -91,7 +91,7 @@ fn landings() -> u64 {
 }
 
 fn main() {
-    for open in [16, 4095] {
+    for open in [0, 16, 4095] {
         for _ in 0..ROUNDS {
             let mut table = Table { next: 1, ..Table::default() };
             let start = Instant::now();
