@@ -95,34 +95,6 @@ module _ {K : Type 0} where
   }
 
   module _ (eq : K → K → Bool) (laws : IsEquivalence eq) (same : (a b : K) → eq a b ≡ true → a ≡ b) where
-    -- ---- a load was opened, for a key that had no current one
-    pub begin_marks : (by_id by_id' : ℕ → Option (Open K)) (by_key by_key' : K → Option ℕ) (next n since : ℕ) (key : K) → by_key key ≡ None → n ≡ next + 1
-        → ((q : ℕ) → by_id' q ≡ cond (eqb next q) (Some (record { key = key; sharers = 1; current = true })) (by_id q)) → ((q : K) → by_key' q ≡ cond (eq key q) (Some next) (by_key q))
-        → AreMarked by_id by_key next since → AreMarked by_id' by_key' n since
-    begin_marks by_id by_id' by_key by_key' next n since key none n-is e c marked =
-        let new : Open K = record { key = key; sharers = 1; current = true } in
-        let past = marked.past in
-        record {
-          marks = λ i o at. ⊎_elim
-              (λ (t : (eqb next i ≡ true) × (next ≡ i)).
-              let z : by_id' i ≡ Some new = e i ∙ ap (λ b. cond b (Some new) (by_id i)) t.0 in
-              let is : o ≡ new = cc in
-              let here : by_key' o.key ≡ Some i = ap (λ (p : Open K). by_key' p.key) is ∙ c key ∙ ap (λ b. cond b (Some next) (by_key key)) (laws.refl key) ∙ ap Some t.1 in
-              let k = t.1 in
-              let l : nat_le since i ≡ true = grind (arith, nat_tests) in
-              ap (λ (p : Open K). p.current && nat_le since i) is ∙ l ∙ sym (is_at-here (by_key' o.key) i here))
-              (λ (t : (eqb next i ≡ false) × (next ≢ i)).
-              let w : by_id i ≡ Some o = sym (e i ∙ ap (λ b. cond b (Some new) (by_id i)) t.0) ∙ at in
-              marked.marks i o w ∙ sym (⊎_elim
-              (λ (u : eq key o.key ≡ true).
-              let k : key ≡ o.key = same key o.key u in
-              ap (λ x. is_at x i) (c o.key ∙ ap (λ b. cond b (Some next) (by_key o.key)) u) ∙ t.0 ∙ sym (ap (λ x. is_at x i) (ap by_key (sym k) ∙ none)))
-              (λ (u : eq key o.key ≡ false). ap (λ x. is_at x i) (c o.key ∙ ap (λ b. cond b (Some next) (by_key o.key)) u))
-              (flag (eq key o.key))))
-              (eqb_tells next i);
-          past = omega (arith, past, n-is);
-        }
-
     -- ---- the key's current load was forgotten
     pub forget_marks : (by_id by_id' : ℕ → Option (Open K)) (by_key by_key' : K → Option ℕ) (next since id : ℕ) (o : Open K) (key : K) → by_key key ≡ Some id → key ≡ o.key
         → ((q : ℕ) → by_id' q ≡ cond (eqb id q) (Some (unflagged o)) (by_id q)) → ((q : K) → by_key' q ≡ cond (eq key q) None (by_key q))
