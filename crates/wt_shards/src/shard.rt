@@ -17,6 +17,7 @@ ghost use Rattle.wt_shards.specs.StateAt.{IsStateAt};
 ghost use Rattle.wt_shards.specs.Totals.{total_of};
 ghost use Rattle.wt_shards.specs.Counts.{no_steps, IsBlankOf};
 
+mod opening;
 mod stepping;
 
 use crate::closed::Closed;
@@ -122,19 +123,10 @@ impl<K: CacheKey, V: Share + Weighs + Answers<K>, S: ShardLedger, H: Ledger> Sha
         if let Err(fault) = config.check() {
             return Err(fault);
         }
-        let Ok(core) = Core::new(alloc, config) else {
+        let Ok((core, lagging)) = opening::caches(alloc, config) else {
             return Err(Fault::NoMemory);
         };
-        let Ok(lagging) = Core::new(alloc, config) else {
-            return Err(Fault::NoMemory);
-        };
-        let Ok(ring) = HeapCircularBuffer::with_capacity(alloc, config.ring as usize) else {
-            return Err(Fault::NoMemory);
-        };
-        let Ok(landings) = Vec::with_capacity(alloc, config.flights as usize) else {
-            return Err(Fault::NoMemory);
-        };
-        let Ok(aside) = Notices::new(alloc, config.entries as usize) else {
+        let Ok((ring, landings, aside)) = opening::lists(alloc, config) else {
             return Err(Fault::NoMemory);
         };
         // For the prover: shows what holds of the cache at all times.
