@@ -1,4 +1,5 @@
 //! A value whose shares can be refused.
+use std::alloc::Global;
 use std::cell::Cell;
 use std::marker::Model;
 use std::rc::Rc;
@@ -25,6 +26,18 @@ impl Fussy {
     /// Makes a value that counts by `left`.
     pub fn new(version: u64, left: Rc<Cell<u32>>) -> Fussy {
         Fussy { version, left }
+    }
+}
+
+/// Makes the counter of values: the number of the next share that is refused, where 0 refuses none.
+/// If the first is refused memory, it asks once more.
+pub fn counter(alloc: Global) -> Result<Rc<Cell<u32>>, NoMemory> {
+    if let Ok(left) = Rc::new(alloc, Cell::new(0)) {
+        return Ok(left);
+    }
+    match Rc::new(alloc, Cell::new(0)) {
+        Ok(left) => Ok(left),
+        Err(_) => Err(NoMemory),
     }
 }
 

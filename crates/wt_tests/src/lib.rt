@@ -13,7 +13,7 @@ mod said;
 
 pub use acts::{Do, call_of, choose};
 pub use dice::Dice;
-pub use fussy::Fussy;
+pub use fussy::{Fussy, counter};
 pub use gated::{Gate, Gated};
 pub use lists::{Lists, Row, is_past};
 pub use loaded::{Loaded, light};

@@ -215,6 +215,34 @@ fn settled<N: Names, R: Wait>(
     Ok(totals.of(0).map(|total| (total.steps, total.hits)))
 }
 
+fn line_if<R: Wait>(
+    rt: &R,
+    alloc: Global,
+    lined: bool,
+) -> Result<Option<JobLine<u64, Version>>, Fault> {
+    if lined {
+        Ok(Some(JobLine::new(rt, alloc, 1)?))
+    } else {
+        Ok(None)
+    }
+}
+
+// Plays on a cache whose two loads are open, of which the first stands in the line if there is one.
+fn plays_on<N: Names, R: Wait + Abort>(
+    rt: &R,
+    alloc: Global,
+    cache: &Cache<N>,
+    pass: &mut Pass<Of<N>>,
+    (posted, told): (Led, Led),
+) {
+    if cache.line().is_some() {
+        works(rt, alloc, cache, pass, posted);
+    }
+    make_all(rt, alloc, cache, pass);
+    shares(rt, alloc, cache, pass, told);
+    loads_itself(rt, alloc, cache, pass);
+}
+
 // Plays on a cache of one shard, with a line that is closed before the caller loads, or without.
 fn played<N: Names, R: Wait + Abort>(
     rt: &R,
@@ -226,24 +254,15 @@ fn played<N: Names, R: Wait + Abort>(
     requires layout { N.layout ≡ record { shards = 1; config = config.now } }
     requires blanks { AreBlanksOf N.name blanks }
 {
+    let way = Way::Plain;
+    let marks = new_marks(alloc)?;
+    let line = line_if(rt, alloc, lined)?;
     let shards: Plain<N> = Shards::new(rt, alloc, blanks, config, 1)?;
     let mut pass = shards.pass(rt, alloc)?;
     let posted = led(rt, alloc, &shards, &mut pass, 1)?;
     let told = led(rt, alloc, &shards, &mut pass, 2)?;
-    let line = if lined {
-        Some(JobLine::new(rt, alloc, 1)?)
-    } else {
-        None
-    };
-    let marks = new_marks(alloc)?;
-    let way = Way::Plain;
     let cache: Cache<N> = LoadingCache::new(shards, Rules { way, marks }, line);
-    if lined {
-        works(rt, alloc, &cache, &mut pass, posted);
-    }
-    make_all(rt, alloc, &cache, &mut pass);
-    shares(rt, alloc, &cache, &mut pass, told);
-    loads_itself(rt, alloc, &cache, &mut pass);
+    plays_on(rt, alloc, &cache, &mut pass, (posted, told));
     let shown = Some((pass.steps(0), pass.hits(0)));
     assert_eq!(rt; settled(rt, alloc, cache, pass), Ok(shown));
     Ok(())

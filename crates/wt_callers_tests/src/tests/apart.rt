@@ -64,6 +64,30 @@ fn gets<N: Names, R: Wait>(
     Ok(got.how)
 }
 
+fn drops<N: Names, R: Wait>(
+    rt: &R,
+    alloc: Global,
+    cache: &GatedCache<N>,
+    pass: &mut Pass<Of<N>>,
+    key: u64,
+) -> Result<bool, Fault> {
+    let mut notices = Notices::new(alloc, cache.entries() as usize)?;
+    let done = cache.invalidate(rt, pass, key, 0, &mut notices)?;
+    Ok(done.reply)
+}
+
+fn forgets<N: Names, R: Wait>(
+    rt: &R,
+    alloc: Global,
+    cache: &GatedCache<N>,
+    pass: &mut Pass<Of<N>>,
+    key: u64,
+) -> Result<bool, Fault> {
+    let mut notices = Notices::new(alloc, cache.entries() as usize)?;
+    let done = cache.forget(rt, pass, key, 0, &mut notices)?;
+    Ok(done.reply)
+}
+
 // Whether each call on a key that isn't there meets what it is to meet.
 fn calls_meet<N: Names, R: Wait>(
     rt: &R,
@@ -76,15 +100,43 @@ fn calls_meet<N: Names, R: Wait>(
     let hit = gets(rt, alloc, cache, pass, key)?;
     put(rt, alloc, cache, pass, key, Gated::free())?;
     let present = is_present(rt, alloc, cache, pass, key)?;
-    let room = cache.entries() as usize;
-    let mut notices = Notices::new(alloc, room)?;
-    let dropped = cache.invalidate(rt, pass, key, 0, &mut notices)?.reply;
-    let mut notices = Notices::new(alloc, room)?;
-    let forgot = cache.forget(rt, pass, key, 0, &mut notices)?.reply;
+    let dropped = drops(rt, alloc, cache, pass, key)?;
+    let forgot = forgets(rt, alloc, cache, pass, key)?;
     Ok(loaded == How::Loaded && hit == How::Hit && present && dropped && !forgot)
 }
 
+// Makes each call on key 3 once the gate is reached, and then opens it.
+fn calls_beside<N: Names, R: Wait>(
+    rt: &R,
+    alloc: Global,
+    cache: &GatedCache<N>,
+    pass: &mut Pass<Of<N>>,
+    gate: &Gate,
+) -> Result<bool, Fault> {
+    let begun = gate.begins();
+    let met = calls_meet(rt, alloc, cache, pass, 3);
+    gate.open();
+    Ok(begun && met?)
+}
+
 // Of four shards key 4 is of number 0, key 3 of number 1.
+fn looks_apart<N: Names + Send + Sync, R: Threads + Wait + Sync>(
+    rt: &R,
+    alloc: Global,
+    cache: &GatedCache<N>,
+    (a, b): (&mut Pass<Of<N>>, &mut Pass<Of<N>>),
+    gate: &Gate,
+    gated: Gated,
+) -> Result<(bool, bool), Fault> {
+    put(rt, alloc, cache, a, 4, gated)?;
+    let (present, met) = thread::join(
+        rt,
+        || is_present(rt, alloc, cache, a, 4),
+        || calls_beside(rt, alloc, cache, b, gate),
+    );
+    Ok((present?, met?))
+}
+
 fn look_apart<N: Names + Send + Sync, R: Threads + Wait + Sync>(
     rt: &R,
     alloc: Global,
@@ -94,32 +146,13 @@ fn look_apart<N: Names + Send + Sync, R: Threads + Wait + Sync>(
     requires layout { N.layout ≡ record { shards = 4; config = limits.now } }
     requires blanks { AreBlanksOf N.name blanks }
 {
+    let gate = Gate::new(alloc)?;
+    let gated = Gated::by(Arc::try_clone(&gate)?);
     let shards: Shards<u64, Gated, Of<N>> = Shards::new(rt, alloc, blanks, limits, 4)?;
     let cache: GatedCache<N> = LoadingCache::new(shards, Freely {}, None);
     let mut a = cache.pass(rt, alloc)?;
     let mut b = cache.pass(rt, alloc)?;
-    let gate = Gate::new(alloc)?;
-    put(
-        rt,
-        alloc,
-        &cache,
-        &mut a,
-        4,
-        Gated::by(Arc::try_clone(&gate)?),
-    )?;
-    let shared = &cache;
-    let gate: &Gate = &gate;
-    let (a, b) = thread::join(
-        rt,
-        || is_present(rt, alloc, shared, &mut a, 4),
-        || -> Result<bool, Fault> {
-            let begun = gate.begins();
-            let met = calls_meet(rt, alloc, shared, &mut b, 3);
-            gate.open();
-            Ok(begun && met?)
-        },
-    );
-    Ok((a?, b?))
+    looks_apart(rt, alloc, &cache, (&mut a, &mut b), &gate, gated)
 }
 
 #[test]

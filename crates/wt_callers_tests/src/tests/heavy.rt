@@ -59,6 +59,18 @@ fn led<N: Names, R: Wait>(
     }
 }
 
+// Puts two entries that weigh 2 each, and opens a load.
+fn filled<N: Names, R: Wait>(
+    rt: &R,
+    alloc: Global,
+    shards: &Shards<u64, Loaded, Of<N>>,
+    pass: &mut Pass<Of<N>>,
+) -> Result<Lead<u64, Loaded>, Fault> {
+    put(rt, alloc, shards, pass, 5)?;
+    put(rt, alloc, shards, pass, 9)?;
+    led(rt, alloc, shards, pass, 1)
+}
+
 // The weights are bounded by 4. Two entries weigh 2 each, until a load brings a third.
 fn drives_out<N: Names, R: Wait>(
     rt: &R,
@@ -69,20 +81,18 @@ fn drives_out<N: Names, R: Wait>(
     requires layout { N.layout ≡ record { shards = 1; config = limits.now } }
     requires blanks { AreBlanksOf N.name blanks }
 {
-    let shards: Shards<u64, Loaded, Of<N>> = Shards::new(rt, alloc, blanks, limits, 1)?;
-    let mut pass = shards.pass(rt, alloc)?;
-    put(rt, alloc, &shards, &mut pass, 5)?;
-    put(rt, alloc, &shards, &mut pass, 9)?;
-    let lead = led(rt, alloc, &shards, &mut pass, 1)?;
+    let mut notices = Notices::new(alloc, limits.entries as usize)?;
     let line = JobLine::new(rt, alloc, 1)?;
     let mut hand = line.pass(rt)?;
+    let shards: Shards<u64, Loaded, Of<N>> = Shards::new(rt, alloc, blanks, limits, 1)?;
+    let mut pass = shards.pass(rt, alloc)?;
+    let lead = filled(rt, alloc, &shards, &mut pass)?;
     let posted = line.post(rt, &mut hand, lead);
+    line.close(rt);
     if posted.is_err() {
         return Err(Fault::LineFull);
     }
-    line.close(rt);
     let cache = LoadingCache::new(shards, Heavily {}, Some(line));
-    let mut notices = Notices::new(alloc, cache.entries() as usize)?;
     Ok(cache.run_worker(rt, &mut pass, &mut hand, &mut notices))
 }
 

@@ -283,6 +283,40 @@ fn numbers<N: Names, R: Wait>(rt: &R, cache: &Scarcity<N>) -> [u64; 3] {
     [stats.misses, stats.loads, stats.entries]
 }
 
+// Asks twice, the first time with the row's share refused.
+fn asked<N: Names, R: Wait + Abort>(
+    rt: &R,
+    alloc: Global,
+    cache: &Scarcity<N>,
+    pass: &mut Pass<Of<N>>,
+    open: Open,
+    left: &Left,
+    row: Row,
+) {
+    let (who, share, answer, made, answer_again, made_again) = row;
+    left.store(share, Ordering::SeqCst);
+    let got = first(rt, alloc, cache, pass, who, open, left);
+    assert_eq!(rt; got, answer, "{who:?}, share {share}");
+    assert_eq!(rt; numbers(rt, cache), made, "{who:?}, share {share}");
+    left.store(0, Ordering::SeqCst);
+    let again = gets(rt, alloc, cache, pass, who.moment());
+    assert_eq!(rt; again, answer_again, "{who:?}, share {share}");
+    assert_eq!(rt; numbers(rt, cache), made_again, "{who:?}, share {share}");
+}
+
+// A line for a worker's load, where a worker asks.
+fn line_for<R: Wait>(
+    rt: &R,
+    alloc: Global,
+    who: Who,
+) -> Result<Option<JobLine<u64, Scarce>>, Fault> {
+    if who == Who::Worker {
+        Ok(Some(JobLine::new(rt, alloc, 1)?))
+    } else {
+        Ok(None)
+    }
+}
+
 // Plays a row on a cache of `count` shards. Keys 1 and 5 are of the last one.
 fn played<N: Names, R: Wait + Abort>(
     rt: &R,
@@ -295,26 +329,14 @@ fn played<N: Names, R: Wait + Abort>(
     requires layout { N.layout ≡ record { shards = count; config = config.now } }
     requires blanks { AreBlanksOf N.name blanks }
 {
-    let (who, share, answer, made, answer_again, made_again) = row;
+    let left: Left = Arc::new(alloc, AtomicU64::new(0))?;
+    let theirs = Arc::try_clone(&left)?;
+    let line = line_for(rt, alloc, row.0)?;
     let shards: Shards<u64, Scarce, Of<N>> = Shards::new(rt, alloc, blanks, config, count)?;
     let mut pass = shards.pass(rt, alloc)?;
-    let left: Left = Arc::new(alloc, AtomicU64::new(0))?;
-    let open = begin(rt, alloc, &shards, &mut pass, who, &left)?;
-    let line = if who == Who::Worker {
-        Some(JobLine::new(rt, alloc, 1)?)
-    } else {
-        None
-    };
-    let theirs = Arc::try_clone(&left)?;
+    let open = begin(rt, alloc, &shards, &mut pass, row.0, &left)?;
     let cache: Scarcity<N> = LoadingCache::new(shards, Scarcely { left: theirs }, line);
-    left.store(share, Ordering::SeqCst);
-    let got = first(rt, alloc, &cache, &mut pass, who, open, &left);
-    assert_eq!(rt; got, answer, "{who:?}, share {share}");
-    assert_eq!(rt; numbers(rt, &cache), made, "{who:?}, share {share}");
-    left.store(0, Ordering::SeqCst);
-    let again = gets(rt, alloc, &cache, &mut pass, who.moment());
-    assert_eq!(rt; again, answer_again, "{who:?}, share {share}");
-    assert_eq!(rt; numbers(rt, &cache), made_again, "{who:?}, share {share}");
+    asked(rt, alloc, &cache, &mut pass, open, &left, row);
     Ok(())
 }
 

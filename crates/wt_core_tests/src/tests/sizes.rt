@@ -1,34 +1,61 @@
 // The greatest sizes: as many entries as may be held, as many loads as may be open.
 use super::{Run, config, told};
+use std::process::Abort;
 use std::test::Fail;
 use wt_core::Config;
 use wt_keys::Fault;
 use wt_tests::{Do, Loaded, Said, light};
 
-#[test]
-fn as_many_entries_are_held_as_may_be(rt: HostRuntime) -> Result<(), Fail> {
-    let mut run: Run<Loaded> = Run::new(rt.alloc(), &config(65536, 655, 1 << 48))?;
+fn hold_all(rt: &impl Abort, run: &mut Run<Loaded>) {
     assert_eq!(rt; run.core.entries(), 65536);
     for key in 0..65536u64 {
-        let made = told(&mut run, Do::Put(light(key)), key, 0);
+        let made = told(run, Do::Put(light(key)), key, 0);
         assert_eq!(rt; made, Some(Said::Stored));
         assert!(rt; run.notices.list().is_empty());
     }
     assert_eq!(rt; (run.core.len(), run.core.weight()), (65536, 65536));
     for key in [0, 1, 40_000, 65_535] {
-        let made = told(&mut run, Do::Look, key, 0);
+        let made = told(run, Do::Look, key, 0);
         assert_eq!(rt; made, Some(Said::Hit(light(key))));
     }
-    // One more comes, and one leaves.
-    let made = told(&mut run, Do::Put(light(1)), 65536, 0);
+}
+
+// One more comes, and one leaves; then all do.
+fn let_go(rt: &impl Abort, run: &mut Run<Loaded>) {
+    let made = told(run, Do::Put(light(1)), 65536, 0);
     assert_eq!(rt; made, Some(Said::Stored));
     assert_eq!(rt; run.notices.list().len(), 1);
     assert_eq!(rt; run.core.len(), 65536);
-    let made = told(&mut run, Do::Clear, 0, 0);
+    let made = told(run, Do::Clear, 0, 0);
     assert_eq!(rt; made, Some(Said::Cleared));
     assert_eq!(rt; run.notices.list().len(), 65536);
     assert!(rt; run.core.is_empty());
+}
+
+#[test]
+fn as_many_entries_are_held_as_may_be(rt: HostRuntime) -> Result<(), Fail> {
+    let mut run: Run<Loaded> = Run::new(rt.alloc(), &config(65536, 655, 1 << 48))?;
+    hold_all(&rt, &mut run);
+    let_go(&rt, &mut run);
     Ok(())
+}
+
+fn open_and_land_all(rt: &impl Abort, run: &mut Run<Loaded>) {
+    for key in 1..=4096u64 {
+        let made = told(run, Do::Seek, key, 0);
+        assert_eq!(rt; made, Some(Said::Lead(key)));
+    }
+    assert_eq!(rt; run.core.open_flights(), 4096);
+    let full = Said::Refused(Fault::TooManyFlights { limit: 4096 });
+    assert_eq!(rt; told(run, Do::Seek, 5000, 0), Some(full));
+    let joined = told(run, Do::Seek, 4096, 0);
+    assert_eq!(rt; joined, Some(Said::Join(4096)));
+    for key in 1..=4096u64 {
+        let landed = told(run, Do::Keep(key, light(key)), key, 0);
+        let sharers = if key == 4096 { 2 } else { 1 };
+        assert_eq!(rt; landed, Some(Said::Kept(sharers)));
+    }
+    assert_eq!(rt; (run.core.open_flights(), run.core.len()), (0, 4096));
 }
 
 #[test]
@@ -39,20 +66,6 @@ fn as_many_loads_are_open_as_may_be(rt: HostRuntime) -> Result<(), Fail> {
         ..config(4096, 4096, 1 << 48)
     };
     let mut run: Run<Loaded> = Run::new(rt.alloc(), &limits)?;
-    for key in 1..=4096u64 {
-        let made = told(&mut run, Do::Seek, key, 0);
-        assert_eq!(rt; made, Some(Said::Lead(key)));
-    }
-    assert_eq!(rt; run.core.open_flights(), 4096);
-    let full = Said::Refused(Fault::TooManyFlights { limit: 4096 });
-    assert_eq!(rt; told(&mut run, Do::Seek, 5000, 0), Some(full));
-    let joined = told(&mut run, Do::Seek, 4096, 0);
-    assert_eq!(rt; joined, Some(Said::Join(4096)));
-    for key in 1..=4096u64 {
-        let landed = told(&mut run, Do::Keep(key, light(key)), key, 0);
-        let sharers = if key == 4096 { 2 } else { 1 };
-        assert_eq!(rt; landed, Some(Said::Kept(sharers)));
-    }
-    assert_eq!(rt; (run.core.open_flights(), run.core.len()), (0, 4096));
+    open_and_land_all(&rt, &mut run);
     Ok(())
 }

@@ -3,11 +3,12 @@
 use super::{Run, caps};
 use std::alloc::Global;
 use std::cell::Cell;
+use std::process::Abort;
 use std::rc::Rc;
 use std::test::Fail;
 use wt_keys::{Fault, NoMemory};
 use wt_regions::{Caps, Region};
-use wt_tests::Fussy;
+use wt_tests::{Fussy, counter};
 
 #[derive(Clone, Copy)]
 enum Step {
@@ -47,6 +48,14 @@ impl Run<Fussy> {
         })
     }
 
+    // Where the first is refused memory it is made once more.
+    fn seen_at_last(&self, alloc: Global) -> Result<Seen, NoMemory> {
+        match self.seen(alloc) {
+            Ok(seen) => Ok(seen),
+            Err(_) => self.seen(alloc),
+        }
+    }
+
     fn forget_notices(&mut self) {
         self.notices.empty();
     }
@@ -62,9 +71,12 @@ impl Run<Fussy> {
     }
 }
 
+// A step, its key and moment, and how many shares it asks for.
+type Row = (Step, u64, u64, u32);
+
 // Each step with the number of shares that it asks for, with ample memory. Entries 5, window 1:
 // main 4, protected 3. Values expire 100 ms after they were written.
-fn steps() -> [(Step, u64, u64, u32); 24] {
+fn steps() -> [Row; 24] {
     [
         // window fills, and gives up candidates to probation
         (Step::Put, 1, 0, 0),
@@ -99,53 +111,71 @@ fn steps() -> [(Step, u64, u64, u32); 24] {
     ]
 }
 
-#[test]
-fn a_refused_step_changes_nothing(rt: HostRuntime) -> Result<(), Fail> {
-    let left = match Rc::new(rt.alloc(), Cell::new(0)) {
-        Ok(left) => left,
-        Err(_) => Rc::new(rt.alloc(), Cell::new(0))?,
+// Makes a step that is refused this share of its value, and returns whether it asked for it. Then
+// it changed nothing.
+fn is_refused(
+    rt: &impl Abort,
+    alloc: Global,
+    run: &mut Run<Fussy>,
+    left: &Rc<Cell<u32>>,
+    (version, row): (usize, Row),
+    share: u32,
+) -> Result<bool, Fail> {
+    let (step, key, now, _) = row;
+    left.set(0);
+    run.forget_notices();
+    let before = run.seen_at_last(alloc)?;
+    left.set(share);
+    let value = Fussy::new(version as u64, left.clone()?);
+    let Err(fault) = run.run_step(step, key, value, now) else {
+        return Ok(false);
     };
-    let limits = Caps {
-        after_write: Some(100),
-        ..caps(5, 1, 1000)
-    };
-    let mut run = match Run::new(rt.alloc(), limits) {
-        Ok(run) => run,
-        Err(_) => Run::new(rt.alloc(), limits)?,
-    };
-    for (version, (step, key, now, shares)) in steps().iter().enumerate() {
+    assert_eq!(rt; fault, Fault::NoMemory);
+    let after = run.seen_at_last(alloc)?;
+    assert_eq!(rt; before, after, "{version}: share {share}");
+    Ok(true)
+}
+
+fn refuse_steps(
+    rt: &impl Abort,
+    alloc: Global,
+    run: &mut Run<Fussy>,
+    left: &Rc<Cell<u32>>,
+) -> Result<(), Fail> {
+    for (version, row) in steps().into_iter().enumerate() {
         let mut refused = 0;
         // The first share is refused, then the second, until the step goes well.
         for share in 1..8 {
-            left.set(0);
-            run.forget_notices();
-            let before = match run.seen(rt.alloc()) {
-                Ok(seen) => seen,
-                Err(_) => run.seen(rt.alloc())?,
-            };
-            left.set(share);
-            let value = Fussy::new(version as u64, left.clone()?);
-            let Err(fault) = run.run_step(*step, *key, value, *now) else {
+            if !is_refused(rt, alloc, run, left, (version, row), share)? {
                 break;
-            };
-            assert_eq!(rt; fault, Fault::NoMemory);
+            }
             refused = share;
-            let after = match run.seen(rt.alloc()) {
-                Ok(seen) => seen,
-                Err(_) => run.seen(rt.alloc())?,
-            };
-            assert_eq!(rt; before, after, "{version}: share {share}");
         }
         left.set(0);
-        assert!(rt; refused >= *shares, "{version}: {refused} of {shares}");
+        let shares = row.3;
+        assert!(rt; refused >= shares, "{version}: {refused} of {shares}");
         // Each value that is held or told of owns the counter once, and nothing else does.
         let values = run.regions.len().saturating_add(run.notices.list().len());
         let owners = values.saturating_add(1);
         assert_eq!(rt;
-            Rc::strong_count(&left),
+            Rc::strong_count(left),
             owners,
             "{version}: {owners} owners"
         );
     }
     Ok(())
+}
+
+#[test]
+fn a_refused_step_changes_nothing(rt: HostRuntime) -> Result<(), Fail> {
+    let limits = Caps {
+        after_write: Some(100),
+        ..caps(5, 1, 1000)
+    };
+    let left = counter(rt.alloc())?;
+    let mut run = match Run::new(rt.alloc(), limits) {
+        Ok(run) => run,
+        Err(_) => Run::new(rt.alloc(), limits)?,
+    };
+    refuse_steps(&rt, rt.alloc(), &mut run, &left)
 }

@@ -11,6 +11,7 @@ use std::test::Fail;
 use std::thread;
 use std::thread::Threads;
 use wt_core::{Config, Land, Notices, Reply};
+use wt_flights::Lead;
 use wt_keys::Fault;
 use wt_shards::{Blanks, Books, Names, Of, Pass, Shards, Sought};
 use wt_tests::{Gate, Gated};
@@ -47,6 +48,65 @@ fn put<B: Books, R: Wait>(
     }
 }
 
+fn drops<B: Books, R: Wait>(
+    rt: &R,
+    alloc: Global,
+    shards: &Shards<u64, Gated, B>,
+    pass: &mut Pass<B>,
+    key: u64,
+) -> Result<bool, Fault> {
+    let mut notices = Notices::new(alloc, shards.entries() as usize)?;
+    let done = shards.drop_key(rt, pass, key, 0, &mut notices)?;
+    Ok(done.reply)
+}
+
+fn seek<B: Books, R: Wait>(
+    rt: &R,
+    alloc: Global,
+    shards: &Shards<u64, Gated, B>,
+    pass: &mut Pass<B>,
+    key: u64,
+) -> Result<Sought<u64, Gated>, Fault> {
+    let mut notices = Notices::new(alloc, shards.entries() as usize)?;
+    let done = shards.seek(rt, pass, key, 0, &mut notices)?;
+    Ok(done.reply)
+}
+
+fn joins<B: Books, R: Wait>(
+    rt: &R,
+    alloc: Global,
+    shards: &Shards<u64, Gated, B>,
+    pass: &mut Pass<B>,
+    key: u64,
+) -> Result<bool, Fault> {
+    Ok(matches!(seek(rt, alloc, shards, pass, key)?, Sought::Join(_)))
+}
+
+fn forgets<B: Books, R: Wait>(
+    rt: &R,
+    alloc: Global,
+    shards: &Shards<u64, Gated, B>,
+    pass: &mut Pass<B>,
+    key: u64,
+) -> Result<bool, Fault> {
+    let mut notices = Notices::new(alloc, shards.entries() as usize)?;
+    let done = shards.forget(rt, pass, key, 0, &mut notices)?;
+    Ok(done.reply)
+}
+
+// Whether the load fails for two.
+fn fails<B: Books, R: Wait>(
+    rt: &R,
+    alloc: Global,
+    shards: &Shards<u64, Gated, B>,
+    pass: &mut Pass<B>,
+    lead: &Lead<u64, Gated>,
+) -> Result<bool, Fault> {
+    let mut notices = Notices::new(alloc, shards.entries() as usize)?;
+    let done = shards.land(rt, pass, lead, Land::Failed, 0, &mut notices)?;
+    Ok(matches!(done.reply, Reply::Failed(2)))
+}
+
 // Whether each call on a key but a look meets what it is to meet: the key has an entry first.
 fn calls_meet<B: Books, R: Wait>(
     rt: &R,
@@ -56,37 +116,52 @@ fn calls_meet<B: Books, R: Wait>(
     key: u64,
 ) -> Result<bool, Fault> {
     put(rt, alloc, shards, pass, key, Gated::free())?;
-    let room = shards.entries() as usize;
-    let mut notices = Notices::new(alloc, room)?;
-    let dropped = shards.drop_key(rt, pass, key, 0, &mut notices)?.reply;
-    let mut notices = Notices::new(alloc, room)?;
-    let sought = shards.seek(rt, pass, key, 0, &mut notices)?.reply;
-    let Sought::Lead(lead, _ticket) = sought else {
+    let dropped = drops(rt, alloc, shards, pass, key)?;
+    let Sought::Lead(lead, _ticket) = seek(rt, alloc, shards, pass, key)? else {
         return Ok(false);
     };
-    let mut notices = Notices::new(alloc, room)?;
-    let joined = shards.seek(rt, pass, key, 0, &mut notices)?.reply;
-    let mut notices = Notices::new(alloc, room)?;
-    let forgot = shards.forget(rt, pass, key, 0, &mut notices)?.reply;
-    let mut notices = Notices::new(alloc, room)?;
-    let landed = shards
-        .land(rt, pass, &lead, Land::Failed, 0, &mut notices)?
-        .reply;
-    Ok(dropped && matches!(joined, Sought::Join(_)) && forgot && matches!(landed, Reply::Failed(2)))
+    let joined = joins(rt, alloc, shards, pass, key)?;
+    let forgot = forgets(rt, alloc, shards, pass, key)?;
+    let failed = fails(rt, alloc, shards, pass, &lead)?;
+    Ok(dropped && joined && forgot && failed)
 }
 
-// Looks the key up as the last thing that this pass does.
-fn hits<B: Books, R: Wait>(
+// Makes each call on key 3 once the gate is reached, and then opens it.
+fn calls_beside<B: Books, R: Wait>(
     rt: &R,
     alloc: Global,
     shards: &Shards<u64, Gated, B>,
-    mut pass: Pass<B>,
-    key: u64,
+    pass: &mut Pass<B>,
+    gate: &Gate,
 ) -> Result<bool, Fault> {
-    is_hit(rt, alloc, shards, &mut pass, key)
+    let begun = gate.begins();
+    let met = calls_meet(rt, alloc, shards, pass, 3);
+    let put = put(rt, alloc, shards, pass, 3, Gated::free());
+    let hit = is_hit(rt, alloc, shards, pass, 3);
+    gate.open();
+    put?;
+    Ok(begun && met? && hit?)
 }
 
 // Of four shards key 4 is of number 0, key 3 of number 1.
+fn looks_apart<N: Names + Send + Sync, R: Threads + Wait + Sync>(
+    rt: &R,
+    alloc: Global,
+    shards: &Shards<u64, Gated, Of<N>>,
+    (a, b): (&mut Pass<Of<N>>, &mut Pass<Of<N>>),
+    gate: &Gate,
+    gated: Gated,
+) -> Result<(bool, bool), Fault> {
+    put(rt, alloc, shards, a, 4, gated)?;
+    put(rt, alloc, shards, a, 3, Gated::free())?;
+    let (hit, met) = thread::join(
+        rt,
+        || is_hit(rt, alloc, shards, a, 4),
+        || calls_beside(rt, alloc, shards, b, gate),
+    );
+    Ok((hit?, met?))
+}
+
 fn look_apart<N: Names + Send + Sync, R: Threads + Wait + Sync>(
     rt: &R,
     alloc: Global,
@@ -96,29 +171,12 @@ fn look_apart<N: Names + Send + Sync, R: Threads + Wait + Sync>(
     requires layout { N.layout ≡ record { shards = 4; config = limits.now } }
     requires blanks { AreBlanksOf N.name blanks }
 {
+    let gate = Gate::new(alloc)?;
+    let gated = Gated::by(Arc::try_clone(&gate)?);
     let shards: Shards<u64, Gated, Of<N>> = Shards::new(rt, alloc, blanks, limits, 4)?;
     let mut a = shards.pass(rt, alloc)?;
     let mut b = shards.pass(rt, alloc)?;
-    let gate = Gate::new(alloc)?;
-    let gated = Gated::by(Arc::try_clone(&gate)?);
-    put(rt, alloc, &shards, &mut a, 4, gated)?;
-    put(rt, alloc, &shards, &mut a, 3, Gated::free())?;
-    let shared = &shards;
-    let gate: &Gate = &gate;
-    let (a, b) = thread::join(
-        rt,
-        || hits(rt, alloc, shared, a, 4),
-        || -> Result<bool, Fault> {
-            let begun = gate.begins();
-            let met = calls_meet(rt, alloc, shared, &mut b, 3);
-            let put = put(rt, alloc, shared, &mut b, 3, Gated::free());
-            let hit = hits(rt, alloc, shared, b, 3);
-            gate.open();
-            put?;
-            Ok(begun && met? && hit?)
-        },
-    );
-    Ok((a?, b?))
+    looks_apart(rt, alloc, &shards, (&mut a, &mut b), &gate, gated)
 }
 
 #[test]
@@ -160,7 +218,57 @@ fn leaves<B: Books, R: Wait>(
     Ok(false)
 }
 
+// Clears once the gate is reached. Whether it was.
+fn clears<B: Books, R: Wait>(
+    rt: &R,
+    alloc: Global,
+    shards: &Shards<u64, Gated, B>,
+    pass: &mut Pass<B>,
+    gate: &Gate,
+) -> Result<bool, Fault> {
+    let begun = gate.begins();
+    clear(rt, alloc, shards, pass)?;
+    Ok(begun)
+}
+
+// Opens the gate once key 2 has left. Whether it did.
+fn opens<B: Books, R: Wait>(
+    rt: &R,
+    alloc: Global,
+    shards: &Shards<u64, Gated, B>,
+    pass: &mut Pass<B>,
+    gate: &Gate,
+) -> Result<bool, Fault> {
+    let gone = leaves(rt, alloc, shards, pass, 2);
+    gate.open();
+    gone
+}
+
 // Of four shards key 1 is of the last, and key 2 of the one before it.
+fn clears_apart<N: Names + Send + Sync, R: Threads + Wait + Sync>(
+    rt: &R,
+    alloc: Global,
+    shards: &Shards<u64, Gated, Of<N>>,
+    (a, b, c): (&mut Pass<Of<N>>, &mut Pass<Of<N>>, &mut Pass<Of<N>>),
+    gate: &Gate,
+    gated: Gated,
+) -> Result<(bool, bool), Fault> {
+    put(rt, alloc, shards, a, 1, gated)?;
+    put(rt, alloc, shards, a, 2, Gated::free())?;
+    let (held, (cleared, gone)) = thread::join(
+        rt,
+        || is_hit(rt, alloc, shards, a, 1),
+        || {
+            thread::join(
+                rt,
+                || clears(rt, alloc, shards, b, gate),
+                || opens(rt, alloc, shards, c, gate),
+            )
+        },
+    );
+    Ok((held?, cleared? && gone?))
+}
+
 fn clear_apart<N: Names + Send + Sync, R: Threads + Wait + Sync>(
     rt: &R,
     alloc: Global,
@@ -170,42 +278,13 @@ fn clear_apart<N: Names + Send + Sync, R: Threads + Wait + Sync>(
     requires layout { N.layout ≡ record { shards = 4; config = limits.now } }
     requires blanks { AreBlanksOf N.name blanks }
 {
+    let gate = Gate::new(alloc)?;
+    let gated = Gated::by(Arc::try_clone(&gate)?);
     let shards: Shards<u64, Gated, Of<N>> = Shards::new(rt, alloc, blanks, limits, 4)?;
     let mut a = shards.pass(rt, alloc)?;
     let mut b = shards.pass(rt, alloc)?;
     let mut c = shards.pass(rt, alloc)?;
-    let gate = Gate::new(alloc)?;
-    put(
-        rt,
-        alloc,
-        &shards,
-        &mut a,
-        1,
-        Gated::by(Arc::try_clone(&gate)?),
-    )?;
-    put(rt, alloc, &shards, &mut a, 2, Gated::free())?;
-    let shared = &shards;
-    let gate: &Gate = &gate;
-    let (held, (cleared, gone)) = thread::join(
-        rt,
-        || is_hit(rt, alloc, shared, &mut a, 1),
-        || {
-            thread::join(
-                rt,
-                || -> Result<bool, Fault> {
-                    let begun = gate.begins();
-                    clear(rt, alloc, shared, &mut b)?;
-                    Ok(begun)
-                },
-                || -> Result<bool, Fault> {
-                    let gone = leaves(rt, alloc, shared, &mut c, 2);
-                    gate.open();
-                    gone
-                },
-            )
-        },
-    );
-    Ok((held?, cleared? && gone?))
+    clears_apart(rt, alloc, &shards, (&mut a, &mut b, &mut c), &gate, gated)
 }
 
 #[test]

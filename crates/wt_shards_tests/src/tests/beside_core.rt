@@ -98,6 +98,29 @@ fn limits(entries: u32, bound: u64, flights: u32, ring: u32) -> Config {
     }
 }
 
+// Makes the calls on both, compares them after each, and returns the steps that were made.
+fn make_all<N: Names>(
+    rt: &impl Abort,
+    alloc: Global,
+    run: &mut Run<Loaded, N>,
+    plain: &mut Plain<Loaded>,
+    keys: u64,
+) -> Vec<Noted<u64>> {
+    let mut dice = Dice(keys);
+    let mut made = Vec::new(alloc);
+    // Moments repeat, go on, and now and then go back a little.
+    let mut now: u64 = 100;
+    for version in 0..1200 {
+        now = now.saturating_add(dice.roll(3));
+        let moment = now.saturating_sub(dice.roll(2));
+        let key = dice.roll(keys);
+        let call = one_call(rt, &mut dice, run, plain, &mut made, (key, version, moment));
+        assert!(rt; call.is_ok());
+        expect_same(rt, run, plain);
+    }
+    made
+}
+
 fn play<N: Names>(
     rt: &impl Abort,
     alloc: Global,
@@ -108,27 +131,9 @@ fn play<N: Names>(
     requires layout { N.layout ≡ record { shards = 1; config = limits.now } }
     requires blanks { AreBlanksOf N.name blanks }
 {
-    let mut run: Run<Loaded, N> = Run::new(alloc, limits, blanks)?;
     let mut plain = Plain::new(alloc, limits)?;
-    let mut dice = Dice(keys);
-    let mut made = Vec::new(alloc);
-    // Moments repeat, go on, and now and then go back a little.
-    let mut now: u64 = 100;
-    for version in 0..1200 {
-        now = now.saturating_add(dice.roll(3));
-        let moment = now.saturating_sub(dice.roll(2));
-        let key = dice.roll(keys);
-        let call = one_call(
-            rt,
-            &mut dice,
-            &mut run,
-            &mut plain,
-            &mut made,
-            (key, version, moment),
-        );
-        assert!(rt; call.is_ok());
-        expect_same(rt, &run, &plain);
-    }
+    let mut run: Run<Loaded, N> = Run::new(alloc, limits, blanks)?;
+    let made = make_all(rt, alloc, &mut run, &mut plain, keys);
     expect_outline(rt, alloc, limits, &run, &plain, made)
 }
 

@@ -14,16 +14,7 @@ use wt_keys::Fault;
 use wt_shards::{Blanks, Names, Of, Shards};
 use wt_tests::{Do, Loaded, call_of, light};
 
-fn take_all<N: Names>(
-    rt: &impl Abort,
-    alloc: Global,
-    blanks: Blanks,
-    limits: &Config,
-) -> Result<(), Fault>
-    requires layout { N.layout ≡ record { shards = 1; config = limits.now } }
-    requires blanks { AreBlanksOf N.name blanks }
-{
-    let mut run: Run<Loaded, N> = Run::new(alloc, limits, blanks)?;
+fn spend_shares<N: Names>(rt: &impl Abort, run: &mut Run<Loaded, N>) {
     // The run has the first ones.
     for _ in 1..65_535 {
         assert!(rt; run.spent().is_none());
@@ -34,6 +25,19 @@ fn take_all<N: Names>(
     }
     assert_eq!(rt; run.mine(), (3, 1));
     assert_eq!(rt; run.spent(), Some(Fault::PassesSpent));
+}
+
+fn take_all<N: Names>(
+    rt: &impl Abort,
+    alloc: Global,
+    blanks: Blanks,
+    limits: &Config,
+) -> Result<(), Fault>
+    requires layout { N.layout ≡ record { shards = 1; config = limits.now } }
+    requires blanks { AreBlanksOf N.name blanks }
+{
+    let mut run: Run<Loaded, N> = Run::new(alloc, limits, blanks)?;
+    spend_shares(rt, &mut run);
     Ok(())
 }
 
@@ -41,6 +45,17 @@ fn take_all<N: Names>(
 fn shares_are_spent_after_65535(rt: HostRuntime) -> Result<(), Fail> {
     take_all::<Brand>(&rt, rt.alloc(), Blanks::new(), &config(1000))?;
     Ok(())
+}
+
+fn spend_passes<N: Names, R: Wait + Abort>(
+    rt: &R,
+    alloc: Global,
+    shards: &Shards<u64, Loaded, Of<N>>,
+) {
+    for _ in 0..65_535 {
+        assert!(rt; shards.pass(rt, alloc).is_ok());
+    }
+    assert_eq!(rt; shards.pass(rt, alloc).err(), Some(Fault::PassesSpent));
 }
 
 fn take_passes<N: Names, R: Wait + Abort>(
@@ -53,10 +68,7 @@ fn take_passes<N: Names, R: Wait + Abort>(
     requires blanks { AreBlanksOf N.name blanks }
 {
     let shards: Shards<u64, Loaded, Of<N>> = Shards::new(rt, alloc, blanks, limits, 4)?;
-    for _ in 0..65_535 {
-        assert!(rt; shards.pass(rt, alloc).is_ok());
-    }
-    assert_eq!(rt; shards.pass(rt, alloc).err(), Some(Fault::PassesSpent));
+    spend_passes(rt, alloc, &shards);
     Ok(())
 }
 

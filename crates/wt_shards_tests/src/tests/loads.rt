@@ -14,7 +14,7 @@ use wt_core::{Config, Land};
 use wt_flights::{Lead, Outcome, Publish, Ticket};
 use wt_keys::Fault;
 use wt_shards::{Blanks, Names, Sought};
-use wt_tests::{Do, Fussy, Loaded, Said, call_of, light};
+use wt_tests::{Do, Fussy, Loaded, Said, call_of, counter, light};
 
 // The leads and tickets that seeks answered, in this order.
 #[derive(Drop)]
@@ -136,6 +136,18 @@ fn publish(rt: &impl Abort, lead: Lead<u64, Loaded>, value: Loaded) -> Ticket<u6
     }
 }
 
+fn tell_all<N: Names>(
+    rt: &impl Abort,
+    run: &mut Run<Loaded, N>,
+    loads: &mut Loads,
+    rows: &[(Act, u64, u64, Told)],
+) {
+    for (act, key, now, told) in rows {
+        let heard = tell(rt, run, loads, (*act, *key, *now));
+        assert_eq!(rt; heard, Ok(*told));
+    }
+}
+
 fn share_a_load<N: Names>(
     rt: &impl Abort,
     alloc: Global,
@@ -146,12 +158,9 @@ fn share_a_load<N: Names>(
     requires layout { N.layout ≡ record { shards = 1; config = limits.now } }
     requires blanks { AreBlanksOf N.name blanks }
 {
-    let mut run: Run<Loaded, N> = Run::new(alloc, limits, blanks)?;
     let mut loads = Loads::new(alloc);
-    for (act, key, now, told) in rows {
-        let heard = tell(rt, &mut run, &mut loads, (*act, *key, *now));
-        assert_eq!(rt; heard, Ok(*told));
-    }
+    let mut run: Run<Loaded, N> = Run::new(alloc, limits, blanks)?;
+    tell_all(rt, &mut run, &mut loads, rows);
     Ok(())
 }
 
@@ -231,8 +240,8 @@ fn share_and_drop<N: Names>(
     requires layout { N.layout ≡ record { shards = 1; config = limits.now } }
     requires blanks { AreBlanksOf N.name blanks }
 {
+    let owned = counter(alloc)?;
     let mut run: Run<Fussy, N> = Run::new(alloc, limits, blanks)?;
-    let owned = Rc::new(alloc, Cell::new(0))?;
     owners(&mut run, &owned)
 }
 

@@ -111,6 +111,28 @@ fn expect_stats(rt: &impl Abort, stats: &Stats, plains: &Plains) {
     assert_eq!(rt; *stats, wanted);
 }
 
+// Does what each row says on both, and compares them after it.
+fn play_rows<N: Names, R: Wait + Abort>(
+    rt: &R,
+    cache: &Shards<u64, Loaded, Of<N>>,
+    caller: &mut Caller<Of<N>>,
+    plains: &mut Plains,
+    rows: &[Row],
+) {
+    for (act, key, now, answer, removals) in rows {
+        let wanted = plains.make((*act, *key, *now));
+        let said = caller.make(rt, cache, (*act, *key, *now));
+        assert_eq!(rt; said, wanted);
+        assert_eq!(rt; said.0, *answer);
+        assert_eq!(rt; caller.told().len(), *removals);
+        expect_told(rt, caller.told(), plains);
+        expect_stats(rt, &cache.stats(rt), plains);
+    }
+    for home in 0..4 {
+        assert_eq!(rt; caller.made(home), (plains.steps(home), plains.hits(home)));
+    }
+}
+
 fn play<N: Names, R: Wait + Abort>(
     rt: &R,
     alloc: Global,
@@ -122,21 +144,10 @@ fn play<N: Names, R: Wait + Abort>(
     requires layout { N.layout ≡ record { shards = shards; config = limits.now } }
     requires blanks { AreBlanksOf N.name blanks }
 {
+    let mut plains = Plains::new(alloc, limits, shards)?;
     let cache: Shards<u64, Loaded, Of<N>> = Shards::new(rt, alloc, blanks, limits, shards)?;
     let mut caller = Caller::new(rt, alloc, &cache)?;
-    let mut plains = Plains::new(alloc, limits, shards)?;
-    for (act, key, now, answer, removals) in rows {
-        let wanted = plains.make((*act, *key, *now));
-        let said = caller.make(rt, &cache, (*act, *key, *now));
-        assert_eq!(rt; said, wanted);
-        assert_eq!(rt; said.0, *answer);
-        assert_eq!(rt; caller.told().len(), *removals);
-        expect_told(rt, caller.told(), &plains);
-        expect_stats(rt, &cache.stats(rt), &plains);
-    }
-    for home in 0..4 {
-        assert_eq!(rt; caller.made(home), (plains.steps(home), plains.hits(home)));
-    }
+    play_rows(rt, &cache, &mut caller, &mut plains, rows);
     Ok(())
 }
 

@@ -15,7 +15,7 @@ use std::test::Fail;
 use wt_core::{Call, Config, Land, Stats, Weighs};
 use wt_keys::{Answers, Fault, Share};
 use wt_shards::{Blanks, Names, Shade};
-use wt_tests::{Do, Fussy, Loaded, Said, call_of, light};
+use wt_tests::{Do, Fussy, Loaded, Said, call_of, counter, light};
 
 #[derive(Clone, Copy)]
 enum Step {
@@ -106,6 +106,13 @@ fn insist<N: Names>(rt: &impl Abort, run: &mut Run<Fussy, N>, left: &Rc<Cell<u32
     );
 }
 
+fn insist_on_all<N: Names>(rt: &impl Abort, run: &mut Run<Fussy, N>, left: &Rc<Cell<u32>>) {
+    for row in rows() {
+        insist(rt, run, left, row);
+    }
+    assert_eq!(rt; run.steps(), 12);
+}
+
 fn refuse_shares<N: Names>(
     rt: &impl Abort,
     alloc: Global,
@@ -115,17 +122,11 @@ fn refuse_shares<N: Names>(
     requires layout { N.layout ≡ record { shards = 1; config = limits.now } }
     requires blanks { AreBlanksOf N.name blanks }
 {
+    let left = counter(alloc)?;
     // With no memory for the shard there is nothing to see.
-    let Ok(mut run) = Run::<Fussy, N>::new(alloc, limits, blanks) else {
-        return Ok(());
-    };
-    let Ok(left) = Rc::new(alloc, Cell::new(0)) else {
-        return Ok(());
-    };
-    for row in rows() {
-        insist(rt, &mut run, &left, row);
+    if let Ok(mut run) = Run::<Fussy, N>::new(alloc, limits, blanks) {
+        insist_on_all(rt, &mut run, &left);
     }
-    assert_eq!(rt; run.steps(), 12);
     Ok(())
 }
 
@@ -177,13 +178,8 @@ fn takes_no_memory(act: Do) -> bool {
     }
 }
 
-// Whether the lagging copy is what the first calls leave, and the shard what the records leave
-// after that; None where memory is refused to the test itself.
-fn is_explained<N: Names>(alloc: Global, limits: &Config, run: &Run<Loaded, N>) -> Option<bool> {
-    let (dropped, kept) = run.records();
-    let Ok(mut copy) = Plain::<Shade>::new(alloc, limits) else {
-        return None;
-    };
+// Makes the first calls on the copy, as many as this; whether all were made.
+fn follows(copy: &mut Plain<Shade>, dropped: u64) -> bool {
     let mut made: u64 = 0;
     let mut well = true;
     for (act, key, _) in calls() {
@@ -192,16 +188,32 @@ fn is_explained<N: Names>(alloc: Global, limits: &Config, run: &Run<Loaded, N>) 
             made = made.wrapping_add(1);
         }
     }
-    let lags = run.lagging() == copy.core.stats();
+    well
+}
+
+// Makes the shard's records on the copy; whether all were made.
+fn catches_up<N: Names>(copy: &mut Plain<Shade>, run: &Run<Loaded, N>, kept: usize) -> bool {
+    let mut well = true;
     for place in 0..kept {
         if let Some(call) = run.noted(place) {
             well = well && copy.make(call).is_ok();
         }
     }
-    if !well {
-        return None;
+    well
+}
+
+// Whether the lagging copy is what the first calls leave, and the shard what the records leave
+// after that; None where memory is refused to the test itself.
+fn is_explained<N: Names>(alloc: Global, limits: &Config, run: &Run<Loaded, N>) -> Option<bool> {
+    let (dropped, kept) = run.records();
+    let mut copy = Plain::<Shade>::new(alloc, limits).ok()?;
+    let followed = follows(&mut copy, dropped);
+    let lags = run.lagging() == copy.core.stats();
+    if followed && catches_up(&mut copy, run, kept) {
+        Some(lags && run.stats() == copy.core.stats())
+    } else {
+        None
     }
-    Some(lags && run.stats() == copy.core.stats())
 }
 
 // A second time where memory was refused to the test itself.
@@ -241,6 +253,13 @@ fn ask<N: Names>(
     expect_explained(rt, alloc, limits, run);
 }
 
+fn ask_all<N: Names>(rt: &impl Abort, alloc: Global, limits: &Config, run: &mut Run<Loaded, N>) {
+    for call in calls() {
+        ask(rt, alloc, limits, run, call);
+    }
+    assert_eq!(rt; run.steps(), 17);
+}
+
 fn refuse_memory<N: Names>(
     rt: &impl Abort,
     alloc: Global,
@@ -250,13 +269,9 @@ fn refuse_memory<N: Names>(
     requires layout { N.layout ≡ record { shards = 1; config = limits.now } }
     requires blanks { AreBlanksOf N.name blanks }
 {
-    let Ok(mut run) = Run::<Loaded, N>::new(alloc, limits, blanks) else {
-        return Ok(());
-    };
-    for call in calls() {
-        ask(rt, alloc, limits, &mut run, call);
+    if let Ok(mut run) = Run::<Loaded, N>::new(alloc, limits, blanks) {
+        ask_all(rt, alloc, limits, &mut run);
     }
-    assert_eq!(rt; run.steps(), 17);
     Ok(())
 }
 

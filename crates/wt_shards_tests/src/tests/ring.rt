@@ -17,6 +17,14 @@ use wt_tests::{Do, Loaded, Said, call_of, light};
 // kept.
 type Row = (Do, u64, Said, u64, usize);
 
+fn play_rows<N: Names>(rt: &impl Abort, run: &mut Run<Loaded, N>, rows: &[Row]) {
+    for (act, key, answer, dropped, kept) in rows {
+        let reply = run.make(call_of(*act, *key, 0));
+        assert_eq!(rt; answered(reply), *answer);
+        assert_eq!(rt; run.records(), (*dropped, *kept));
+    }
+}
+
 fn play<N: Names>(
     rt: &impl Abort,
     alloc: Global,
@@ -28,11 +36,7 @@ fn play<N: Names>(
     requires blanks { AreBlanksOf N.name blanks }
 {
     let mut run: Run<Loaded, N> = Run::new(alloc, limits, blanks)?;
-    for (act, key, answer, dropped, kept) in rows {
-        let reply = run.make(call_of(*act, *key, 0));
-        assert_eq!(rt; answered(reply), *answer);
-        assert_eq!(rt; run.records(), (*dropped, *kept));
-    }
+    play_rows(rt, &mut run, rows);
     Ok(())
 }
 

@@ -37,9 +37,9 @@ impl<V: Share + Weighs + Answers<u64>, N: Names> Run<V, N> {
         requires answers { (v : V) (k : ℕ) → IsTrue (V.answers v k) }
     {
         let Blanks { s0, h0, .. } = blanks;
+        let notices = Notices::new(alloc, config.entries as usize)?;
         let mut shard = Shard::new(alloc, config, 0, 1, s0, h0)?;
         let mine = shard.shares()?;
-        let notices = Notices::new(alloc, config.entries as usize)?;
         Ok(Run {
             shard,
             mine,

@@ -19,6 +19,22 @@ use wt_tests::{Do, Loaded, Said, light};
 // Steps and hits at each of the four shards.
 type Counts = [(u64, u64); 4];
 
+// The caller puts and looks. Key 1 is of the last of four shards.
+fn play<N: Names, R: Wait + Abort>(
+    rt: &R,
+    shards: &Shards<u64, Loaded, Of<N>>,
+    caller: &mut Caller<Of<N>>,
+) {
+    let put = caller.make(rt, shards, (Do::Put(light(5)), 1, 0));
+    assert_eq!(rt; put, (Said::Stored, 1));
+    let look = caller.make(rt, shards, (Do::Look, 1, 0));
+    assert_eq!(rt; look, (Said::Hit(light(5)), 2));
+    assert_eq!(rt; caller.made(3), (2, 1));
+    for shard in 0..3 {
+        assert_eq!(rt; caller.made(shard), (0, 0));
+    }
+}
+
 // One caller puts and looks, and its pass is handed back or not.
 fn one_caller<N: Names, R: Wait + Abort>(
     rt: &R,
@@ -32,15 +48,7 @@ fn one_caller<N: Names, R: Wait + Abort>(
 {
     let shards: Shards<u64, Loaded, Of<N>> = Shards::new(rt, alloc, blanks, limits, 4)?;
     let mut caller = Caller::new(rt, alloc, &shards)?;
-    let put = caller.make(rt, &shards, (Do::Put(light(5)), 1, 0));
-    assert_eq!(rt; put, (Said::Stored, 1));
-    let look = caller.make(rt, &shards, (Do::Look, 1, 0));
-    assert_eq!(rt; look, (Said::Hit(light(5)), 2));
-    // Key 1 is of the last of four shards.
-    assert_eq!(rt; caller.made(3), (2, 1));
-    for shard in 0..3 {
-        assert_eq!(rt; caller.made(shard), (0, 0));
-    }
+    play(rt, &shards, &mut caller);
     let mut passes = Vec::new(alloc);
     if handed_back {
         passes.push(caller.into_pass())?;
