@@ -1,5 +1,5 @@
-// What a new shard takes memory for. Apart from `Shard::new`, in two parts: who is refused drops on
-// the way out all that was made before, and each of these ways is proved.
+// What a new shard takes memory for. It stands apart from `Shard::new`, in two functions, since a
+// function that is refused memory drops what it made before, and each of these ways out is proved.
 ghost use Rattle.std.specs.Prelude.{◌≡◌, ◌≤◌, IfOk, [], vec_capacity};
 ghost use Rattle.circular_buffer.specs.Buffer.{buffer};
 ghost use Rattle.wt_core.specs.State.{opening};
