@@ -73,15 +73,15 @@ fn played<N: Names, R: Wait + Abort>(
     requires layout { N.layout ≡ record { shards = count; config = config.now } }
     requires blanks { AreBlanksOf N.name blanks }
 {
-    let shards: Plain<N> = Shards::new(rt, alloc, blanks, config, count)?;
-    let mut pass = shards.pass(rt, alloc)?;
-    let open = led_for(rt, alloc, &shards, &mut pass, play)?;
     let way = if play == Play::Failures {
         Way::FailsOne
     } else {
         Way::Plain
     };
     let marks = new_marks(alloc)?;
+    let shards: Plain<N> = Shards::new(rt, alloc, blanks, config, count)?;
+    let mut pass = shards.pass(rt, alloc)?;
+    let open = led_for(rt, alloc, &shards, &mut pass, play)?;
     let cache: Cache<N> = LoadingCache::new(shards, Rules { way, marks }, None);
     let home = count.saturating_sub(1);
     let acted = act(rt, alloc, &cache, &mut pass, open, play, home);

@@ -224,14 +224,13 @@ fn soak<N: Names + Send + Sync, R: Threads + Wait + Sync>(
     requires layout { N.layout ≡ record { shards = 4; config = config.now } }
     requires blanks { AreBlanksOf N.name blanks }
 {
-    let shards: Plain<N> = Shards::new(rt, alloc, blanks, config, 4)?;
     let marks = new_marks(alloc)?;
-    let theirs = Arc::try_clone(&marks)?;
-    let line = JobLine::new(rt, alloc, 4)?;
     let rules = Rules {
         way: Way::FailsFifth,
-        marks: theirs,
+        marks: Arc::try_clone(&marks)?,
     };
+    let line = JobLine::new(rt, alloc, 4)?;
+    let shards: Plain<N> = Shards::new(rt, alloc, blanks, config, 4)?;
     let cache: Cache<N> = LoadingCache::new(shards, rules, Some(line));
     let mut passes = Vec::new(alloc);
     let found = run_all(rt, alloc, &cache, &mut passes);

@@ -141,12 +141,12 @@ fn played<N: Names + Send + Sync, R: Threads + Wait + Abort + Sync>(
     requires layout { N.layout ≡ record { shards = count; config = config.now } }
     requires blanks { AreBlanksOf N.name blanks }
 {
-    let shards: Plain<N> = Shards::new(rt, alloc, blanks, config, count)?;
-    let open = led_for(rt, alloc, &shards, scene)?;
-    let marks = new_marks(alloc)?;
     let way = scene.way();
+    let marks = new_marks(alloc)?;
     let theirs = Arc::try_clone(&marks)?;
     let line = line_of(rt, alloc, scene.places())?;
+    let shards: Plain<N> = Shards::new(rt, alloc, blanks, config, count)?;
+    let open = led_for(rt, alloc, &shards, scene)?;
     let cache: Cache<N> = LoadingCache::new(shards, Rules { way, marks: theirs }, line);
     let marks: &Marks = &marks;
     act(rt, alloc, &cache, marks, open, scene)

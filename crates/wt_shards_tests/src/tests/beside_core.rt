@@ -52,6 +52,28 @@ fn expect_same<N: Names>(rt: &impl Abort, run: &Run<Loaded, N>, plain: &Plain<Lo
     }
 }
 
+// Makes the first of the steps on the copy, as many as this.
+fn follow(rt: &impl Abort, copy: &mut Plain<Shade>, made: Vec<Noted<u64>>, dropped: u64) {
+    let mut number: u64 = 0;
+    for call in made {
+        if number < dropped {
+            let reply = copy.make(call);
+            assert!(rt; reply.is_ok());
+        }
+        number = number.wrapping_add(1);
+    }
+}
+
+// Makes the shard's records on the copy.
+fn catch_up<N: Names>(rt: &impl Abort, copy: &mut Plain<Shade>, run: &Run<Loaded, N>, kept: usize) {
+    for place in 0..kept {
+        if let Some(call) = run.noted(place) {
+            let reply = copy.make(call);
+            assert!(rt; reply.is_ok());
+        }
+    }
+}
+
 // The lagging copy is what the first of the steps leave, and the records are the steps after them.
 fn expect_outline<N: Names>(
     rt: &impl Abort,
@@ -64,22 +86,10 @@ fn expect_outline<N: Names>(
     let (dropped, kept) = run.records();
     assert_eq!(rt; dropped.wrapping_add(kept as u64), made.len() as u64);
     let mut copy: Plain<Shade> = Plain::new(alloc, limits)?;
-    let mut number: u64 = 0;
-    for call in made {
-        if number < dropped {
-            let reply = copy.make(call);
-            assert!(rt; reply.is_ok());
-        }
-        number = number.wrapping_add(1);
-    }
+    follow(rt, &mut copy, made, dropped);
     assert_eq!(rt; run.lagging(), copy.core.stats());
     assert_eq!(rt; run.lagging_keys(alloc), keys_of(alloc, &copy.core));
-    for place in 0..kept {
-        if let Some(call) = run.noted(place) {
-            let reply = copy.make(call);
-            assert!(rt; reply.is_ok());
-        }
-    }
+    catch_up(rt, &mut copy, run, kept);
     assert_eq!(rt; run.stats(), copy.core.stats());
     assert_eq!(rt; keys_of(alloc, &plain.core), keys_of(alloc, &copy.core));
     Ok(())
@@ -121,6 +131,19 @@ fn make_all<N: Names>(
     made
 }
 
+// Plays the calls on the shard and on a plain cache beside it.
+fn play_beside<N: Names>(
+    rt: &impl Abort,
+    alloc: Global,
+    limits: &Config,
+    run: &mut Run<Loaded, N>,
+    keys: u64,
+) -> Result<(), Fault> {
+    let mut plain = Plain::new(alloc, limits)?;
+    let made = make_all(rt, alloc, run, &mut plain, keys);
+    expect_outline(rt, alloc, limits, run, &plain, made)
+}
+
 fn play<N: Names>(
     rt: &impl Abort,
     alloc: Global,
@@ -131,10 +154,8 @@ fn play<N: Names>(
     requires layout { N.layout ≡ record { shards = 1; config = limits.now } }
     requires blanks { AreBlanksOf N.name blanks }
 {
-    let mut plain = Plain::new(alloc, limits)?;
     let mut run: Run<Loaded, N> = Run::new(alloc, limits, blanks)?;
-    let made = make_all(rt, alloc, &mut run, &mut plain, keys);
-    expect_outline(rt, alloc, limits, &run, &plain, made)
+    play_beside(rt, alloc, limits, &mut run, keys)
 }
 
 #[test]

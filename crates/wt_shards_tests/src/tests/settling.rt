@@ -13,7 +13,7 @@ use std::thread;
 use std::thread::Threads;
 use wt_core::Config;
 use wt_keys::Fault;
-use wt_shards::{Blanks, Names, Of, Shards};
+use wt_shards::{Blanks, Names, Of, Pass, Shards};
 use wt_tests::{Do, Loaded, Said, light};
 
 // Steps and hits at each of the four shards.
@@ -35,6 +35,37 @@ fn play<N: Names, R: Wait + Abort>(
     }
 }
 
+// What one caller that puts and looks hands back: its pass, or nothing.
+fn passes_of_one<N: Names, R: Wait + Abort>(
+    rt: &R,
+    alloc: Global,
+    shards: &Shards<u64, Loaded, Of<N>>,
+    handed_back: bool,
+) -> Result<Vec<Pass<Of<N>>>, Fault> {
+    let mut passes = Vec::new(alloc);
+    let mut caller = Caller::new(rt, alloc, shards)?;
+    play(rt, shards, &mut caller);
+    if handed_back {
+        passes.push(caller.into_pass())?;
+    }
+    Ok(passes)
+}
+
+// The steps and hits that the settled books hold.
+fn counts<N: Names, R: Wait + Abort>(
+    rt: &R,
+    alloc: Global,
+    shards: Shards<u64, Loaded, Of<N>>,
+    passes: Vec<Pass<Of<N>>>,
+) -> Result<Counts, Fault> {
+    let totals = match shards.settle(rt, alloc, passes) {
+        Ok(totals) => totals,
+        Err(fault) => return Err(fault),
+    };
+    let count = |shard: usize| totals.of(shard).map_or((99, 99), |t| (t.steps, t.hits));
+    Ok([count(0), count(1), count(2), count(3)])
+}
+
 // One caller puts and looks, and its pass is handed back or not.
 fn one_caller<N: Names, R: Wait + Abort>(
     rt: &R,
@@ -47,18 +78,8 @@ fn one_caller<N: Names, R: Wait + Abort>(
     requires blanks { AreBlanksOf N.name blanks }
 {
     let shards: Shards<u64, Loaded, Of<N>> = Shards::new(rt, alloc, blanks, limits, 4)?;
-    let mut caller = Caller::new(rt, alloc, &shards)?;
-    play(rt, &shards, &mut caller);
-    let mut passes = Vec::new(alloc);
-    if handed_back {
-        passes.push(caller.into_pass())?;
-    }
-    let totals = match shards.settle(rt, alloc, passes) {
-        Ok(totals) => totals,
-        Err(fault) => return Err(fault),
-    };
-    let count = |shard: usize| totals.of(shard).map_or((99, 99), |t| (t.steps, t.hits));
-    Ok([count(0), count(1), count(2), count(3)])
+    let passes = passes_of_one(rt, alloc, &shards, handed_back)?;
+    counts(rt, alloc, shards, passes)
 }
 
 #[test]
@@ -91,9 +112,9 @@ fn a_missing_pass_is_told(rt: HostRuntime) -> Result<(), Fail> {
 fn put_and_look<N: Names, R: Wait + Abort>(
     rt: &R,
     shards: &Shards<u64, Loaded, Of<N>>,
-    mut caller: Caller<Of<N>>,
+    caller: &mut Caller<Of<N>>,
     from: u64,
-) -> Caller<Of<N>> {
+) {
     for version in 0..10u64 {
         let key = from.wrapping_add(version);
         let put = caller.make(rt, shards, (Do::Put(light(version)), key, 0));
@@ -101,7 +122,35 @@ fn put_and_look<N: Names, R: Wait + Abort>(
         let look = caller.make(rt, shards, (Do::Look, key, 0));
         assert_eq!(rt; look.0, Said::Hit(light(version)));
     }
-    caller
+}
+
+// A thread's work, with a caller of its own, whose pass it hands back.
+fn call<N: Names, R: Wait + Abort>(
+    rt: &R,
+    alloc: Global,
+    shards: &Shards<u64, Loaded, Of<N>>,
+    from: u64,
+) -> Result<Pass<Of<N>>, Fault> {
+    let mut caller = Caller::new(rt, alloc, shards)?;
+    put_and_look(rt, shards, &mut caller, from);
+    Ok(caller.into_pass())
+}
+
+// The passes of two threads.
+fn passes_of_two<N: Names + Send + Sync, R: Threads + Wait + Abort + Sync>(
+    rt: &R,
+    alloc: Global,
+    shards: &Shards<u64, Loaded, Of<N>>,
+) -> Result<Vec<Pass<Of<N>>>, Fault> {
+    let mut passes = Vec::with_capacity(alloc, 2)?;
+    let (a, b) = thread::join(
+        rt,
+        || call(rt, alloc, shards, 1),
+        || call(rt, alloc, shards, 100),
+    );
+    passes.push(a?)?;
+    passes.push(b?)?;
+    Ok(passes)
 }
 
 fn two_callers<N: Names + Send + Sync, R: Threads + Wait + Abort + Sync>(
@@ -114,24 +163,9 @@ fn two_callers<N: Names + Send + Sync, R: Threads + Wait + Abort + Sync>(
     requires blanks { AreBlanksOf N.name blanks }
 {
     let shards: Shards<u64, Loaded, Of<N>> = Shards::new(rt, alloc, blanks, limits, 4)?;
-    let a = Caller::new(rt, alloc, &shards)?;
-    let b = Caller::new(rt, alloc, &shards)?;
-    let shared = &shards;
-    let (a, b) = thread::join(
-        rt,
-        || put_and_look(rt, shared, a, 1),
-        || put_and_look(rt, shared, b, 100),
-    );
-    let mut passes = Vec::with_capacity(alloc, 2)?;
-    passes.push_reserved(a.into_pass());
-    passes.push_reserved(b.into_pass());
-    let totals = match shards.settle(rt, alloc, passes) {
-        Ok(totals) => totals,
-        Err(fault) => return Err(fault),
-    };
+    let passes = passes_of_two(rt, alloc, &shards)?;
     let mut made: (u64, u64) = (0, 0);
-    for shard in 0..4 {
-        let (steps, hits) = totals.of(shard).map_or((0, 0), |t| (t.steps, t.hits));
+    for (steps, hits) in counts(rt, alloc, shards, passes)? {
         made = (made.0.wrapping_add(steps), made.1.wrapping_add(hits));
     }
     Ok(made)
