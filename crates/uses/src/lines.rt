@@ -1,5 +1,4 @@
 // A cache whose loads are run by workers, and how it ends.
-ghost use Rattle.std.specs.Prelude.{◌*◌, ◌≤◌};
 
 use crate::source::{Page, Source};
 use std::alloc::Global;

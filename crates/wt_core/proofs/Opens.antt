@@ -1,5 +1,5 @@
 -- How many loads are open after the landing of an open one: one fewer.
-use Rattle.std.proofs.Common.{◌≡◌, ℕ, suc, ◌+◌, ◌<◌, Bool, true, false, cond, not, ◌&&◌, List, [], ◌∷◌, filter, length, Option, Some, None, refl, sym, ap, ◌∙◌, arith}
+use Rattle.std.proofs.Common.{◌≡◌, ℕ, suc, ◌+◌, ◌<◌, Bool, true, false, cond, not, ◌&&◌, List, [], ◌∷◌, filter, length, Some, refl, ap, arith}
 use Rattle.std.specs.Prelude.{◌==◌, get_or, max}
 use Rattle.std.specs.List.{find, All, AllPairs}
 use Rattle.std.proofs.lemmas.Bool.{eqb-true}

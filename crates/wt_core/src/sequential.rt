@@ -5,7 +5,7 @@
 //         ──► flights    the loads that are open
 //
 // Each of the eight steps (`steps/`) is a function of the whole state.
-ghost use Rattle.std.specs.Prelude.{◌≡◌, ◌≤◌, ◌==◌, IfOk, length};
+ghost use Rattle.std.specs.Prelude.{◌≡◌, ◌==◌, IfOk, length};
 ghost use Rattle.std.specs.Map.{keys_of};
 ghost use Rattle.std.specs.Option.{option_map};
 ghost use Rattle.wt_regions.specs.Lawful.{FailsByField};

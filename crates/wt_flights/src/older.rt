@@ -8,23 +8,19 @@
 // and its id isn't below `since`. So its row is one look-up, and a landing two removals. A load is
 // forgotten by a removal and its flag; all are by a clearing, after which `since` is the next id.
 // None of these takes memory, and a row is put together only when it is handed out.
-ghost use Rattle.std.specs.Prelude.{◌≡◌, ℕ, ◌==◌, ◌&&◌, if◌then◌else◌, false, Some, IsSome, ◌<◌, ◌≤◌, ◌^◌, length, nat_eq, IsTrue, IsNone, Err, IfOk, IfSome, OnOk, OnErr, IsOk};
+ghost use Rattle.std.specs.Prelude.{◌≡◌, ℕ, ◌==◌, ◌&&◌, if◌then◌else◌, false, Some, IsSome, ◌<◌, ◌^◌, length, nat_eq, IfSome, OnOk, OnErr};
 ghost use Rattle.std.specs.HashMap.{get, hash_map_len};
 ghost use Rattle.std.specs.Option.{option_map, is_some};
 ghost use Rattle.wt_flights.specs.Lawful.{IsLawful};
+ghost use Rattle.wt_flights.specs.Newest.{IsNewest};
 ghost use Rattle.wt_flights.specs.Rows.{Flights, no_flights, begun, adopted, row, landed, taken_back, forgotten_all, current_row, current_of, joined, forgotten, first_of, CanTakeBack};
 ghost use Rattle.wt_flights.specs.Tables.{IsSound, rows_of};
-ghost use Rattle.wt_keys.specs.declared.fault.Fault.TheVariants as fault;
-ghost use Rattle.wt_keys.specs.declared.fault.Field.TheVariants as field;
 
 use crate::row::{Open, Row};
 use std::alloc::Global;
 use std::collections::HashMap;
 use std::marker::Model;
-use wt_keys::{CacheKey, Fault, Field, NoMemory};
-
-/// The most loads that a table may have open.
-const MOST_FLIGHTS: u32 = 4096;
+use wt_keys::{CacheKey, NoMemory};
 
 // All open loads but the newest one, oldest first.
 #[derive(Drop)]
@@ -55,25 +51,17 @@ impl<K: CacheKey> Model for Older<K> {
 }
 
 impl<K: CacheKey> Older<K> {
-    // Returns a table with no loads, for a limit from 1 to 4,096.
-    pub(crate) fn new(alloc: Global, limit: u32) -> Result<Older<K>, Fault>
-        ensures ok { IfOk result (λ table. table ≡ no_flights limit) }
-        ensures in_range { (1 ≤ limit) × (limit ≤ 4096) → IsOk result }
-        ensures refusal { ¬ ((1 ≤ limit) × (limit ≤ 4096))
-            → result ≡ Err (fault.BadConfig field.Flights) }
+    // Returns a table with no loads.
+    pub(crate) fn new(alloc: Global, limit: u32) -> Older<K>
+        ensures { result ≡ no_flights limit }
     {
-        if limit == 0 || limit > MOST_FLIGHTS {
-            return Err(Fault::BadConfig {
-                field: Field::Flights,
-            });
-        }
-        Ok(Older {
+        Older {
             by_id: HashMap::new(alloc),
             by_key: HashMap::new(alloc),
             next: 1,
             limit,
             since: 1,
-        })
+        }
     }
 
     // Returns how many loads may be open at once, the newest one among them.
@@ -153,13 +141,10 @@ impl<K: CacheKey> Older<K> {
         self.since = self.next;
     }
 
-    // Takes over a load that is newer than all of these, as it is. Only this call takes memory. If it
-    // is refused, the table is as it was.
-    pub(crate) fn adopt(&mut self, row: Row<K>) -> Result<(), NoMemory>
-        requires not_open { IsTrue row.current → IsNone (current_of K.eq row.key self.old) }
-        requires above { self.old.next ≤ row.id }
-        requires id_left { row.id < 2 ^ 63 }
-        requires room { length self.old.rows < self.old.limit }
+    // Takes over a load that is newer than all of these, as it is; `next` is the id after the load's.
+    // Only this call takes memory. If it is refused, the table is as it was.
+    pub(crate) fn adopt(&mut self, row: Row<K>, next: u64) -> Result<(), NoMemory>
+        requires { IsNewest K.eq next self.old row }
         ensures state { OnOk result (self.new ≡ adopted row self.old) }
         ensures err { OnErr result (self.new ≡ self.old) }
     {
@@ -174,7 +159,7 @@ impl<K: CacheKey> Older<K> {
         let Ok(_) = self.by_id.insert(row.id, open) else {
             unreachable!();
         };
-        self.next = row.id + 1;
+        self.next = next;
         Ok(())
     }
 

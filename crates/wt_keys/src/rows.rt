@@ -1,5 +1,5 @@
 // Where a word stands in four hash rows, and in which shard: multiply, and keep the highest bits.
-ghost use Rattle.std.specs.Prelude.{◌≡◌, ℕ, ◌*◌, ◌^◌, ◌<◌, ◌≤◌, ◌==◌, ◌||◌, IsTrue, max};
+ghost use Rattle.std.specs.Prelude.{◌≡◌, ℕ, ◌^◌, ◌<◌, ◌≤◌, ◌==◌, ◌||◌, IsTrue, max};
 ghost use Rattle.std.specs.List.{All};
 ghost use Rattle.wt_keys.specs.Hash.{place, places, bits_for, shard_of};
 

@@ -120,6 +120,12 @@ module _ {K V : Type 0} where
     pub main_part : length r.probation + length r.protected ≤ main_cap r.caps
     pub weights : All (λ (e : Entry K V). e.1.weight ≡ weight e.1.value) (all_entries r)
 
+  -- such regions, whose window is full and has no entry of k
+  pub record HasFullWindow (eq : K → K → Bool) (weight : V → ℕ) (k : K) (r : Lists K V) : Type 0 where
+    pub placed : IsPlaced eq weight r
+    pub elsewhere : lookup (eq k) r.window ≡ None
+    pub full : r.caps.window ≤ length r.window
+
 module _ {K V : Type 0} (word : K → ℕ) (s : Counters) (k : K) where
   -- a new entry comes to window, which past its cap gives up its last, at the moment when the entry was written
   abbrev pub overflowing : Held V → Lists K V → Told K V

@@ -1,7 +1,7 @@
 // What the regions do with one `LruCache`. Window and protected have the places that they may hold:
 // a push into a full one hands its last out, and keeps the block of memory that held it. Probation
 // has one more, as its last may only leave once another has come.
-ghost use Rattle.std.specs.Prelude.{◌≡◌, ◌+◌, ◌<◌, ◌≤◌, [], length, None, IfOk, OnOk, OnErr, IsSome, IsNone, is_some, IsTrue, option_copied};
+ghost use Rattle.std.specs.Prelude.{◌≡◌, ◌<◌, ◌≤◌, [], length, None, IfOk, OnOk, OnErr, IsSome, IsNone, is_some, IsTrue, option_copied};
 ghost use Rattle.std.specs.Map.{keys_of, lookup};
 ghost use Rattle.std.specs.Option.{option_map};
 ghost use Rattle.lru.specs.LruCache.{last_entry, lru_cache};

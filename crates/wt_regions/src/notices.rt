@@ -1,5 +1,5 @@
 // Why an entry left, and the list of notices, whose room is made before the steps that tell.
-ghost use Rattle.std.specs.Prelude.{◌≡◌, ◌<◌, ◌+◌, ◌∷◌, [], IfOk, IsSome, length, nat_le};
+ghost use Rattle.std.specs.Prelude.{◌≡◌, ◌<◌, ◌∷◌, [], IfOk, IsSome, length, nat_le};
 ghost use Rattle.std.specs.Option.{option_map_or};
 ghost use Rattle.wt_regions.specs.Lists.{is_eviction};
 ghost use Rattle.wt_regions.specs.Moves.{heft, told_held, told_left};

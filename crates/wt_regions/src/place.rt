@@ -8,10 +8,10 @@
 //
 // In the last case the old entry is taken out last of all, since what left a cache can't be put
 // back where it was after a refusal.
-ghost use Rattle.std.specs.Prelude.{◌≡◌, ◌+◌, ◌≤◌, ◌++◌, length, None, IfOk, OnOk, OnErr, IsSome};
+ghost use Rattle.std.specs.Prelude.{◌≡◌, ◌+◌, ◌≤◌, ◌++◌, None, IfOk, OnOk, OnErr, IsSome};
 ghost use Rattle.std.specs.Map.{lookup};
 ghost use Rattle.wt_regions.specs.Lists.{weight_of};
-ghost use Rattle.wt_regions.specs.Moves.{IsPlaced, WeighsUp, last_expired, passed_live, placing, settled_past, without_below};
+ghost use Rattle.wt_regions.specs.Moves.{HasFullWindow, IsPlaced, WeighsUp, last_expired, passed_live, placing, settled_past, without_below};
 ghost use Rattle.wt_regions.specs.Notices.{appended};
 
 use crate::caches::Caches;
@@ -39,9 +39,7 @@ impl<K: CacheKey, V: Share + Weighs> Caches<K, V> {
     // A new entry comes to the front of a full window, whose last leaves it: an expired one is
     // returned, another goes to probation.
     fn make_way(&mut self, key: K, held: Held<V>) -> Result<Option<(K, Held<V>)>, NoMemory>
-        requires placed { IsPlaced K.eq V.weight self.old }
-        requires elsewhere { lookup (K.eq key) self.old.window ≡ None }
-        requires full { self.old.caps.window ≤ length self.old.window }
+        requires full { HasFullWindow K.eq V.weight key self.old }
         ensures left { IfOk result (λ r. r ≡ last_expired held.written (key, held) self.old) }
         ensures state { OnOk result (self.new ≡ passed_live held.written (key, held) self.old) }
         ensures err { OnErr result (self.new ≡ self.old) }

@@ -9,11 +9,10 @@
 //             was counted as often, or more often ────► stays; the candidate leaves
 //
 // A read-only function decides first, and a mover goes by what it answers.
-ghost use Rattle.std.specs.Prelude.{◌≡◌, ◌+◌, ◌<◌, ◌≤◌, length, None, IfOk, OnOk, OnErr};
-ghost use Rattle.std.specs.Map.{lookup};
+ghost use Rattle.std.specs.Prelude.{◌≡◌, ◌+◌, ◌<◌, None, IfOk, OnOk, OnErr};
 ghost use Rattle.wt_sketch.specs.Sketch.{estimate_of};
 ghost use Rattle.wt_regions.specs.Lists.{held_for, weight_of};
-ghost use Rattle.wt_regions.specs.Moves.{IsPlaced, WeighsUp, estimates, overflowing, passed_on, settling};
+ghost use Rattle.wt_regions.specs.Moves.{HasFullWindow, IsPlaced, WeighsUp, estimates, overflowing, passed_on, settling};
 ghost use Rattle.wt_regions.specs.Notices.{appended};
 ghost use Rattle.wt_regions.specs.Settle.{fate, grown};
 
@@ -76,9 +75,7 @@ impl<K: CacheKey, V: Share + Weighs> Caches<K, V> {
     // The entry comes to the front of a full window, whose last goes to probation's front. A push
     // that was made is undone by a pop if the other is refused.
     pub(crate) fn pass_on(&mut self, key: K, held: Held<V>) -> Result<(), NoMemory>
-        requires placed { IsPlaced K.eq V.weight self.old }
-        requires elsewhere { lookup (K.eq key) self.old.window ≡ None }
-        requires full { self.old.caps.window ≤ length self.old.window }
+        requires full { HasFullWindow K.eq V.weight key self.old }
         ensures state { OnOk result (self.new ≡ passed_on (key, held) self.old) }
         ensures err { OnErr result (self.new ≡ self.old) }
     {
@@ -103,9 +100,7 @@ impl<K: CacheKey, V: Share + Weighs> Caches<K, V> {
         sketch: &Sketch,
         notices: &mut Notices<K, V>,
     ) -> Result<u64, NoMemory>
-        requires placed { IsPlaced K.eq V.weight self.old }
-        requires elsewhere { lookup (K.eq key) self.old.window ≡ None }
-        requires full { self.old.caps.window ≤ length self.old.window }
+        requires full { HasFullWindow K.eq V.weight key self.old }
         requires room { 0 < notices.old.room }
         ensures state { OnOk result (self.new
             ≡ (overflowing K.word sketch.now key held self.old).0) }

@@ -66,30 +66,7 @@ impl<S: Ledger, H: Ledger> Shares<S, H> {
         hits.audit(&mut self.of_hits);
     }
 
-    // One step more, in the book and in the share of it.
-    pub(crate) fn add_step(&mut self, book: &mut Book<S>)
-        requires { book.old.total < 2 ^ 62 }
-        ensures steps { self.new ≡ record self.old { steps = self.old.steps + 1 } }
-        ensures book { book.new.total ≡ book.old.total + 1 }
-        ensures later { self.old.steps ≤ book.old.total }
-    {
-        book.audit(&mut self.of_steps);
-        book.add(&mut self.of_steps, 1);
-        self.steps += 1;
-    }
-
-    // One hit more, in the book and in the share of it.
-    pub(crate) fn add_hit(&mut self, book: &mut Book<H>)
-        requires { book.old.total < 2 ^ 62 }
-        ensures hits { self.new ≡ record self.old { hits = self.old.hits + 1 } }
-        ensures book { book.new.total ≡ book.old.total + 1 }
-    {
-        book.audit(&mut self.of_hits);
-        book.add(&mut self.of_hits, 1);
-        self.hits += 1;
-    }
-
-    // One step more, and a hit if it was one.
+    // One step more in its book and in the share of it, and a hit if it was one.
     pub(crate) fn count(&mut self, steps: &mut Book<S>, hits: &mut Book<H>, hit: bool)
         requires { (steps.old.total < 2 ^ 62) × (hits.old.total < 2 ^ 62) }
         ensures moved { self.new ≡ counted hit self.old }
@@ -97,9 +74,13 @@ impl<S: Ledger, H: Ledger> Shares<S, H> {
         ensures hits { hits.new.total ≡ hits.old.total + (if hit then 1 else 0) }
         ensures later { self.old.steps ≤ steps.old.total }
     {
-        self.add_step(steps);
+        steps.audit(&mut self.of_steps);
+        steps.add(&mut self.of_steps, 1);
+        self.steps += 1;
         if hit {
-            self.add_hit(hits);
+            hits.audit(&mut self.of_hits);
+            hits.add(&mut self.of_hits, 1);
+            self.hits += 1;
         }
     }
 }

@@ -1,5 +1,5 @@
 // A row of counters in words: sixteen counters of four bits to a word, the lowest bits first.
-ghost use Rattle.std.specs.Prelude.{◌≡◌, ℕ, ◌*◌, ◌<◌, ◌≤◌, length, map};
+ghost use Rattle.std.specs.Prelude.{◌≡◌, ◌*◌, ◌<◌, ◌≤◌, length, map};
 ghost use Rattle.wt_sketch.specs.Nibbles.{nibbles, unpacked};
 ghost use Rattle.wt_sketch.specs.Sketch.{at, half, rises, raised};
 

@@ -33,7 +33,6 @@ impl<
         notices: &mut Notices<K, V>,
     ) -> Result<(), Fault>
         requires room { most_entries self.now ≤ notices.old.room }
-
         ensures made { IsSweepCall K.eq K.word V.weight V.answers self.now.layout (call.Clean now)
             pass.old pass.new notices.old notices.new result }
     {

@@ -33,7 +33,6 @@ impl<
         notices: &mut Notices<K, V>,
     ) -> Result<Done<bool>, Fault>
         requires room { self.now.layout.config.entries ≤ notices.old.room }
-
         ensures made { IsHomeCall K.eq K.word V.weight V.answers self.now.layout key
             (call.Forget key now) reply.Forgot pass.old pass.new notices.old notices.new result }
     {

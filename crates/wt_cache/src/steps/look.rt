@@ -35,7 +35,6 @@ impl<
         notices: &mut Notices<K, V>,
     ) -> Result<Done<Reply<V>>, Fault>
         requires room { self.now.layout.config.entries ≤ notices.old.room }
-
         ensures made { IsHomeCall K.eq K.word V.weight V.answers self.now.layout key
             (call.Look key now) (λ reply. reply) pass.old pass.new notices.old notices.new result }
         ensures answers { IfOk result (λ done. ReplyAnswers V.answers key done.reply) }

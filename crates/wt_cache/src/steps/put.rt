@@ -33,7 +33,6 @@ impl<
     ) -> Result<Done<()>, Fault>
         requires answers { IsTrue (V.answers value key) }
         requires room { self.now.layout.config.entries ≤ notices.old.room }
-
         ensures made { IsPutCall K.eq K.word V.weight V.answers self.now.layout key value now
             pass.old pass.new notices.old notices.new result }
     {

@@ -1,5 +1,4 @@
 // A line that is closed while loads are posted.
-ghost use Rattle.std.specs.Prelude.{◌≡◌};
 
 use std::alloc::Global;
 use std::process::Abort;

@@ -1,5 +1,4 @@
 // The line alone: what comes back, in which order, to whom, and what a close does.
-ghost use Rattle.std.specs.Prelude.{◌≡◌};
 
 use std::alloc::Global;
 use std::process::Abort;

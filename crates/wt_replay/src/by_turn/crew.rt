@@ -28,46 +28,6 @@ pub(crate) type Ran<B> = Vec<Result<Pass<B>, RunFault>>;
 /// What each worker handed back, or its fault.
 pub(crate) type Worked<B> = Vec<Result<Pass<B>, Fault>>;
 
-// Has the threads do their turns.
-fn turns<K: TraceKey, N: Names + Send + Sync, G: Gate, R: Threads + Wait + Sync>(
-    rt: &R,
-    alloc: Global,
-    cache: &LoadingCache<K, Version<K>, TraceLoader, Of<N>>,
-    deal: &Deal<'_, K>,
-    gate: &G,
-) -> Result<Ran<Of<N>>, AllocError>
-    requires { cache.now.layout.shards ≤ 4 }
-    ensures { HaveRan (keys_by K.eq K.word K.read K.shown) deal.now.loader.now.options cache.now
-        (G.answers gate.now) deal.now.first deal.now.lines.now deal.now.threads result }
-{
-    // Taken apart: the prover finds no proof for a thread's closure that captures the deal whole.
-    let Deal {
-        loader,
-        first,
-        lines,
-        threads,
-    } = *deal;
-    thread::map_indices(
-        rt,
-        alloc,
-        threads,
-        &|t: usize| -> Result<Pass<Of<N>>, RunFault>
-            requires { IsManned cache.now.layout.shards first (length lines.now) threads
-                × (t < threads) }
-            ensures { IsDone (keys_by K.eq K.word K.read K.shown) loader.entry.now.options
-                cache.entry.now (G.answers gate.entry.now) first lines.entry.now threads t result }
-        {
-            let deal = Deal {
-                loader,
-                first,
-                lines,
-                threads,
-            };
-            run_thread(rt, alloc, cache, &deal, t, gate)
-        },
-    )
-}
-
 // Closes the line of loads if no worker comes to it, so that each caller loads for itself.
 fn await_worker<K: TraceKey, N: Names + Send + Sync, R: Wait>(
     rt: &R,
@@ -86,7 +46,7 @@ fn await_worker<K: TraceKey, N: Names + Send + Sync, R: Wait>(
     line.close(rt);
 }
 
-// Has the threads do their turns, and closes the line of loads then.
+// Has the threads do their turns once a worker came, and closes the line of loads then.
 fn handle_all<K: TraceKey, N: Names + Send + Sync, G: Gate, R: Threads + Wait + Sync>(
     rt: &R,
     alloc: Global,
@@ -99,8 +59,33 @@ fn handle_all<K: TraceKey, N: Names + Send + Sync, G: Gate, R: Threads + Wait + 
     ensures { HaveRan (keys_by K.eq K.word K.read K.shown) deal.now.loader.now.options cache.now
         (G.answers gate.now) deal.now.first deal.now.lines.now deal.now.threads result }
 {
+    // Taken apart: the prover finds no proof for a thread's closure that captures the deal whole.
+    let Deal {
+        loader,
+        first,
+        lines,
+        threads,
+    } = *deal;
     await_worker(rt, cache, manned);
-    let ran = turns(rt, alloc, cache, deal, gate);
+    let ran = thread::map_indices(
+        rt,
+        alloc,
+        threads,
+        &|t: usize| -> Result<Pass<Of<N>>, RunFault>
+            requires { IsManned cache.now.layout.shards first (length lines.now) threads
+                × (t < threads) }
+            ensures { IsDone (keys_by K.eq K.word K.read K.shown) loader.entry.now.options
+                cache.entry.now (G.answers gate.entry.now) first lines.entry.now threads t result }
+        {
+            let deal = Deal {
+                loader,
+                first,
+                lines,
+                threads,
+            };
+            run_thread(rt, alloc, cache, &deal, t, gate)
+        },
+    );
     if let Some(line) = cache.line() {
         line.close(rt);
     }
@@ -147,7 +132,7 @@ pub(crate) fn work_all<K: TraceKey, N: Names + Send + Sync, G: Gate, R: Threads 
     ensures faults { IfOk result.1 (λ worked. AreWorked worked.items) }
 {
     let manned = AtomicBool::new(false);
-    // Taken apart, as in `turns`.
+    // Taken apart, as in `handle_all`.
     let Deal {
         loader,
         first,

@@ -117,35 +117,8 @@ fn is_turn(n: u64, t: u64, threads: u64) -> bool
 }
 
 impl<'a, K: TraceKey, B: Books> Turns<'a, K, B> {
-    // Does line n, if the gate lets it through, and drops what left the cache.
-    fn do_line<G: Gate, R: Wait>(
-        &self,
-        rt: &R,
-        gate: &G,
-        pass: &mut Pass<B>,
-        n: u64,
-        line: &Line<K>,
-        notices: &mut Notices<K, Version<K>>,
-    ) -> Result<(), RunFault>
-        requires room { 4 * self.now.cache.now.layout.config.entries ≤ notices.old.room }
-        ensures asked { OnOk result (G.answers gate.now n true) }
-        ensures step { OnOk result (HasActed (keys_by K.eq K.word K.read K.shown)
-            self.now.deal.now.loader.now.options self.now.cache.now n line.now pass.old pass.new) }
-        ensures err { IfErr result (IsRunStop (λ m. G.answers gate.now m false)) }
-        ensures room { 4 * self.now.cache.now.layout.config.entries ≤ notices.new.room }
-    {
-        if !gate.pass(n) {
-            return Err(RunFault::GateShut { n });
-        }
-        let done = act(rt, self.cache, self.deal.loader, pass, n, line, notices);
-        notices.empty();
-        match done {
-            Ok(()) => Ok(()),
-            Err(fault) => Err(RunFault::Cache(fault)),
-        }
-    }
-
-    // Does line n if it is this thread's, and else leaves it alone.
+    // Does line n if it is this thread's and the gate lets it through, and drops what left the cache.
+    // Leaves another thread's line alone.
     #[tactic(auto, using(crate::proofs::Dealt::own_turn, crate::proofs::Dealt::other_turn))]
     fn take_turn<G: Gate, R: Wait>(
         &self,
@@ -168,7 +141,15 @@ impl<'a, K: TraceKey, B: Books> Turns<'a, K, B> {
         if !is_turn(n, self.t as u64, self.deal.threads as u64) {
             return Ok(());
         }
-        self.do_line(rt, gate, pass, n, line, notices)
+        if !gate.pass(n) {
+            return Err(RunFault::GateShut { n });
+        }
+        let done = act(rt, self.cache, self.deal.loader, pass, n, line, notices);
+        notices.empty();
+        match done {
+            Ok(()) => Ok(()),
+            Err(fault) => Err(RunFault::Cache(fault)),
+        }
     }
 
     // Does the thread's lines in their order, up to its first fault.

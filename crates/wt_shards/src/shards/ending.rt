@@ -2,9 +2,8 @@
 ghost use Rattle.std.specs.Prelude.{◌≡◌, ◌<◌, ◌≤◌, ◌^◌, ◌↔◌, ℕ, sum_by, IfOk, IfErr, OnOk, IfSome, IfNone, IsSome};
 ghost use Rattle.wt_keys.specs.declared.fault.Fault.TheVariants as fault;
 ghost use Rattle.wt_shards.specs.Place.{place_of};
-ghost use Rattle.wt_shards.specs.StateAt.{IsStateAt};
 ghost use Rattle.wt_shards.specs.Passes.{steps_at, hits_at};
-ghost use Rattle.wt_shards.specs.Totals.{IsSound, AreSums, AreNotSums, AddUp, IsTotal, IsMissing, AreTotals, AddUpBelow, total_of};
+ghost use Rattle.wt_shards.specs.Totals.{AddUp, IsTotal, IsMissing, AreTotals, AddUpBelow};
 
 use crate::books::Books;
 use crate::closed::Closed;
@@ -51,43 +50,8 @@ fn hits_sum<B: Books>(passes: &Vec<Pass<B>>, shard: usize) -> Option<u64>
     Some(sum)
 }
 
-// Ends a shard whose lock is gone: its books are closed exactly if the passes add up to them.
-fn close<
-    K: CacheKey,
-    V: Share + Weighs + Answers<K> + Send + Sync,
-    S: ShardLedger,
-    H: Ledger,
-    B: Books,
->(shard: Shard<K, V, S, H>, passes: &Vec<Pass<B>>, number: u32) -> Result<Closed<S, H>, Fault>
-    requires number { number ≡ S.ShardLedger.place.index }
-    ensures total { IfOk result (λ closed. closed ≡ total_of shard.core) }
-    ensures sound { IfOk result (IsSound S.ShardLedger.place passes.now.items) }
-    ensures sums { OnOk result (AreSums S.ShardLedger.place.index passes.now.items
-        shard.core.step shard.core.counts.hits) }
-    ensures missing { IfErr result (λ f. (f ≡ fault.PassMissing number)
-        × AreNotSums S.ShardLedger.place.index passes.now.items
-        shard.core.step shard.core.counts.hits) }
-    ensures lawful { IsStateAt K.eq K.word V.weight V.answers S.ShardLedger.place shard.core }
-{
-    let missing = Fault::PassMissing { shard: number };
-    let closed = shard.close();
-    let total = closed.total();
-    let Some(steps) = steps_sum(passes, number as usize) else {
-        return Err(missing);
-    };
-    if steps != total.steps {
-        return Err(missing);
-    }
-    let Some(hits) = hits_sum(passes, number as usize) else {
-        return Err(missing);
-    };
-    if hits != total.hits {
-        return Err(missing);
-    }
-    Ok(closed)
-}
-
-// Ends the shard of a number, if there is one.
+// Ends the shard of a number, if there is one: its books are closed exactly if the passes add up to
+// them.
 fn settle_at<
     K: CacheKey,
     V: Share + Weighs + Answers<K> + Send + Sync,
@@ -111,10 +75,22 @@ fn settle_at<
     let Some(shard) = shard else {
         return Ok(None);
     };
-    match close(shard.into_inner(), passes, number) {
-        Ok(closed) => Ok(Some(closed)),
-        Err(fault) => Err(fault),
+    let missing = Fault::PassMissing { shard: number };
+    let closed = shard.into_inner().close();
+    let total = closed.total();
+    let Some(steps) = steps_sum(passes, number as usize) else {
+        return Err(missing);
+    };
+    if steps != total.steps {
+        return Err(missing);
     }
+    let Some(hits) = hits_sum(passes, number as usize) else {
+        return Err(missing);
+    };
+    if hits != total.hits {
+        return Err(missing);
+    }
+    Ok(Some(closed))
 }
 
 impl<K: CacheKey, V: Share + Weighs + Answers<K> + Send + Sync, B: Books> Shards<K, V, B> {

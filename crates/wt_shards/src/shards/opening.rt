@@ -1,5 +1,5 @@
 // How shards and passes are made.
-ghost use Rattle.std.specs.Prelude.{◌≡◌, ◌+◌, ◌<◌, ◌==◌, ◌||◌, ◌↔◌, IsTrue, IfOk, IfErr, IsSome, IsOkUnless, MatchOption, Err};
+ghost use Rattle.std.specs.Prelude.{◌≡◌, ◌+◌, ◌<◌, ◌↔◌, None, IfOk, IfErr, OnOk, IsSome, IsOkUnless, MatchOption, Ok, Err};
 ghost use Rattle.wt_keys.specs.declared.fault.Fault.TheVariants as fault;
 ghost use Rattle.wt_shards.specs.Counts.{IsBlankOf, no_steps};
 ghost use Rattle.wt_shards.specs.Opening.{AreBlanks, ArePlacesOf, layout_fault};
@@ -17,9 +17,23 @@ use std::alloc::Global;
 use std::sync::ledger::{Blank, Ledger};
 use std::sync::{Mutex, Wait};
 use wt_core::{Config, Weighs};
-use wt_keys::{Answers, CacheKey, Fault, Field, Share};
+use wt_keys::{Answers, CacheKey, Fault, Field, NoMemory, Share};
 
-// One shard behind its lock.
+// Checks the number of shards, and then the configuration.
+fn check(config: &Config, shards: usize) -> Result<(), Fault>
+    ensures ok { OnOk result (layout_fault shards config.now ≡ None) }
+    ensures refusal { MatchOption (layout_fault shards config.now)
+        (result ≡ Ok tt) (λ field. result ≡ Err (fault.BadConfig field)) }
+{
+    if shards != 1 && (shards != 2 && shards != 4) {
+        return Err(Fault::BadConfig {
+            field: Field::Shards,
+        });
+    }
+    config.check()
+}
+
+// One shard behind its lock, if there is one of this number.
 fn locked<K: CacheKey, V: Share + Weighs + Answers<K> + Send + Sync, S: ShardLedger, H: Ledger>(
     alloc: Global,
     config: &Config,
@@ -27,7 +41,7 @@ fn locked<K: CacheKey, V: Share + Weighs + Answers<K> + Send + Sync, S: ShardLed
     shards: usize,
     steps: Blank,
     hits: Blank,
-) -> Result<Option<Mutex<Shard<K, V, S, H>>>, Fault>
+) -> Result<Option<Mutex<Shard<K, V, S, H>>>, NoMemory>
     requires place { index < shards
         → S.ShardLedger.place ≡ place_of index (record { shards = shards; config = config.now }) }
     requires steps { IsBlankOf steps S.Ledger.name S.Ledger.parts }
@@ -37,8 +51,10 @@ fn locked<K: CacheKey, V: Share + Weighs + Answers<K> + Send + Sync, S: ShardLed
     if index >= shards {
         return Ok(None);
     }
-    let shard = Shard::new(alloc, config, index, shards, steps, hits)?;
-    Ok(Some(Mutex::new(shard)))
+    match Shard::new(alloc, config, index, shards, steps, hits) {
+        Ok(shard) => Ok(Some(Mutex::new(shard))),
+        Err(_) => Err(NoMemory),
+    }
 }
 
 // Shares of the books of one shard, if there is one.
@@ -82,42 +98,13 @@ impl<K: CacheKey, V: Share + Weighs + Answers<K> + Send + Sync, B: Books> Shards
             × AreBlanks B.S1.Ledger.name B.S1.Ledger.parts B.H1.name B.H1.parts blanks.s1 blanks.h1
             × AreBlanks B.S2.Ledger.name B.S2.Ledger.parts B.H2.name B.H2.parts blanks.s2 blanks.h2
             × AreBlanks B.S3.Ledger.name B.S3.Ledger.parts B.H3.name B.H3.parts blanks.s3 blanks.h3 }
-
         ensures ok { IfOk result (λ made. made ≡ record { shards = shards; config = config.now }) }
         ensures refusal { MatchOption (layout_fault shards config.now)
             (IsOkUnless result fault.NoMemory) (λ field. result ≡ Err (fault.BadConfig field)) }
     {
-        if shards != 1 && (shards != 2 && shards != 4) {
-            return Err(Fault::BadConfig {
-                field: Field::Shards,
-            });
-        }
-        if let Err(fault) = config.check() {
+        if let Err(fault) = check(config, shards) {
             return Err(fault);
         }
-        let Ok(made) = Shards::made(alloc, blanks, config, shards) else {
-            return Err(Fault::NoMemory);
-        };
-        Ok(made)
-    }
-
-    // The shards, if their number is allowed.
-    fn made(
-        alloc: Global,
-        blanks: Blanks,
-        config: &Config,
-        shards: usize,
-    ) -> Result<Shards<K, V, B>, Fault>
-        requires number { IsTrue (shards == 1 || (shards == 2 || shards == 4)) }
-        requires layout { ArePlacesOf (record { shards = shards; config = config.now })
-            B.S0.ShardLedger.place B.S1.ShardLedger.place B.S2.ShardLedger.place
-            B.S3.ShardLedger.place }
-        requires blanks { AreBlanks B.S0.Ledger.name B.S0.Ledger.parts B.H0.name B.H0.parts blanks.s0 blanks.h0
-            × AreBlanks B.S1.Ledger.name B.S1.Ledger.parts B.H1.name B.H1.parts blanks.s1 blanks.h1
-            × AreBlanks B.S2.Ledger.name B.S2.Ledger.parts B.H2.name B.H2.parts blanks.s2 blanks.h2
-            × AreBlanks B.S3.Ledger.name B.S3.Ledger.parts B.H3.name B.H3.parts blanks.s3 blanks.h3 }
-        ensures { IfOk result (λ made. made ≡ record { shards = shards; config = config.now }) }
-    {
         let Blanks {
             s0,
             h0,

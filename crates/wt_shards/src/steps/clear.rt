@@ -28,7 +28,6 @@ impl<K: CacheKey, V: Share + Weighs + Answers<K>, S: ShardLedger, H: Ledger> Sha
         notices: &mut Notices<K, V>,
     ) -> Result<(), Fault>
         requires room { S.ShardLedger.place.config.entries ≤ notices.old.room }
-
         ensures made { IsShardCall K.eq K.word V.weight S.ShardLedger.place.config.entries
             (call.Clear now) (λ _. reply.Cleared) (λ _. []) self.old self.new mine.old mine.new
             notices.old notices.new result }
@@ -54,7 +53,6 @@ impl<K: CacheKey, V: Share + Weighs + Answers<K> + Send + Sync, B: Books> Shards
         notices: &mut Notices<K, V>,
     ) -> Result<(), Fault>
         requires room { self.now.shards * self.now.config.entries ≤ notices.old.room }
-
         ensures made { IsSweepCall K.eq K.word V.weight V.answers self.now (call.Clear now) pass.old
             pass.new notices.old notices.new result }
     {

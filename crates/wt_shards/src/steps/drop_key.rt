@@ -35,7 +35,6 @@ impl<K: CacheKey, V: Share + Weighs + Answers<K>, S: ShardLedger, H: Ledger> Sha
     ) -> Result<bool, Fault>
         requires asked { MayAsk V.answers K.word S.ShardLedger.place
             (call.DropKey key now) notices.old }
-
         ensures made { IsShardCall K.eq K.word V.weight S.ShardLedger.place.config.entries
             (call.DropKey key now) reply.Dropped (λ _. []) self.old self.new mine.old mine.new
             notices.old notices.new result }
@@ -93,7 +92,6 @@ impl<K: CacheKey, V: Share + Weighs + Answers<K> + Send + Sync, B: Books> Shards
         notices: &mut Notices<K, V>,
     ) -> Result<Done<bool>, Fault>
         requires room { self.now.config.entries ≤ notices.old.room }
-
         ensures made { IsHomeCall K.eq K.word V.weight V.answers self.now key (call.DropKey key now)
             reply.Dropped pass.old pass.new notices.old notices.new result }
     {

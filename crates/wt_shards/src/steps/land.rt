@@ -43,7 +43,6 @@ impl<K: CacheKey, V: Share + Weighs + Answers<K>, S: ShardLedger, H: Ledger> Sha
     ) -> Result<Reply<V>, Fault>
         requires asked { MayAsk V.answers K.word S.ShardLedger.place
             (call.Land id key what now) notices.old }
-
         ensures made { IsShardCall K.eq K.word V.weight S.ShardLedger.place.config.entries
             (call.Land id key what now) (λ reply. reply) (λ _. []) self.old self.new mine.old
             mine.new notices.old notices.new result }
@@ -109,7 +108,6 @@ impl<K: CacheKey, V: Share + Weighs + Answers<K> + Send + Sync, B: Books> Shards
     ) -> Result<Done<Reply<V>>, Fault>
         requires answers { LandAnswers V.answers lead.now.key what }
         requires room { self.now.config.entries ≤ notices.old.room }
-
         ensures made { IsHomeCall K.eq K.word V.weight V.answers self.now lead.now.key
             (call.Land lead.now.id lead.now.key what now) (λ reply. reply) pass.old pass.new
             notices.old notices.new result }

@@ -34,7 +34,6 @@ impl<K: CacheKey, V: Share + Weighs + Answers<K>, S: ShardLedger, H: Ledger> Sha
     ) -> Result<Reply<V>, Fault>
         requires asked { MayAsk V.answers K.word S.ShardLedger.place
             (call.Look key now) notices.old }
-
         ensures made { IsShardCall K.eq K.word V.weight S.ShardLedger.place.config.entries
             (call.Look key now) (λ reply. reply) (λ _. []) self.old self.new mine.old mine.new
             notices.old notices.new result }
@@ -91,7 +90,6 @@ impl<K: CacheKey, V: Share + Weighs + Answers<K> + Send + Sync, B: Books> Shards
         notices: &mut Notices<K, V>,
     ) -> Result<Done<Reply<V>>, Fault>
         requires room { self.now.config.entries ≤ notices.old.room }
-
         ensures made { IsHomeCall K.eq K.word V.weight V.answers self.now key (call.Look key now)
             (λ reply. reply) pass.old pass.new notices.old notices.new result }
         ensures answers { IfOk result (λ done. ReplyAnswers V.answers key done.reply) }

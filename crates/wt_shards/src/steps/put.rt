@@ -37,7 +37,6 @@ impl<K: CacheKey, V: Share + Weighs + Answers<K>, S: ShardLedger, H: Ledger> Sha
     ) -> Result<(), Fault>
         requires asked { MayAsk V.answers K.word S.ShardLedger.place
             (call.Put key value now) notices.old }
-
         ensures made { IsShardCall K.eq K.word V.weight S.ShardLedger.place.config.entries
             (call.Put key value now) (λ _. reply.Stored) (λ _. []) self.old self.new mine.old
             mine.new notices.old notices.new result }
@@ -102,7 +101,6 @@ impl<K: CacheKey, V: Share + Weighs + Answers<K> + Send + Sync, B: Books> Shards
     ) -> Result<Done<()>, Fault>
         requires answers { IsTrue (V.answers value key) }
         requires room { self.now.config.entries ≤ notices.old.room }
-
         ensures made { IsHomeCall K.eq K.word V.weight V.answers self.now key
             (call.Put key value now) (λ _. reply.Stored) pass.old pass.new notices.old notices.new
             result }

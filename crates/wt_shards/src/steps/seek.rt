@@ -1,12 +1,7 @@
 // A look-up that opens or joins a load: at a shard, under its lock, and at the shard of the key.
-ghost use Rattle.std.specs.Prelude.{◌≡◌, ◌+◌, ◌≤◌, None, IfOk, IfErr, OnOk, OnErr, IsOkUnless, MatchOption, Err, true};
-ghost use Rattle.wt_keys.specs.declared.fault.Fault.TheVariants as fault;
-ghost use Rattle.wt_regions.specs.Notices.{appended};
+ghost use Rattle.std.specs.Prelude.{◌≤◌, IfOk};
 ghost use Rattle.wt_core.specs.declared.calls.Call.TheVariants as call;
-ghost use Rattle.wt_core.specs.Faults.{is_seek_fault};
-ghost use Rattle.wt_shards.specs.Contract.{IsLockedCall, IsHomeCall};
-ghost use Rattle.wt_shards.specs.Counts.{counted, is_hit};
-ghost use Rattle.wt_shards.specs.Told.{HasTold};
+ghost use Rattle.wt_shards.specs.Contract.{IsHomeCall, IsLockedCall, IsShardCall};
 ghost use Rattle.wt_shards.specs.Asked.{MayAsk, ReplyAnswers};
 ghost use Rattle.wt_shards.specs.Outer.{IsOfKey};
 ghost use Rattle.wt_shards.specs.Sought.{reply_of};
@@ -29,8 +24,6 @@ use wt_flights::Lead;
 use wt_keys::{Answers, CacheKey, Fault, Share, shard_of};
 
 impl<K: CacheKey, V: Share + Weighs + Answers<K>, S: ShardLedger, H: Ledger> Shard<K, V, S, H> {
-    ghost use Rattle.wt_core.specs.Step.{step, refusal_of};
-    ghost use Rattle.wt_shards.specs.Audited.{IsCaughtUp, shard_step};
     ghost use Rattle.wt_shards.specs.Sought.{IsOfLandings, opened_by};
 
     /// Looks the key up at the moment `now`; if it isn't there, joins its current load or opens
@@ -42,6 +35,7 @@ impl<K: CacheKey, V: Share + Weighs + Answers<K>, S: ShardLedger, H: Ledger> Sha
     /// `TooManyFlights`, and both before memory is asked for. Expected O(1), unless an attacker
     /// chooses the keys (see `Seeded`); O(log(open loads)) on a join; and what the dropped records
     /// cost.
+    #[tactic(auto, using(crate::proofs::Told::told_none))]
     pub fn seek(
         &mut self,
         mine: &mut Shares<S, H>,
@@ -51,36 +45,11 @@ impl<K: CacheKey, V: Share + Weighs + Answers<K>, S: ShardLedger, H: Ledger> Sha
     ) -> Result<Sought<K, V>, Fault>
         requires asked { MayAsk V.answers K.word S.ShardLedger.place
             (call.Seek key now) notices.old }
-
-        ensures state { IfOk result (λ sought. self.new
-            ≡ shard_step K.eq K.word V.weight (call.Seek key now) (opened_by sought) self.old) }
-        ensures answer { IfOk result (λ sought. reply_of sought
-            ≡ (step K.eq K.word V.weight self.old.core (call.Seek key now)).reply) }
+        ensures made { IsShardCall K.eq K.word V.weight S.ShardLedger.place.config.entries
+            (call.Seek key now) reply_of opened_by self.old self.new mine.old mine.new notices.old
+            notices.new result }
         ensures landings { IfOk result (IsOfLandings key now self.new.landings) }
-        ensures notices { OnOk result (notices.new ≡ appended
-            (step K.eq K.word V.weight self.old.core (call.Seek key now)).notices
-            notices.old) }
-        ensures moved { IfOk result (λ sought.
-            mine.new ≡ counted (is_hit (reply_of sought)) mine.old) }
-        // The number of this step is above those of all steps that the caller made here.
-        ensures later { OnOk result ((mine.old.steps ≤ self.old.core.step)
-            × (self.new.core.step ≡ self.old.core.step + 1)) }
         ensures answers { IfOk result (λ sought. ReplyAnswers V.answers key (reply_of sought)) }
-
-        ensures allowed { OnOk result
-            (refusal_of K.eq K.word V.weight self.old.core (call.Seek key now) ≡ None) }
-        // What the state refuses is refused whatever the memory does, and leaves the whole shard as
-        // it is.
-        ensures refusal { MatchOption
-            (refusal_of K.eq K.word V.weight self.old.core (call.Seek key now))
-            (IsOkUnless result fault.NoMemory)
-            (λ f. (result ≡ Err f) × (self.new ≡ self.old)) }
-        ensures faults { IfErr result (λ f. is_seek_fault f ≡ true) }
-        // Whatever is answered.
-        ensures told { HasTold S.ShardLedger.place.config.entries notices.old notices.new }
-        ensures err { OnErr result
-            (IsCaughtUp K.eq K.word V.weight (call.Seek key now) self.old self.new
-            × (mine.new ≡ mine.old) × (notices.new ≡ notices.old)) }
     {
         let met = self.core.foresee(key, now);
         let rows = match self.core.open_met(key, now, &met) {
@@ -184,7 +153,6 @@ impl<K: CacheKey, V: Share + Weighs + Answers<K> + Send + Sync, B: Books> Shards
         notices: &mut Notices<K, V>,
     ) -> Result<Done<Sought<K, V>>, Fault>
         requires room { self.now.config.entries ≤ notices.old.room }
-
         ensures made { IsHomeCall K.eq K.word V.weight V.answers self.now key (call.Seek key now)
             reply_of pass.old pass.new notices.old notices.new result }
         ensures answers { IfOk result (λ done. ReplyAnswers V.answers key (reply_of done.reply)) }

@@ -3,7 +3,7 @@
 ghost use Rattle.std.specs.Prelude.{◌≡◌, ◌≤◌, ◌<◌, [], Ok, IfOk, OnOk, None, length, vec_len, get_or, true};
 ghost use Rattle.wt_trace.specs.Contract.{AreAllAsked, AreAnswered, HaveRan, IsPartOn, IsReadyOn, IsReportOf, IsReportedBy};
 ghost use Rattle.wt_trace.specs.Options.{option_fault};
-ghost use Rattle.wt_trace.specs.Parts.{all_without, place_at, without};
+ghost use Rattle.wt_trace.specs.Parts.{all_without, place_at};
 ghost use Rattle.wt_trace.specs.Report.{IsVerdict, report};
 ghost use Rattle.wt_trace.specs.Stops.{Asked};
 
@@ -65,18 +65,6 @@ fn part_of<K: TraceKey, G: Gate>(
     Ok(Part { places })
 }
 
-// Takes a shard's answers out of the part of its thread.
-fn take(part: &mut Result<Part, ReplayFault>, shard: usize) -> Result<Option<Answers>, ReplayFault>
-    requires { IfOk part.old (λ places. shard < length places) }
-    ensures taken { result ≡ place_at shard part.old }
-    ensures left { part.new ≡ without shard part.old }
-{
-    match part {
-        Ok(part) => Ok(part.places[shard].take()),
-        Err(fault) => Err(*fault),
-    }
-}
-
 // Takes a shard's answers out of the t-th part.
 fn take_at(
     parts: &mut Vec<Result<Part, ReplayFault>>,
@@ -88,7 +76,10 @@ fn take_at(
     ensures taken { result ≡ place_at shard (get_or parts.old.items t (Ok [])) }
     ensures left { parts.new.items ≡ all_without t shard parts.old.items }
 {
-    take(&mut parts[t], shard)
+    match &mut parts[t] {
+        Ok(part) => Ok(part.places[shard].take()),
+        Err(fault) => Err(*fault),
+    }
 }
 
 // The parts of all threads.

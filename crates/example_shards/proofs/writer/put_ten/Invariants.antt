@@ -1,4 +1,4 @@
-use Rattle.std.proofs.Common.{◌≡◌, ◌≤◌, ◌+◌, length}
+use Rattle.std.proofs.Common.{◌≤◌, ◌+◌, length}
 use Rattle.example_shards.proofs.writer.put_ten.Given as goal
 
 abbrev pub invariant-loop-version : goal.invariant-loop-version

@@ -36,14 +36,14 @@ only : (g : Over) → (c : In-Ok g) → c.args.row.current ≡ true → get g.K.
 only g c is =
     let laws = (g.met.K.Eq g.world.𝓛 g.world.𝓜 g.world.𝓡 ((λ s x. x), (λ x. x), (λ x. x), λ x. x)).laws in
     let same = (g.met.K.CacheKey g.world.𝓛 g.world.𝓜 g.world.𝓡 ((λ s x. x), (λ x. x), (λ x. x), λ x. x)).same in
-    let none = (rw (← c.self.view_is) at c.requires.not_open) is in
+    let none = (rw (← c.self.view_is) at c.requires.only) is in
     none_there g.K.PartialEq.eq laws same (get nat_eq c.self.inside.by_id) _ _ _ c.args.row.key c.self.invariant.tied none
 
 -- both tables got their entry
 adopts : (g : Over) → (c : In-Ok g) → Adopts g.K.PartialEq.eq (get nat_eq c.self.inside.by_id) (get nat_eq c.insert.new.self)
     (get g.K.PartialEq.eq c.self.inside.by_key) (get g.K.PartialEq.eq c.name_current.new.by_key) c.self.inside.next c.args.row
 adopts g c = record {
-  newer = rw (← c.self.view_is) at c.requires.above;
+  newer = rw (← c.self.view_is) at c.requires.after;
   only = only g c;
   opened = λ q. c.in-Ok.ensures.updates.0 q ∙ ap (cond (eqb c.args.row.id q) (Some (open_of c.args.row))) (c.in_ok-reserve.ensures.entries.2 q);
   named = c.in_ok-name_current.ensures.ok;
@@ -63,11 +63,12 @@ invariant_of-self-2 g c =
     let rows = rows_of (get nat_eq c.self.inside.by_id) (get g.K.PartialEq.eq c.self.inside.by_key) c.self.inside.next in
     let room : length rows < c.self.inside.limit = rw (← c.self.view_is) at c.requires.room in
     let counted = c.self.invariant.tied.counted in
+    let last = c.requires.last in
     record {
-      tied = adopt_keeps g.K.PartialEq.eq laws same _ _ _ _ _ c.args.row (adopts g ok) _ _ c.self.invariant.positive l c.self.invariant.tied;
-      marked = adopt_marks g.K.PartialEq.eq laws same _ _ _ _ _ c.args.row (adopts g ok) _ _ c.self.invariant.tied c.self.invariant.marked;
+      tied = rw last at (adopt_keeps g.K.PartialEq.eq laws same _ _ _ _ _ c.args.row (adopts g ok) _ _ c.self.invariant.positive l c.self.invariant.tied);
+      marked = rw last at (adopt_marks g.K.PartialEq.eq laws same _ _ _ _ _ c.args.row (adopts g ok) _ _ c.self.invariant.tied c.self.invariant.marked);
       within = omega (arith, l, room, counted);
-      positive = omega arith;
+      positive = omega (arith, last);
     }
 
 pub returns-clause-state : goal.returns-clause-state
@@ -75,5 +76,5 @@ returns-clause-state g c =
     let ok = (goal.at.returns-clause-state g c).In-Ok in
     let laws = (g.met.K.Eq g.world.𝓛 g.world.𝓜 g.world.𝓡 ((λ s x. x), (λ x. x), (λ x. x), λ x. x)).laws in
     let same = (g.met.K.CacheKey g.world.𝓛 g.world.𝓜 g.world.𝓡 ((λ s x. x), (λ x. x), (λ x. x), λ x. x)).same in
-    rw (← c.self.view_is) (ap (λ rs. record { limit = c.self.inside.limit; next = c.args.row.id + 1; rows = rs })
+    rw (← c.self.view_is, ← c.requires.last) (ap (λ rs. record { limit = c.self.inside.limit; next = c.args.row.id + 1; rows = rs })
     (rows_of-adopted g.K.PartialEq.eq laws same _ _ _ _ _ c.args.row (adopts g ok) _ c.self.invariant.tied))

@@ -1,4 +1,4 @@
-use Rattle.std.proofs.Common.{◌++◌}
+use Rattle.std.proofs.Common.{arith, ◌≤◌, ◌++◌, length}
 use Rattle.wt_regions.proofs.Settled.{fresh_parts}
 use Rattle.wt_regions.proofs.caches.Caches.settle.Goals as goal
 
@@ -8,8 +8,13 @@ push_new-requires-clause-fresh g c κs within =
     let off = rw (← c.self.view_is) at c.requires.elsewhere in
     (fresh_parts (g.K.PartialEq.eq c.args.key) i.window.entries (i.probation.entries ++ i.protected.entries) off).0
 
-pub settle_full-requires-clause-elsewhere : goal.settle_full-requires-clause-elsewhere
-settle_full-requires-clause-elsewhere g c κs within =
+pub settle_full-requires-clause-full : goal.settle_full-requires-clause-full
+settle_full-requires-clause-full g c κs within =
     let i = c.self.inside in
     let off = rw (← c.self.view_is) at c.requires.elsewhere in
-    rw (← c.self.view_is) (fresh_parts (g.K.PartialEq.eq c.args.key) i.window.entries (i.probation.entries ++ i.protected.entries) off).0
+    let whole : i.caps.window ≤ length i.window.entries = omega (arith, c.len.ensures.len, c.if-len-self.false) in
+    record {
+      placed = c.requires.placed;
+      elsewhere = rw (← c.self.view_is) (fresh_parts (g.K.PartialEq.eq c.args.key) i.window.entries (i.probation.entries ++ i.protected.entries) off).0;
+      full = rw (← c.self.view_is) whole;
+    }

@@ -74,3 +74,13 @@ returns-clause-weight g c =
     let p = past-weight g.K.PartialEq.eq laws g.V.Weighs.weight (λ _. 0) c.args.held.written c.args.key c.args.held i.caps i.window.entries i.probation.entries i.protected.entries placed off on full in
     let o = past-own g.K.PartialEq.eq laws g.V.Weighs.weight (λ _. 0) c.args.held.written c.args.key c.args.held i.caps i.window.entries i.probation.entries i.protected.entries placed off on full in
     rw (c.tell_left.ensures.weight, c.tell_held-gone.ensures.weight, c.take_below-own-2.ensures.held, c.take_below-own-2.ensures.state, c.in_ok-left.ensures.left, c.in_ok-left.ensures.state, ← c.self.view_is, o) p
+
+pub make_way-requires-clause-full : goal.make_way-requires-clause-full
+make_way-requires-clause-full g c κs within =
+    let i = c.self.inside in
+    let whole : i.caps.window ≤ length i.window.entries = omega (arith, c.len.ensures.len, c.if-len-self.false) in
+    record {
+      placed = c.requires.placed;
+      elsewhere = c.requires.elsewhere;
+      full = rw (← c.self.view_is) whole;
+    }

@@ -13,9 +13,9 @@ returns-clause-made g c =
         state = c.deref_mut.result.now.core;
         lawful = search rules;
         numbered = search rules;
-        allowed = sought.allowed;
-        replied = sought.answer;
-        noticed = sought.notices;
+        allowed = sought.made.allowed;
+        replied = sought.made.answer;
+        noticed = sought.made.notices;
       };
       faults = search rules;
       cause = search rules;
@@ -25,7 +25,7 @@ returns-clause-made g c =
 
 pub returns-in_err-reply-clause-made : goal.returns-in_err-reply-clause-made
 returns-in_err-reply-clause-made g c =
-    let cause = cause_of _ g.K.PartialEq.eq g.K.CacheKey.word g.V.Weighs.weight g.V.Answers.answers g.S.ShardLedger.place (Seek c.args.key c.args.now) c.deref_mut.result.now.core _ c.in_err-reply.field-0.0 _ refl refl (search rules) c.in_err-reply.ensures.refusal in
+    let cause = cause_of _ g.K.PartialEq.eq g.K.CacheKey.word g.V.Weighs.weight g.V.Answers.answers g.S.ShardLedger.place (Seek c.args.key c.args.now) c.deref_mut.result.now.core _ c.in_err-reply.field-0.0 _ refl refl (search rules) c.in_err-reply.ensures.made.refusal in
     record {
       moved = search rules;
       later = search rules;

@@ -1,4 +1,4 @@
-use Rattle.wt_replay.proofs.by_turn.crew.fn.turns.map_indices+FnOnce.call_once.Goals as goal
+use Rattle.wt_replay.proofs.by_turn.crew.fn.handle_all.map_indices+FnOnce.call_once.Goals as goal
 
 pub map_indices-requires : goal.map_indices-requires
 map_indices-requires g c =

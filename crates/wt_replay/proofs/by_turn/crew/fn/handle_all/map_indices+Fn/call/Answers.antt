@@ -1,4 +1,4 @@
-use Rattle.wt_replay.proofs.by_turn.crew.fn.turns.map_indices+FnMut.call_mut.Goals as goal
+use Rattle.wt_replay.proofs.by_turn.crew.fn.handle_all.map_indices+Fn.call.Goals as goal
 
 pub map_indices-requires : goal.map_indices-requires
 map_indices-requires g c =
