@@ -7,8 +7,6 @@ mod name;
 mod rows;
 mod seeded;
 mod shared;
-#[cfg(test)]
-mod tests;
 mod value;
 
 pub use fault::{Fault, Field, NoMemory};

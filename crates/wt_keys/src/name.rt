@@ -9,9 +9,6 @@ ghost use Rattle.std.specs.Hash as fed;
 ghost use Rattle.std.proofs.Common.{rules};
 ghost use Rattle.wt_keys.specs.Hash.{word_of_name};
 
-#[cfg(test)]
-mod tests;
-
 use crate::key::CacheKey;
 use std::fmt;
 use std::hash::{Hash, Hasher};

@@ -3,9 +3,6 @@ ghost use Rattle.std.specs.Prelude.{◌≡◌, ℕ, ◌^◌, ◌<◌, ◌≤◌,
 ghost use Rattle.std.specs.List.{All};
 ghost use Rattle.wt_keys.specs.Hash.{place, places, bits_for, shard_of};
 
-#[cfg(test)]
-mod tests;
-
 // Odd numbers without a pattern in their bits; ours, one a row, so that two words that meet in one
 // row part in another.
 const ROW_0: u64 = 0x9E37_79B9_7F4A_7C15;

@@ -3,9 +3,6 @@ ghost use Rattle.std.specs.Prelude.{◌≡◌, nat_eq};
 ghost use Rattle.std.specs.Hash as fed;
 ghost use Rattle.wt_keys.specs.Seeded.{key_of, word_of, seeded, TellsKeysApart};
 
-#[cfg(test)]
-mod tests;
-
 use crate::key::CacheKey;
 use std::hash::{BuildHasher, Hash, Hasher, RandomState};
 use std::random::RandomSource;

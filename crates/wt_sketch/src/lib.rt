@@ -2,8 +2,6 @@
 #![tactic(auto)]
 
 mod sketch;
-#[cfg(test)]
-mod tests;
 mod words;
 
 pub use sketch::Sketch;

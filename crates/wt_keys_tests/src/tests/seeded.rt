@@ -1,4 +1,4 @@
-use crate::{CacheKey, FixedBytes, Name, Seed, places, shard_of};
+use super::compare::{holds, same};
 use std::alloc::Global;
 use std::collections::HashSet;
 use std::fmt::Write;
@@ -8,6 +8,7 @@ use std::random::RandomSource;
 use std::sync::atomic::{AtomicU64, Ordering};
 use std::test::Fail;
 use std::{fmt, io};
+use wt_keys::{CacheKey, FixedBytes, Name, Seed, places, shard_of};
 
 const AIMED: usize = 1000;
 
@@ -48,8 +49,13 @@ fn a_word_is_the_keyed_hash_of_a_number(rt: HostRuntime) -> Result<(), Fail> {
         (0x0706_0504_0302_0100, 0x3690_9511_8D29_9A8E),
     ];
     for (number, word) in rows {
-        assert_eq!(rt; word_of(seed.key(number)), word);
-        assert_eq!(rt; *seed.key(number).key(), number);
+        same(
+            &rt,
+            "the word of a seeded number",
+            word_of(seed.key(number)),
+            word,
+        );
+        same(&rt, "the number in it", *seed.key(number).key(), number);
     }
     Ok(())
 }
@@ -66,8 +72,8 @@ fn a_word_is_the_keyed_hash_of_a_name(rt: HostRuntime) -> Result<(), Fail> {
     ];
     for (bytes, word) in rows {
         let key = seed.key(name(bytes)?);
-        assert_eq!(rt; word_of(key), word);
-        assert!(rt; key.key().as_bytes() == bytes);
+        same(&rt, "the word of a seeded name", word_of(key), word);
+        holds(&rt, "the name in it", key.key().as_bytes() == bytes);
     }
     Ok(())
 }
@@ -77,23 +83,47 @@ fn keys_of_one_seed_are_equal_where_the_keys_are(rt: HostRuntime) -> Result<(), 
     let seed = counted()?;
     let mut seen = HashSet::new(rt.alloc());
     for bytes in [b"a" as &[u8], b"b", b"eight678", b"eight678 and more"] {
-        assert!(rt; seen.insert(seed.key(name(bytes)?))?);
-        assert!(rt; !seen.insert(seed.key(name(bytes)?))?);
-        assert!(rt; seen.contains(&seed.key(name(bytes)?)));
+        holds(
+            &rt,
+            "the set hasn't seen the key",
+            seen.insert(seed.key(name(bytes)?))?,
+        );
+        holds(
+            &rt,
+            "the set has seen the key",
+            !seen.insert(seed.key(name(bytes)?))?,
+        );
+        holds(
+            &rt,
+            "the set finds the key",
+            seen.contains(&seed.key(name(bytes)?)),
+        );
     }
-    assert!(rt; seed.key(1u64) == seed.key(1u64));
-    assert!(rt; seed.key(1u64) != seed.key(2u64));
+    holds(&rt, "a key equals itself", seed.key(1u64) == seed.key(1u64));
+    holds(&rt, "two keys differ", seed.key(1u64) != seed.key(2u64));
     Ok(())
 }
 
 #[test]
 fn keys_of_two_seeds_differ(rt: HostRuntime) -> Result<(), Fail> {
     let (one, other) = (counted()?, other()?);
-    assert!(rt; one.key(1u64) != other.key(1u64));
-    assert!(rt; one.key(name(b"a")?) != other.key(name(b"a")?));
+    holds(
+        &rt,
+        "a number under two seeds",
+        one.key(1u64) != other.key(1u64),
+    );
+    holds(
+        &rt,
+        "a name under two seeds",
+        one.key(name(b"a")?) != other.key(name(b"a")?),
+    );
     let mut seen = HashSet::new(rt.alloc());
     seen.insert(one.key(1u64))?;
-    assert!(rt; !seen.contains(&other.key(1u64)));
+    holds(
+        &rt,
+        "a set doesn't find the other seed's key",
+        !seen.contains(&other.key(1u64)),
+    );
     Ok(())
 }
 
@@ -101,37 +131,51 @@ fn keys_of_two_seeds_differ(rt: HostRuntime) -> Result<(), Fail> {
 fn the_system_gives_another_seed_each_time(rt: HostRuntime) -> Result<(), Fail> {
     let (one, other) = (Seed::new(&rt)?, Seed::new(&rt)?);
     // That both words agree has one chance in 2^64.
-    assert!(rt; one.key(1u64) != other.key(1u64));
+    holds(
+        &rt,
+        "two seeds of the system",
+        one.key(1u64) != other.key(1u64),
+    );
     Ok(())
 }
 
 #[test]
 fn a_source_that_fails_gives_no_seed(rt: HostRuntime) {
-    assert!(rt; Seed::new(&Broken).is_err());
+    holds(&rt, "a source that fails", Seed::new(&Broken).is_err());
 }
 
 #[test]
 fn a_seed_prints_no_bit_of_itself_and_a_key_no_word(rt: HostRuntime) -> Result<(), Fail> {
     let seed = counted()?;
-    assert_eq!(rt;
+    same(
+        &rt,
+        "a seed by Debug",
         format!(in rt.alloc(); "{seed:?}")?.as_str(),
-        "Seed { state: RandomState { .. } }"
+        "Seed { state: RandomState { .. } }",
     );
-    assert_eq!(rt;
+    same(
+        &rt,
+        "a seeded number by Debug",
         format!(in rt.alloc(); "{:?}", seed.key(7u64))?.as_str(),
-        "7"
+        "7",
     );
-    assert_eq!(rt;
+    same(
+        &rt,
+        "a seeded number by Debug in lines",
         format!(in rt.alloc(); "{:#?}", seed.key(7u64))?.as_str(),
-        "7"
+        "7",
     );
-    assert_eq!(rt;
+    same(
+        &rt,
+        "a seeded number, padded",
         format!(in rt.alloc(); "{:>3}", seed.key(7u64))?.as_str(),
-        "  7"
+        "  7",
     );
-    assert_eq!(rt;
+    same(
+        &rt,
+        "a seeded name by Debug",
         format!(in rt.alloc(); "{:?}", seed.key(name(b"foobar")?))?.as_str(),
-        "\"foobar\""
+        "\"foobar\"",
     );
     Ok(())
 }
@@ -151,8 +195,17 @@ impl RandomSource for Asked {
 fn a_seed_takes_sixteen_bytes_of_its_source(rt: HostRuntime) -> Result<(), Fail> {
     let asked = Asked(AtomicU64::new(0));
     let seed = Seed::new(&asked)?;
-    assert_eq!(rt; asked.0.load(Ordering::SeqCst), 16);
-    assert!(rt; seed.key(1u64) == other()?.key(1u64));
+    same(
+        &rt,
+        "bytes that the seed asked for",
+        asked.0.load(Ordering::SeqCst),
+        16,
+    );
+    holds(
+        &rt,
+        "the seed is of those bytes",
+        seed.key(1u64) == other()?.key(1u64),
+    );
     Ok(())
 }
 
@@ -161,8 +214,16 @@ fn fixed_bytes_are_given_whole_and_no_byte_past_them(rt: HostRuntime) -> Result<
     for byte in [0, 0x7F, 0x80, 0xFF] {
         let mut buf = [1u8; 20];
         FixedBytes([byte; 16]).fill_bytes(&mut buf)?;
-        assert!(rt; buf[..16].iter().all(|given| *given == byte));
-        assert!(rt; buf[16..].iter().all(|left| *left == 1));
+        holds(
+            &rt,
+            "each byte is given",
+            buf.iter().take(16).all(|given| *given == byte),
+        );
+        holds(
+            &rt,
+            "no byte past them",
+            buf.iter().skip(16).all(|left| *left == 1),
+        );
     }
     Ok(())
 }
@@ -180,11 +241,31 @@ impl fmt::Write for Full {
 #[test]
 fn a_write_that_is_refused_is_told(rt: HostRuntime) -> Result<(), Fail> {
     let seed = counted()?;
-    assert!(rt; write!(Full, "{}", seed.key(7u64)).is_err());
-    assert!(rt; write!(Full, "{:?}", seed.key(7u64)).is_err());
-    assert!(rt; write!(Full, "{}", name(b"foobar")?).is_err());
-    assert!(rt; write!(Full, "{:?}", name(b"foobar")?).is_err());
-    assert!(rt; write!(Full, "{seed:?}").is_err());
+    holds(
+        &rt,
+        "a number's Display is told",
+        write!(Full, "{}", seed.key(7u64)).is_err(),
+    );
+    holds(
+        &rt,
+        "a number's Debug is told",
+        write!(Full, "{:?}", seed.key(7u64)).is_err(),
+    );
+    holds(
+        &rt,
+        "a name's Display is told",
+        write!(Full, "{}", name(b"foobar")?).is_err(),
+    );
+    holds(
+        &rt,
+        "a name's Debug is told",
+        write!(Full, "{:?}", name(b"foobar")?).is_err(),
+    );
+    holds(
+        &rt,
+        "a seed's Debug is told",
+        write!(Full, "{seed:?}").is_err(),
+    );
     Ok(())
 }
 
@@ -233,28 +314,58 @@ fn aimed<K: Numbered>(alloc: Global) -> Result<Vec<K>, Fail> {
 }
 
 fn expect_apart<K: Numbered>(rt: &impl Abort, alloc: Global) -> Result<(), Fail> {
-    let seed = counted()?;
-    let mut words = HashSet::new(alloc);
-    let mut groups = HashSet::new(alloc);
-    let mut row = HashSet::new(alloc);
-    let mut shards = [0u32; 4];
-    for key in aimed::<K>(alloc)? {
-        let seeded = seed.key(key);
-        words.insert(seeded.word())?;
-        groups.insert(group_of(seeded))?;
-        row.insert(places(seeded.word(), 6)[0])?;
-        let shard = &mut shards[shard_of(seeded.word(), 4)];
-        *shard = shard.saturating_add(1);
-    }
+    let mut parted = Parted {
+        words: HashSet::new(alloc),
+        groups: HashSet::new(alloc),
+        row: HashSet::new(alloc),
+        shards: [0; 4],
+    };
+    parted.take_aimed::<K>(alloc)?;
     // By chance 16 keys are in each of the 64 groups and at each of the 64 places, and 250 in each
     // shard.
-    assert_eq!(rt; words.len(), AIMED);
-    assert_eq!(rt; groups.len(), 64);
-    assert_eq!(rt; row.len(), 64);
-    for shard in shards {
-        assert!(rt; shard > 200);
+    same(
+        rt,
+        "words, groups and places",
+        parted.lens(),
+        (AIMED, 64, 64),
+    );
+    for shard in parted.shards {
+        holds(rt, "each shard has 200 keys and more", shard > 200);
     }
     Ok(())
+}
+
+// What a seed makes of keys: their words, groups, places of the first row, and how many each shard has.
+#[derive(Drop)]
+struct Parted {
+    words: HashSet<u64>,
+    groups: HashSet<u64>,
+    row: HashSet<usize>,
+    shards: [u32; 4],
+}
+
+impl Parted {
+    fn take_aimed<K: Numbered>(&mut self, alloc: Global) -> Result<(), Fail> {
+        let seed = counted()?;
+        for key in aimed::<K>(alloc)? {
+            let seeded = seed.key(key);
+            self.take(seeded.word(), group_of(seeded))?;
+        }
+        Ok(())
+    }
+
+    fn take(&mut self, word: u64, group: u64) -> Result<(), Fail> {
+        self.words.insert(word)?;
+        self.groups.insert(group)?;
+        self.row.insert(places(word, 6)[0])?;
+        let shard = &mut self.shards[shard_of(word, 4)];
+        *shard = shard.saturating_add(1);
+        Ok(())
+    }
+
+    fn lens(&self) -> (usize, usize, usize) {
+        (self.words.len(), self.groups.len(), self.row.len())
+    }
 }
 
 #[test]

@@ -2,11 +2,12 @@
 // under test does: a waiter that isn't woken as it should be is woken by the test, after a long
 // time.
 use super::Version;
-use crate::{Landing, Lead, Outcome, Publish, Ticket};
+use super::compare::{holds, same};
 use std::sync::Wait;
 use std::sync::atomic::{AtomicU32, Ordering};
 use std::test::Fail;
 use std::thread;
+use wt_flights::{Landing, Lead, Outcome, Publish, Ticket};
 use wt_keys::Answers;
 
 const SEVENTH: Version = Version { key: 9, number: 7 };
@@ -98,8 +99,13 @@ fn one_ring_wakes_all_who_sleep(rt: HostRuntime) -> Result<(), Fail> {
             )
         },
     );
-    assert!(rt; woken, "one who sleeps was not woken");
-    assert_eq!(rt; told, (Some(SEVENTH), Some(SEVENTH)));
+    holds(&rt, "both who sleep are woken", woken);
+    same(
+        &rt,
+        "what both were told",
+        told,
+        (Some(SEVENTH), Some(SEVENTH)),
+    );
     Ok(())
 }
 
@@ -130,8 +136,8 @@ fn who_waits_looks_under_the_bells_lock(rt: HostRuntime) -> Result<(), Fail> {
             wait_counted(shared, one, begun, returned)
         },
     );
-    assert!(rt; woken, "what was published before the wait was not seen");
-    assert_eq!(rt; told, Some(SEVENTH));
+    holds(&rt, "an outcome published before the wait is seen", woken);
+    same(&rt, "what the waiter was told", told, Some(SEVENTH));
     Ok(())
 }
 
@@ -160,6 +166,11 @@ fn the_bell_is_rung_under_its_lock(rt: HostRuntime) -> Result<(), Fail> {
             rung.fetch_add(1, Ordering::SeqCst);
         },
     );
-    assert_eq!(rt; rung_when, (0, true));
+    same(
+        &rt,
+        "rings that returned under the lock, and that one returned",
+        rung_when,
+        (0, true),
+    );
     Ok(())
 }

@@ -1,8 +1,14 @@
-use crate::{Answers, CacheKey, Fault, Field, NoMemory, Share, Shared};
+mod compare;
+mod name;
+mod rows;
+mod seeded;
+
+use compare::{holds, same};
 use std::alloc::{AllocError, Global};
 use std::process::Abort;
 use std::rc::Rc;
 use std::test::Fail;
+use wt_keys::{Answers, CacheKey, Fault, Field, NoMemory, Share, Shared};
 
 // Answers the keys below it.
 #[derive(Drop)]
@@ -30,18 +36,18 @@ fn second<V: Share>(value: &V) -> Result<V, NoMemory> {
 fn a_share_equals_its_value(rt: HostRuntime) -> Result<(), Fail> {
     let first = Shared::new(rt.alloc(), 5u64)?;
     let other = second(&first)?;
-    assert_eq!(rt; *first.get(), 5);
-    assert_eq!(rt; *other.get(), 5);
-    assert_eq!(rt; second(&7u64)?, 7);
-    assert_eq!(rt; word_of(7u64), 7);
+    same(&rt, "the first owner's value", *first.get(), 5);
+    same(&rt, "the second owner's value", *other.get(), 5);
+    same(&rt, "the share of a number", second(&7u64)?, 7);
+    same(&rt, "the word of a number", word_of(7u64), 7);
     Ok(())
 }
 
 #[test]
 fn a_shared_value_answers_as_its_value(rt: HostRuntime) -> Result<(), Fail> {
     let shared = Shared::new(rt.alloc(), Below(5))?;
-    assert!(rt; shared.answers(&4));
-    assert!(rt; !shared.answers(&5));
+    holds(&rt, "it answers 4", shared.answers(&4));
+    holds(&rt, "it doesn't answer 5", !shared.answers(&5));
     Ok(())
 }
 
@@ -51,8 +57,13 @@ fn expect_faults(
     faults: &[(Fault, u64, &str)],
 ) -> Result<(), Fail> {
     for (fault, number, sentence) in faults {
-        assert_eq!(rt; fault.number(), *number);
-        assert_eq!(rt; format!(in alloc; "{fault}")?.as_str(), *sentence);
+        same(rt, "the fault's number", fault.number(), *number);
+        same(
+            rt,
+            "the fault's sentence",
+            format!(in alloc; "{fault}")?.as_str(),
+            *sentence,
+        );
     }
     Ok(())
 }
@@ -131,24 +142,56 @@ fn a_shared_value_is_dropped_with_its_last_owner(rt: HostRuntime) -> Result<(), 
     let first = Shared::new(rt.alloc(), counter.clone()?)?;
     let second = first.share()?;
     let third = second.share()?;
-    assert_eq!(rt; Rc::strong_count(&counter), 2);
+    same(
+        &rt,
+        "owners of the counter, at three shares",
+        Rc::strong_count(&counter),
+        2,
+    );
     drop(first);
     drop(third);
-    assert_eq!(rt; Rc::strong_count(&counter), 2);
-    assert_eq!(rt; **second.get(), 7);
+    same(
+        &rt,
+        "owners of the counter, at one share",
+        Rc::strong_count(&counter),
+        2,
+    );
+    same(&rt, "the value of the last share", **second.get(), 7);
     drop(second);
-    assert_eq!(rt; Rc::strong_count(&counter), 1);
+    same(
+        &rt,
+        "owners of the counter, at no share",
+        Rc::strong_count(&counter),
+        1,
+    );
     Ok(())
 }
 
 #[test]
 fn refused_memory_is_told_as_such(rt: HostRuntime) -> Result<(), Fail> {
-    assert_eq!(rt;
+    same(
+        &rt,
+        "NoMemory by Display",
         format!(in rt.alloc(); "{NoMemory}")?.as_str(),
-        "no memory was left"
+        "no memory was left",
     );
-    assert_eq!(rt; NoMemory::from(AllocError), NoMemory);
-    assert_eq!(rt; Fault::from(AllocError), Fault::NoMemory);
-    assert_eq!(rt; Fault::from(NoMemory), Fault::NoMemory);
+    same(
+        &rt,
+        "std's error as NoMemory",
+        NoMemory::from(AllocError),
+        NoMemory,
+    );
+    same(
+        &rt,
+        "std's error as a fault",
+        Fault::from(AllocError),
+        Fault::NoMemory,
+    );
+    same(
+        &rt,
+        "NoMemory as a fault",
+        Fault::from(NoMemory),
+        Fault::NoMemory,
+    );
     Ok(())
 }

@@ -1,9 +1,41 @@
 ghost use Rattle.std.specs.Prelude.{◌<◌};
 
-use crate::{Sketch, halve};
+mod compare;
+
+use compare::same;
 use std::alloc::{AllocError, Global};
 use std::test::Fail;
 use wt_keys::{Fault, Field, places};
+use wt_sketch::{Sketch, halve};
+
+// What a call requires of its places is proved here once, and in no loop of a test.
+fn count_word(sketch: &mut Sketch, word: u64) -> bool {
+    let bits = sketch.bits();
+    sketch.count(&places(word, bits))
+}
+
+fn places_of(sketch: &Sketch, word: u64) -> [usize; 4] {
+    places(word, sketch.bits())
+}
+
+fn estimate_of(sketch: &Sketch, word: u64) -> u8 {
+    sketch.estimate(&places(word, sketch.bits()))
+}
+
+// None if a row has no such place.
+fn count_at(sketch: &mut Sketch, place: usize) -> Option<bool> {
+    if place >= 1 << sketch.bits() {
+        return None;
+    }
+    Some(sketch.count(&[place; 4]))
+}
+
+fn counter_of(sketch: &Sketch, row: usize, place: usize) -> Option<u8> {
+    if row >= 4 || place >= 1 << sketch.bits() {
+        return None;
+    }
+    Some(sketch.counter(row, place))
+}
 
 // The same rules over plain lists, a counter a byte.
 #[derive(Drop)]
@@ -94,50 +126,85 @@ fn key_of(seed: u64) -> u64 {
 #[test]
 fn a_counter_stops_at_15_and_all_are_halved(rt: HostRuntime) -> Result<(), Fail> {
     let mut sketch = Sketch::new(rt.alloc(), 2)?;
-    let bits = sketch.bits();
     for i in 0..20 {
-        assert_eq!(rt; sketch.count(&places(1, bits)), i < 15);
+        same(
+            &rt,
+            "whether the count rose",
+            count_word(&mut sketch, 1),
+            i < 15,
+        );
     }
-    assert_eq!(rt;
-        (sketch.estimate(&places(1, bits)), sketch.additions()),
-        (15, 15)
+    same(
+        &rt,
+        "estimate and additions after 15 counts",
+        (estimate_of(&sketch, 1), sketch.additions()),
+        (15, 15),
     );
     for _ in 0..5 {
-        assert!(rt; sketch.count(&places(2, bits)));
+        same(
+            &rt,
+            "a count of the other word",
+            count_word(&mut sketch, 2),
+            true,
+        );
     }
-    assert_eq!(rt;
-        (
-            sketch.estimate(&places(1, bits)),
-            sketch.estimate(&places(2, bits))
-        ),
-        (7, 2)
+    same(
+        &rt,
+        "both estimates after the halving",
+        (estimate_of(&sketch, 1), estimate_of(&sketch, 2)),
+        (7, 2),
     );
-    assert_eq!(rt; sketch.additions(), 10);
+    same(&rt, "additions after the halving", sketch.additions(), 10);
     Ok(())
 }
 
 #[test]
 fn sixteen_counters_are_halved_at_once(rt: HostRuntime) {
-    assert_eq!(rt; halve(0x1F), 0x07);
-    assert_eq!(rt; halve(u64::MAX), 0x7777_7777_7777_7777);
-    assert_eq!(rt; halve(0x1111_1111_1111_1111), 0);
-    assert_eq!(rt; halve(0xFEDC_BA98_7654_3210), 0x7766_5544_3322_1100);
+    same(&rt, "15 and 1", halve(0x1F), 0x07);
+    same(
+        &rt,
+        "sixteen times 15",
+        halve(u64::MAX),
+        0x7777_7777_7777_7777,
+    );
+    same(&rt, "sixteen times 1", halve(0x1111_1111_1111_1111), 0);
+    same(
+        &rt,
+        "15 down to 0",
+        halve(0xFEDC_BA98_7654_3210),
+        0x7766_5544_3322_1100,
+    );
 }
 
 #[test]
 fn neighbours_in_a_word_are_kept_apart(rt: HostRuntime) -> Result<(), Fail> {
     let mut sketch = Sketch::new(rt.alloc(), 1)?;
-    assert_eq!(rt; sketch.bits(), 6);
+    same(&rt, "bits of the width", sketch.bits(), 6);
     for _ in 0..7 {
-        assert!(rt; sketch.count(&[15; 4]));
+        same(
+            &rt,
+            "a count at place 15",
+            count_at(&mut sketch, 15),
+            Some(true),
+        );
     }
     for _ in 0..3 {
-        assert!(rt; sketch.count(&[14; 4]));
+        same(
+            &rt,
+            "a count at place 14",
+            count_at(&mut sketch, 14),
+            Some(true),
+        );
     }
-    assert_eq!(rt; sketch.additions(), 5);
+    same(&rt, "additions after the halving", sketch.additions(), 5);
     for row in 0..4 {
         for (place, counter) in [(15, 3), (14, 1), (13, 0), (16, 0)] {
-            assert_eq!(rt; sketch.counter(row, place), counter);
+            same(
+                &rt,
+                "the counter",
+                counter_of(&sketch, row, place),
+                Some(counter),
+            );
         }
     }
     Ok(())
@@ -147,29 +214,38 @@ fn neighbours_in_a_word_are_kept_apart(rt: HostRuntime) -> Result<(), Fail> {
 fn a_list_of_words_is_counted_in_order(rt: HostRuntime) -> Result<(), Fail> {
     let mut sketch = Sketch::new(rt.alloc(), 100)?;
     sketch.count_all(&[5, 6, 5, 7, 5]);
-    let bits = sketch.bits();
-    assert_eq!(rt; bits, 7);
+    same(&rt, "bits of the width", sketch.bits(), 7);
     for (word, estimate) in [(5, 3), (6, 1), (7, 1), (8, 0)] {
-        assert_eq!(rt; sketch.estimate(&places(word, bits)), estimate);
+        same(&rt, "the estimate", estimate_of(&sketch, word), estimate);
     }
-    assert_eq!(rt; sketch.additions(), 5);
+    same(&rt, "the additions", sketch.additions(), 5);
     Ok(())
 }
 
 #[test]
 fn packed_rows_are_the_plain_lists(rt: HostRuntime) -> Result<(), Fail> {
     let mut sketch = Sketch::new(rt.alloc(), 70)?;
-    let bits = sketch.bits();
     let mut plain = Plain::new(rt.alloc(), 128)?;
     let mut seed = 2026;
     for i in 0..6_000 {
         seed = next(seed);
-        let places = places(key_of(seed), bits);
-        assert_eq!(rt; sketch.count(&places), plain.count(&places, 70));
-        assert_eq!(rt; sketch.additions(), plain.additions);
+        let key = key_of(seed);
+        let spots = places_of(&sketch, key);
+        same(
+            &rt,
+            "whether the count rose",
+            count_word(&mut sketch, key),
+            plain.count(&spots, 70),
+        );
+        same(&rt, "the additions", sketch.additions(), plain.additions);
         if i % 50 == 0 {
             for row in 0..4 {
-                assert_eq!(rt; difference(&sketch, row, &plain.rows[row]), None);
+                same(
+                    &rt,
+                    "the first place that differs",
+                    difference(&sketch, row, &plain.rows[row]),
+                    None,
+                );
             }
         }
     }
@@ -180,26 +256,35 @@ fn packed_rows_are_the_plain_lists(rt: HostRuntime) -> Result<(), Fail> {
 #[test]
 fn no_estimate_is_below_the_own_count(rt: HostRuntime) -> Result<(), Fail> {
     let mut sketch = Sketch::new(rt.alloc(), 70)?;
-    let bits = sketch.bits();
     let mut own = vec![in rt.alloc(); 0; 256]?;
     let mut seed = 11;
     for _ in 0..2_000 {
         seed = next(seed);
         let key = key_of(seed);
         let before = sketch.additions();
-        let rose = sketch.count(&places(key, bits));
+        let rose = count_word(&mut sketch, key);
         raise_plain(&mut own, key as usize);
         if rose && sketch.additions() < before {
             halve_plain(&mut own);
         }
     }
-    for (key, counter) in own.iter().enumerate() {
-        assert!(rt;
-            sketch.estimate(&places(key as u64, bits)) >= *counter,
-            "at {key}"
-        );
-    }
+    same(
+        &rt,
+        "the first key with an estimate below its count",
+        first_below(&sketch, &own),
+        None,
+    );
     Ok(())
+}
+
+// The first key whose estimate is below its own counter.
+fn first_below(sketch: &Sketch, own: &[u8]) -> Option<usize> {
+    for (key, counter) in own.iter().enumerate() {
+        if estimate_of(sketch, key as u64) < *counter {
+            return Some(key);
+        }
+    }
+    None
 }
 
 #[test]
@@ -208,11 +293,13 @@ fn entries_are_1_to_65536(rt: HostRuntime) -> Result<(), Fail> {
         match Sketch::new(rt.alloc(), entries) {
             Ok(_) => return Err(Fail::new("out of range")),
             Err(fault) => {
-                assert_eq!(rt;
+                same(
+                    &rt,
+                    "entries out of range",
                     fault,
                     Fault::BadConfig {
-                        field: Field::Entries
-                    }
+                        field: Field::Entries,
+                    },
                 );
             }
         }
@@ -225,7 +312,12 @@ fn entries_are_1_to_65536(rt: HostRuntime) -> Result<(), Fail> {
         (65_535, 16),
         (65_536, 16),
     ] {
-        assert_eq!(rt; Sketch::new(rt.alloc(), entries)?.bits(), bits);
+        same(
+            &rt,
+            "bits of the width",
+            Sketch::new(rt.alloc(), entries)?.bits(),
+            bits,
+        );
     }
     Ok(())
 }
