@@ -1,4 +1,5 @@
 """What the benchmarks share."""
+import argparse
 import os
 import pathlib
 import shutil
@@ -21,16 +22,28 @@ def parser(doc):
     return words.Parser(doc, str(pathlib.Path(sys.argv[0]).resolve().relative_to(ROOT)))
 
 
-def takes_no_words(doc):
-    """Answers --help with the text, and refuses all other words."""
-    parser(doc).parse_args()
+class Given(argparse.Namespace):
+    """What a runner was given: how it builds, and whether it only shows that it works."""
+
+    def calls(self, number, least=1):
+        """So many calls; with --smoke one in a thousand of them."""
+        return max(number // 1000, least) if self.smoke else number
+
+    def turns(self, number):
+        return 1 if self.smoke else number
 
 
-def build_parser(doc):
-    """A parser of what a runner takes that builds in one of two ways and may make fewer calls."""
-    given = parser(doc)
-    given.add_argument("--unproved", action="store_true", help="build without any proof, in minutes: nothing of it is proved or checked")
-    given.add_argument("--one-in", type=words.whole(1), default=1, metavar="N", help="make one in N of the calls, to try the runner: no figures")
+def arguments(doc, **options):
+    """Reads what each runner takes, and options of its own, each with what argparse wants to know of it."""
+    reader = parser(doc)
+    reader.add_argument("--unproved", action="store_true", help="build without any proof, in minutes: nothing of it is proved or checked")
+    reader.add_argument("--smoke", action="store_true", help="build without any proof and make few calls, to see that the runner works: no figures")
+    for name, about in options.items():
+        reader.add_argument("--" + name, **about)
+    given = reader.parse_args(namespace=Given())
+    given.unproved = given.unproved or given.smoke
+    if given.unproved:
+        print("built without any proof: nothing of it is proved or checked\n", flush=True)
     return given
 
 
@@ -61,12 +74,56 @@ def crates_below(names):
     return found
 
 
+def wants(*commands):
+    """Ends the runner with a sentence if one of these commands isn't there."""
+    for command in commands:
+        if not shutil.which(command):
+            raise SystemExit("%s: it needs the command %s" % (pathlib.Path(sys.argv[0]).resolve().relative_to(ROOT), command))
+
+
+def program(given):
+    """The program wt_replay: proved, or built without any proof."""
+    wants("rt")
+    if given.unproved:
+        told = subprocess.run([sys.executable, ROOT / "tools" / "lib" / "kept_program.py"], check=True, stdout=subprocess.PIPE, text=True)
+        return pathlib.Path(told.stdout.strip())
+    subprocess.run(["sh", ROOT / "tools" / "replay", "--build"], check=True)
+    return ROOT / "crates" / "wt_replay" / "out" / "wt_replay"
+
+
+def library(given):
+    """The folder with the library for C, proved or not, which is built first if it isn't there."""
+    if "ROOKDRESSER_LIB" in os.environ:
+        return pathlib.Path(os.environ["ROOKDRESSER_LIB"]).resolve()
+    folder = ROOT / "out" / ("embed-unproved" if given.unproved else "embed")
+    if not (folder / "librookdresser.a").exists():
+        wants("rt")
+        subprocess.run(["sh", ROOT / "tools" / "embed", *(["--unproved"] if given.unproved else [])], check=True, stdout=subprocess.DEVNULL)
+    return folder
+
+
+def compile_plain(source, target):
+    """Compiles a program in Rust that does the same as a harness, for the processors that the proved programs are built for."""
+    wants("rustc")
+    subprocess.run(["rustc", "-C", "opt-level=3", "-C", "target-cpu=x86-64-v2", "-o", target, source], check=True)
+    return target
+
+
+def peak_bytes(program, *words):
+    """The most memory that a run of the program held."""
+    child = os.posix_spawn(program, [program, *words], os.environ, file_actions=[(os.POSIX_SPAWN_OPEN, 1, os.devnull, os.O_WRONLY, 0)])
+    _, status, usage = os.wait4(child, 0)
+    assert status == 0, status
+    return usage.ru_maxrss * 1024
+
+
 def build(folder, harness, name, deps, *words, unproved=False, edits=()):
     """The program of a harness, which stands on these crates, proved and built in the folder, and run once with these words.
 
     A crate comes with its out/, so that what is proved of it isn't proved again. Built it is as every proved program is: by LLVM, at -O3.
     Each edit is a file of the repository, a line in it and what stands in that line's place here.
     """
+    wants("rt")
     crates = folder / "crates"
     below = crates_below(deps.split())
     for crate in below:

@@ -15,7 +15,7 @@ SHAPES = """
   text { font: 13px system-ui, -apple-system, "Segoe UI", Roboto, "DejaVu Sans", Helvetica, Arial, sans-serif }
   .mono { font-family: ui-monospace, "Cascadia Mono", Menlo, Consolas, "DejaVu Sans Mono", monospace }
   .title { font-size: 19px; font-weight: 700 } .big { font-size: 16px } .bold { font-weight: 700 } .small { font-size: 12px } .end { text-anchor: end }
-  .mark { font-size: 11px; font-weight: 600 } .none { fill: none } .dashed { fill: none; stroke-dasharray: 4 3 } .strong { stroke-width: 2 }"""
+  .mark { font-size: 11px; font-weight: 600; paint-order: stroke; stroke-width: 5px; stroke-linejoin: round } .none { fill: none } .dashed { fill: none; stroke-dasharray: 4 3 } .strong { stroke-width: 2 }"""
 
 
 def colours():
@@ -105,8 +105,7 @@ def chip(layout, frame, x, y, row, hue, mark):
              box(x + 4, y + CHIP - 5, (layout.chip - 8) * estimate / 15, 3, hue, 1),
              text(x + 8, y + 19, name, "ink mono bold"), text(x + layout.chip - 7, y + 19, str(estimate), "soft small end")]
     if mark:
-        width = width_of(mark, 11) + 6
-        parts += [box(x + 5, y - 7, width, 12, "card", 2), text(x + 8, y + 3, mark, "%s mark" % hue)]
+        parts.append(text(x + 8, y + 3, mark, "%s mark card-edge" % hue))
     return parts
 
 

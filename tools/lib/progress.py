@@ -1,11 +1,14 @@
 #!/usr/bin/env python3
-"""Says how far a run is. As a program it runs a command of rt: tools/lib/progress.py NAME (--brief | --last FILE) COMMAND..
+"""Says how far a run is. As a program it runs a command of rt: tools/lib/progress.py NAME (--brief SECONDS | --last FILE) COMMAND..
 
-On a terminal a line moves at the bottom: what is at work, how much is proved, the time so far. In a log there is a line for each
-crate that ends. With --brief all that the command prints is shown only if it fails. With --last it is passed on, but for the
-last line, which goes to the file. The exit status is the command's.
+On a terminal a line moves at the bottom: which crate of how many is at work, how much is proved, the time so far. In a log there is a
+line for each crate that begins or ends. With --brief all that the command prints is shown only if it fails, and SECONDS, which the
+run is reckoned to take, tell the time that is left. With --last the output is passed on, but for the last line, which goes to the
+file. The exit status is the command's. If this program is interrupted or killed, the command is too.
 """
+import os
 import re
+import signal
 import subprocess
 import sys
 import threading
@@ -45,10 +48,11 @@ class Line:
 
 
 class Progress:
-    """How far a command of rt is, read from its lines."""
+    """How far a command of rt is, read from its lines: of so many crates, and in so many seconds as it is reckoned to take."""
 
-    def __init__(self, name, of_gate):
+    def __init__(self, name, of_gate, crates=0, seconds=0):
         self.name, self.of_gate, self.start = name, of_gate, time.monotonic()
+        self.crates, self.seconds, self.begun = crates, seconds, []
         self.crate, self.proved, self.total, self.refused = "", 0, 0, 0
         self.ended, self.notes = [], []
         self.moves = sys.stderr.isatty()
@@ -57,6 +61,17 @@ class Progress:
     def time_so_far(self):
         minutes, seconds = divmod(int(time.monotonic() - self.start), 60)
         return "%d min %02d s" % (minutes, seconds) if minutes else "%d s" % seconds
+
+    def time_left(self):
+        left = self.seconds - (time.monotonic() - self.start)
+        return ", some %d min left" % (left / 60 + 1) if left > 0 else ""
+
+    def place(self, crate):
+        """Which crate of how many it is, in the order in which they begin."""
+        if crate not in self.begun:
+            self.begun.append(crate)
+        number = self.begun.index(crate) + 1
+        return "crate %d of %d: %s" % (number, max(number, self.crates), crate)
 
     def read(self, line):
         """Takes notice of a line; returns what is worth a line in a log."""
@@ -68,33 +83,34 @@ class Progress:
             self.proved += bool(function)
             self.refused += bool(REFUSED.match(line))
             return None
-        if begun:
+        if begun and begun.group(1) not in self.begun:
             self.crate, self.proved, self.total = begun.group(1), 0, 0
+            return self.place(self.crate)
+        if begun:
+            self.crate = begun.group(1)
         elif function:
             self.crate = function.group(1)
             self.proved += 1
         elif total:
             self.proved, self.total = int(total.group(1)), int(total.group(2))
         elif ended and self.crate:
-            text = "%s: %s functions %s" % (self.crate, ended.group(2), ended.group(1))
+            text = "%s: %s functions %s" % (self.place(self.crate), ended.group(2), ended.group(1))
             self.ended.append(self.crate)
             self.proved = self.total = 0
             return text
         return None
 
     def line(self):
-        parts = ["tools/%s: %s" % (self.name, self.time_so_far())]
+        parts = ["tools/%s: %s%s" % (self.name, self.time_so_far(), self.time_left())]
         if self.ended and self.of_gate:
-            proved = sum(1 for text in self.ended if text.endswith(" proved"))
-            parts.append("%d checks and %d functions proved, %d edits refused; latest: %s" % (proved, self.proved, self.refused, self.ended[-1]))
-        elif self.ended:
-            parts.append("done: %s" % " ".join(dict.fromkeys(self.ended)))
+            proved = len({text.split(":")[0].split()[0] for text in self.ended if text.endswith(" proved")})
+            parts.append("%d of %d crates and %d functions proved; latest: %s" % (proved, self.crates, self.proved, self.ended[-1]))
         if self.crate and self.total:
-            parts.append("%s: %d of %d functions" % (self.crate, self.proved, self.total))
+            parts.append("%s: %d of %d functions" % (self.place(self.crate), self.proved, self.total))
         elif self.crate and self.proved:
-            parts.append("%s: %d functions" % (self.crate, self.proved))
+            parts.append("%s: %d functions" % (self.place(self.crate), self.proved))
         elif self.crate and self.crate not in self.ended:
-            parts.append("at %s" % self.crate)
+            parts.append(self.place(self.crate))
         return "; ".join(parts)[:200]
 
     def draw(self):
@@ -110,16 +126,52 @@ class Progress:
     def note(self, text):
         """A plain line, in a log or above the line that moves."""
         self.wipe()
-        print("tools/%s: %s, %s so far" % (self.name, text, self.time_so_far()), file=sys.stderr, flush=True)
+        print("tools/%s: %s, %s so far%s" % (self.name, text, self.time_so_far(), self.time_left()), file=sys.stderr, flush=True)
 
 
 def read_words(words):
-    """The name, the file for the last line, if there is one, and the command; None if the words aren't these."""
-    if len(words) > 2 and words[1] == "--brief":
-        return words[0], None, words[2:]
+    """The name, the file for the last line or the seconds of a brief run, and the command; None if the words aren't these."""
+    if len(words) > 3 and words[1] == "--brief" and words[2].isdigit():
+        return words[0], None, int(words[2]), words[3:]
     if len(words) > 3 and words[1] == "--last":
-        return words[0], Path(words[2]), words[3:]
+        return words[0], Path(words[2]), 0, words[3:]
     return None
+
+
+def crates_to_prove(of_gate):
+    """How many crates there are, or those that the crate in the current folder is made of."""
+    top = Path(__file__).resolve().parent.parent.parent
+    lines = [line.split(":", 1) for line in (top / "crates.txt").read_text().splitlines() if ":" in line and not line.startswith("#")]
+    uses = {head.split()[0]: below.split() for head, below in lines}
+    found, left = set(), list(uses) if of_gate else [Path.cwd().name]
+    while left:
+        name = left.pop()
+        if name in uses and name not in found:
+            found.add(name)
+            left += uses[name]
+    return len(found)
+
+
+class Command:
+    """A command in a group of processes of its own, all of which end if this program is interrupted or killed."""
+
+    def __init__(self, words):
+        self.child = subprocess.Popen(words, stdin=subprocess.DEVNULL, stdout=subprocess.PIPE, stderr=subprocess.STDOUT, text=True, errors="replace",
+                                      start_new_session=True)
+
+    def __enter__(self):
+        for number in (signal.SIGTERM, signal.SIGHUP, signal.SIGINT):
+            signal.signal(number, self.stop)
+        return self
+
+    def stop(self, number, _):
+        signal.signal(number, signal.SIG_IGN)
+        raise SystemExit(128 + number)
+
+    def __exit__(self, kind, _, __):
+        if kind is not None:
+            os.killpg(self.child.pid, signal.SIGTERM)
+        self.child.wait()
 
 
 def main():
@@ -128,12 +180,21 @@ def main():
         return 0
     read = read_words(sys.argv[1:])
     if read is None:
-        print("progress.py: it takes NAME (--brief | --last FILE) COMMAND..; `progress.py --help` tells more", file=sys.stderr)
+        print("progress.py: it takes NAME (--brief SECONDS | --last FILE) COMMAND..; `progress.py --help` tells more", file=sys.stderr)
         return 2
-    name, last, command = read
-    brief = last is None
-    progress, kept, stopped = Progress(name, not brief), [], threading.Event()
-    child = subprocess.Popen(command, stdin=subprocess.DEVNULL, stdout=subprocess.PIPE, stderr=subprocess.STDOUT, text=True, errors="replace")
+    name, last, seconds, command = read
+    progress = Progress(name, last is not None, crates_to_prove(last is not None), seconds)
+    try:
+        return follow(progress, last, command)
+    except SystemExit:
+        progress.wipe()
+        print("tools/%s: interrupted" % name, file=sys.stderr)
+        raise
+
+
+def follow(progress, last, command):
+    """Runs the command, and tells how far it is; its status."""
+    brief, kept, stopped = last is None, [], threading.Event()
 
     def tick():
         while not stopped.wait(1):
@@ -147,15 +208,16 @@ def main():
 
     if progress.moves:
         threading.Thread(target=tick, daemon=True).start()
-    for line in child.stdout:
-        with progress.lock:
-            told = progress.read(line.rstrip("\n"))
-            if told:
-                progress.note(told)
-            kept.append(line)
-            if not brief and len(kept) > 1:
-                pass_on(kept.pop(0))
-    status = child.wait()
+    with Command(command) as run:
+        for line in run.child.stdout:
+            with progress.lock:
+                told = progress.read(line.rstrip("\n"))
+                if told:
+                    progress.note(told)
+                kept.append(line)
+                if not brief and len(kept) > 1:
+                    pass_on(kept.pop(0))
+        status = run.child.wait()
     stopped.set()
     with progress.lock:
         progress.wipe()

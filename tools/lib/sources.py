@@ -15,6 +15,7 @@ UNITS = {"s": 1000.0, "ms": 1.0, "us": 0.001, "ns": 0.000001}
 LOG = re.compile(rb'^\S+ \S+ \S+ \[([^\]]+)\] "(?:[A-Z]+ )?([^" ]*)[^"]*" ')
 NAME = re.compile(rb"[!-9;-~]{1,24}")
 MARK = b"\xef\xbb\xbf"
+EPOCH = datetime.datetime(1970, 1, 1, tzinfo=datetime.timezone.utc)
 
 
 class BadInput(Exception):
@@ -72,11 +73,25 @@ def rows_of(source, given):
 
 
 def moment_of(text, unit):
-    """A time in milliseconds; ValueError unless it is a number that a moment can be made of."""
-    moment = float(text) * UNITS[unit]
-    if not abs(moment) <= BELOW_64:
-        raise ValueError
-    return moment
+    """A time in milliseconds: a number of units, or a date and time as ISO 8601 writes it, in UTC if it names no zone. None if it is
+    neither, or no moment can be made of it."""
+    try:
+        moment = float(text) * UNITS[unit]
+    except ValueError:
+        moment = iso_moment(text.strip())
+    return moment if moment is not None and abs(moment) <= BELOW_64 else None
+
+
+def iso_moment(text):
+    """The milliseconds since 1970 of a time like 2026-11-24T13:55:36.250Z; None if it is none."""
+    try:
+        # Before Python 3.11 a Z and fractions of other lengths than 3 and 6 are refused.
+        text = re.sub(r"\.(\d+)", lambda found: "." + found.group(1)[:6].ljust(6, "0"), re.sub("[Zz]$", "+00:00", text))
+        when = datetime.datetime.fromisoformat(text)
+    except ValueError:
+        return None
+    when = when if when.tzinfo else when.replace(tzinfo=datetime.timezone.utc)
+    return (when - EPOCH) / datetime.timedelta(milliseconds=1)
 
 
 def read_csv(source, given):
@@ -85,12 +100,16 @@ def read_csv(source, given):
     at = column_at(given.column, header, "column")
     when = None if given.time_column is None else column_at(given.time_column, header, "time column")
     for before, row in rows:
-        try:
-            moment = 0.0 if when is None else moment_of(row[when], given.unit)
+        fault, moment = None, 0.0
+        if max(at, when or 0) >= len(row):
+            fault = "has only %d columns" % len(row)
+        elif when is not None:
+            moment = moment_of(row[when], given.unit)
+            fault = None if moment is not None else "has neither a number nor an ISO 8601 time as its time"
+        if fault is None:
             yield row[at].encode("utf-8", "surrogateescape"), moment
-        except (IndexError, ValueError):
-            if not given.skip_bad:
-                raise BadInput("line %d has no such column, or no number as its time: %s" % (before + 1, ",".join(row)[:60]))
+        elif not given.skip_bad:
+            raise BadInput("line %d %s: %s" % (before + 1, fault, ",".join(row)[:60]))
 
 
 def read_arc(source, given):
@@ -227,8 +246,8 @@ READING = ("column", "time_column", "unit", "delimiter", "header", "sample", "sk
 def add_arguments(parser):
     """Adds the options that say how to read."""
     parser.add_argument("--column", default="1", help="of csv: the column of keys, by number from 1 or by name [default: 1]")
-    parser.add_argument("--time-column", help="of csv: the column of times, numbers")
-    parser.add_argument("--unit", choices=sorted(UNITS), default="s", help="of csv: what the times count [default: s]")
+    parser.add_argument("--time-column", help="of csv: the column of times, numbers or as ISO 8601 writes them")
+    parser.add_argument("--unit", choices=sorted(UNITS), default="s", help="of csv: what times that are numbers count [default: s]")
     parser.add_argument("--delimiter", type=delimiter, default=",", help="of csv: one character, \\t for a tab [default: a comma]")
     parser.add_argument("--header", action="store_true", help="of csv: the first line names the columns")
     parser.add_argument("--sample", type=whole(1), metavar="N", help="keep the keys of one in N, by hash")

@@ -36,4 +36,4 @@ def build(program, crate=CRATES / "wt_replay"):
         subprocess.run([kit / "toolchain" / "bin" / "clang", *unproved.FLAGS, "--sysroot=%s" % (kit / "toolchain"), "-c", "-x", "ir", "program.ll",
                         "-o", "program.o", "-fPIE", "-O3"], cwd=folder, check=True)
         subprocess.run([kit / "bin" / "rattle-link", "--target", "x86_64-unknown-linux-gnu", "--toolchain", kit / "toolchain", "-o", program.resolve(),
-                        "program.o", kit / "c" / "libos_c.a", kit / "c" / "liblibc_c.a"], cwd=folder, stdout=subprocess.DEVNULL, check=True)
+                        "program.o", kit / "c" / "libos_c.a", kit / "c" / "liblibc_c.a"], cwd=folder, capture_output=True, check=True)

@@ -36,6 +36,54 @@ program_options() {
     sed -n "s/^complete -c wt_replay -l \([a-z-]*\) .*-d '\(.*\)'\$/\1 \2/p" "$top/tools/completions/wt_replay.fish"
 }
 
+# Whether the program has an option of this name.
+is_option() {
+    program_options | { while read -r name _; do [ "$name" != "$1" ] || exit 0; done; exit 1; }
+}
+
+# The numbers of the program's faults, in the words of docs/FORMATS.md.
+fault_numbers() {
+    sed -n '/^Numbers: /,/^$/p' "$top/docs/FORMATS.md" | tr '\n' ' ' | sed 's/^Numbers: \([^.]*\)\..*/\1/'
+}
+
+# Says of a fault line, as `fault 11 line 4`, what its number means: explain_fault SCRIPT LINE
+explain_fault() {
+    number=${2#fault }
+    fault_numbers | tr ',' '\n' | while read -r of means; do
+        [ "$of" != "${number%% *}" ] || echo "$1: fault $of means: $means (docs/FORMATS.md)" >&2
+    done
+}
+
+# Ends a script, with a sentence, if a command that it needs isn't there: wants SCRIPT COMMAND..
+wants() {
+    script=$1
+    shift
+    for tool in "$@"; do
+        command -v "$tool" > /dev/null && continue
+        [ "$tool" != rt ] || refuse_plainly "$script" "there is no command rt: it comes with Rattle's kit (README.md, 'The toolchain')"
+        refuse_plainly "$script" "there is no command $tool"
+    done
+}
+
+# Ends a script, with a sentence, if it can't make a folder and write into it: can_write SCRIPT FOLDER
+can_write() {
+    mkdir -p "$2" 2> /dev/null && [ -w "$2" ] || refuse_plainly "$1" "it can't write into $2"
+}
+
+# Says in a sentence why a script can't begin, and ends with status 2: refuse_plainly SCRIPT WORDS
+refuse_plainly() {
+    echo "$1: $2" >&2
+    exit 2
+}
+
+# On a terminal: says that a script waits for a trace.
+say_waits() {
+    if [ -t 0 ]; then
+        echo "$1: waiting for a trace on standard input: lines as '0 P 1' and '0 L 1', and Ctrl-D at the end;" >&2
+        echo "$1: a trace in a file: sh $1 < traces/first.trace" >&2
+    fi
+}
+
 # The version, as the program says it.
 version() {
     sed -n 's/^const VERSION: &str = "\(.*\)";$/\1/p' "$top/crates/wt_replay/src/main.rt"
@@ -50,12 +98,13 @@ answer_at_once() {
         head_of "$script"
         printf '\nOptions, with their ranges and [defaults]:\n\n'
         program_options | while read -r name does; do printf '  --%-9s %s\n' "$name" "$does"; done
+        printf '\nFaults: %s.\n' "$(fault_numbers)"
         exit 0
     fi
     for word in "$@"; do
         case $word in
             --version | -V) echo "wt_replay $(version)"; exit 0 ;;
-            --*) program_options | cut -d ' ' -f 1 | grep -qxFe "$(echo "${word#--}" | cut -d = -f 1)" || refuse "$script" "there is no option $word" ;;
+            --*) word=${word#--}; is_option "${word%%=*}" || refuse "$script" "there is no option --$word" ;;
             '' | *[!0-9]*) refuse "$script" "'$word' is neither an option nor a whole number" ;;
         esac
     done
@@ -66,12 +115,29 @@ in_words() {
     if [ "$1" -lt 60 ]; then echo "$1 s"; else echo "$(($1 / 60)) min $(($1 % 60)) s"; fi
 }
 
-# How long it takes to prove and build the program: what it took last here, or before that what CONTRIBUTING.md measured.
-build_time() {
+# What it took last here to prove and build the program, in seconds; nothing if that isn't known.
+last_build() {
     seconds=$(cat "$top/crates/wt_replay/out/build_seconds" 2>/dev/null)
-    minutes=$(sed -n 's/.*`wt_replay` \([0-9]*\) and its tests.*/\1/p' "$top/CONTRIBUTING.md")
-    case $seconds in
-        '' | *[!0-9]*) echo "the first time this takes about $minutes minutes on four cores" ;;
-        *) echo "the last time this took $(in_words "$seconds") here" ;;
-    esac
+    case $seconds in '' | *[!0-9]*) ;; *) echo "$seconds" ;; esac
+}
+
+# The minutes that CONTRIBUTING.md measured.
+measured_minutes() {
+    sed -n 's/.*`wt_replay` \([0-9]*\) and its tests.*/\1/p' "$top/CONTRIBUTING.md"
+}
+
+# The seconds that it is reckoned to take.
+build_seconds() {
+    seconds=$(last_build)
+    echo "${seconds:-$(($(measured_minutes) * 60))}"
+}
+
+# The same in words.
+build_time() {
+    seconds=$(last_build)
+    if [ "$seconds" ]; then
+        echo "the last time this took $(in_words "$seconds") here"
+    else
+        echo "the first time this takes about $(measured_minutes) minutes on four cores"
+    fi
 }

@@ -60,6 +60,10 @@ const OPTIONS: [(&str, &str); 14] = [
     ),
 ];
 
+// The numbers of the fault line, as docs/FORMATS.md has them.
+const FAULTS: &str =
+    "Faults: 1 no memory, 2 an option out of its range, 11 a bad line, 12 a line too long, 13 too many lines, 14 the reader failed, 15 the writer failed";
+
 // An option that takes a whole number.
 fn option<'a>(alloc: Global, name: &'a str, help: &'a str) -> Arg<'a> {
     Arg::new(alloc, name)
@@ -71,9 +75,10 @@ fn option<'a>(alloc: Global, name: &'a str, help: &'a str) -> Arg<'a> {
 }
 
 fn command<'a>(alloc: Global) -> Result<Command<'a>, clap::Error> {
-    let mut command = Command::new(alloc, "wt_replay").version(VERSION).about(
-        "Replays the trace on standard input on a cache, and reports on each line",
-    );
+    let mut command = Command::new(alloc, "wt_replay")
+        .version(VERSION)
+        .about("Replays the trace on standard input on a cache, and reports on each line")
+        .after_help(FAULTS);
     for (name, help) in OPTIONS {
         command = command.arg(option(alloc, name, help))?;
     }

@@ -1,0 +1,1 @@
+"""The parts of tools/test, and how they are run."""

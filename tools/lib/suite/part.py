@@ -1,0 +1,81 @@
+"""A part of tools/test, and how it ended."""
+import os
+import re
+import shutil
+import signal
+import subprocess
+import threading
+from dataclasses import dataclass, field
+from pathlib import Path
+
+PASSED, FAILED, SKIPPED = "ok", "FAILED", "skipped"
+# A part says by such a line that it leaves something out, and why.
+LEFT_OUT = re.compile(r"^skipped: (.+)$", re.M)
+
+
+@dataclass
+class Part:
+    """A command that passes if it ends with status 0. It begins after the parts that it names, and is skipped if a tool isn't there."""
+
+    name: str
+    command: list
+    folder: Path
+    seconds: int = 5
+    needs: tuple = ()
+    after: tuple = ()
+    environment: dict = field(default_factory=dict)
+
+    def lacks(self):
+        return [tool for tool in self.needs if not shutil.which(tool)]
+
+
+@dataclass
+class Outcome:
+    """How a part ended, and what a line says of it."""
+
+    part: Part
+    how: str
+    said: str
+    seconds: float = 0.0
+    skips: list = field(default_factory=list)
+
+
+class AtWork:
+    """The commands that are running, each in a group of processes of its own, so that all can be ended."""
+
+    def __init__(self):
+        self.lock, self.running, self.is_over = threading.Lock(), set(), False
+
+    def run(self, words, **how):
+        """Runs a command, and returns its status."""
+        with self.lock:
+            if self.is_over:
+                return -signal.SIGTERM
+            child = subprocess.Popen(words, stdin=subprocess.DEVNULL, stderr=subprocess.STDOUT, start_new_session=True, **how)
+            self.running.add(child)
+        status = child.wait()
+        with self.lock:
+            self.running.discard(child)
+        return status
+
+    def end(self):
+        with self.lock:
+            self.is_over = True
+            for child in self.running:
+                os.killpg(child.pid, signal.SIGKILL)
+
+
+AT_WORK = AtWork()
+
+
+def outcome_of(part, environment, logs):
+    """Runs a part; what it prints is kept in its log."""
+    log = logs / (re.sub(r"[^\w.]+", "_", part.name) + ".log")
+    with open(log, "wb") as out:
+        status = AT_WORK.run([str(word) for word in part.command], cwd=part.folder, env={**environment, **part.environment}, stdout=out)
+    text = log.read_text(errors="replace")
+    last = text.strip().rsplit("\n", 1)[-1][:100]
+    if status:
+        return Outcome(part, FAILED, "status %d, %s" % (status, log))
+    skips = LEFT_OUT.findall(text)
+    return Outcome(part, SKIPPED if skips else PASSED, skips[0] if skips else last, skips=skips)
