@@ -1,5 +1,5 @@
 """What the printed pages and their checkers read of a crate: its calls with their clauses and first sentences, its ghost members, the
-words of its specs/ with their comments, and its must-fail edits with what they guard."""
+words of its specs/ with their comments, and its edits, wrong bodies that the prover refuses, with what they guard."""
 import re
 
 FN = re.compile(r"^\s*(pub(?:\([a-z]+\))?\s+)?(?:const\s+)?(?:unsafe\s+)?(?:final\s+)?(extern\s+\"C\"\s+)?fn\s+(\w+)")
@@ -122,7 +122,7 @@ class Crate:
             self.read_source(path)
         for path in sorted((folder / "specs").rglob("*.antt")):
             self.read_words(path)
-        self.edits = [Edit(path) for place in ("must-fail", "must-fail-seldom") for path in sorted((folder / place).glob("*.edit"))]
+        self.edits = [Edit(path) for place in ("must-fail", "edits") for path in sorted((folder / place).glob("*.edit"))]
         self.edits.sort(key=lambda edit: edit.name)
 
     def read_source(self, path):

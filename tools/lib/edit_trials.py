@@ -1,0 +1,140 @@
+"""Tries edits: several stand in one copy of their crate, and the prover is asked for their functions alone.
+
+An edit is refused only if a function that it guards or changes has an open goal of its own, and the goal is a clause that the edit's
+first lines name, or the invariant of a loop that carries the clause. That a function calls one that isn't proved is no goal of its own.
+Why a refusal here is one of a whole check too: the prover is asked for the named functions and what they call in their modules, and a
+whole check proves those and more. An edit that only another function's proof refuses shows as not refused.
+"""
+import importlib.machinery
+import importlib.util
+import os
+import re
+import shutil
+import subprocess
+import sys
+import tempfile
+from pathlib import Path
+
+from edits import applied
+
+REFUSED, BY_OTHER, AT_LIMIT, BAD, UNCLEAR, PROVED = "refused", "refused, by another goal", "at a limit of the prover", "bad", "unclear", "NOT REFUSED"
+UNPROVED = re.compile(r"^fn (\S+): (?:not proved|no proof)(.*)$")
+BY_CALL = re.compile(r"it calls `[^`]*`, which is not proved")
+SEARCHED = re.compile(r"`search` did not prove (.*)$")
+GOAL = re.compile(r"^(?:\./)?proofs/(\S+)/(?:Answers|Invariants|Proof)\.antt:\d+:\d+: error: (?:`([^`]*)`)?")
+LIMIT = re.compile(r"^fn (\S+): could not tell", re.M)
+
+
+def kit_library():
+    """The kit's own reader of crates.txt, which knows the words of a check."""
+    path = os.path.join(os.path.dirname(os.path.realpath(shutil.which("rt"))), "rtlib.py")
+    loader = importlib.machinery.SourceFileLoader("rtlib", path)
+    made = importlib.util.module_from_spec(importlib.util.spec_from_loader("rtlib", loader))
+    sys.modules["rtlib"] = made
+    loader.exec_module(made)
+    return made
+
+
+def own_goals(lines):
+    """Of each function that isn't proved its own goals that are open, and whether it is unproved only by what it calls."""
+    goals, by_call = {}, {}
+    for line in lines:
+        unproved, goal = UNPROVED.match(line), GOAL.match(line)
+        if unproved:
+            name, rest = unproved.group(1).split("::", 1)[-1], unproved.group(2)
+            searched = SEARCHED.search(rest)
+            by_call[name] = bool(BY_CALL.search(rest))
+            goals.setdefault(name, []).extend(re.findall(r"`([\w-]+)`", searched.group(1)) if searched else [])
+        elif goal:
+            goals.setdefault(goal.group(1).replace("/", "::"), []).append(goal.group(2) or "proof")
+    return goals, by_call
+
+
+def is_carried(goal, labels):
+    """Whether a goal is one of these clauses, or a loop's invariant, which carries them."""
+    clause = re.search(r"clause-(\w+)$", goal)
+    if goal.startswith("returns"):
+        return not clause or clause.group(1) in labels or bool(labels & {"ensures", "of its trait"})
+    return "preserved" in goal or "-init" in goal or "smaller" in goal
+
+
+class Trial:
+    """A run of the prover over a copy of a crate in which these edits stand."""
+
+    def __init__(self, kit, crate, edits, kept=None):
+        self.kit, self.crate, self.edits, self.kept = kit, crate, edits, kept
+        self.wrong, self.said, self.status, self.seconds = {}, "", 0, 0.0
+
+    def copy_into(self, room):
+        for part in self.kit.PARTS:
+            if os.path.isdir(os.path.join(self.crate.folder, part)):
+                shutil.copytree(os.path.join(self.crate.folder, part), room / part)
+        for edit in self.edits:
+            texts, wrong = applied(room, edit.text)
+            if wrong:
+                self.wrong[edit.name] = "%r doesn't stand exactly once in its file" % wrong[0]
+            for path, text in texts.items():
+                (room / path).write_text(text)
+
+    def run(self):
+        with tempfile.TemporaryDirectory(prefix="edits-") as name:
+            room = Path(name)
+            self.copy_into(room)
+            over = room / "over"
+            if self.kept:
+                shutil.copytree(self.kept, over, symlinks=True, copy_function=link_or_copy)
+            else:
+                over.mkdir()
+            words = [self.kit.RATTLE, "check", *self.crate.words(["--jobs", "1"], keeps=False), "--incremental", over]
+            for edit in self.edits:
+                for function in edit.functions():
+                    words += ["--only", function.printed()]
+            with open(room / "said", "wb") as said:
+                ran = subprocess.Popen([*self.kit.guarded(), *words], cwd=room, stdin=subprocess.DEVNULL, stdout=said, stderr=subprocess.STDOUT)
+                _, status, used = os.wait4(ran.pid, 0)
+            ran.returncode = self.status = os.waitstatus_to_exitcode(status)
+            self.seconds, self.said = used.ru_utime + used.ru_stime, (room / "said").read_text(errors="replace")
+        return self
+
+    def has_ended(self, limits):
+        last = self.said.rstrip("\n").rsplit("\n", 1)[-1]
+        return self.status in (0, 1) and re.match(r"only=\d+ proved=\d+", last) or self.status == 3 and limits
+
+    def verdicts(self):
+        """Of each edit what it came to, and a word on why."""
+        lines, limits = self.said.rstrip("\n").split("\n"), {name.split("::", 1)[-1] for name in LIMIT.findall(self.said)}
+        if not self.has_ended(limits):
+            first = next((line for line in lines if re.search(r"\berror(\[[\w-]+\]|:)", line)), lines[-1])
+            return {edit.name: (BAD if self.status in (1, 2) else UNCLEAR, first[:200]) for edit in self.edits}
+        goals, by_call = own_goals(lines)
+        of_ours = {name for name in by_call for edit in self.edits if belongs(name, edit)}
+        strange = [name for name in by_call if name not in of_ours and (goals.get(name) or not by_call[name])]
+        return {edit.name: self.verdict(edit, goals, by_call, limits, strange) for edit in self.edits}
+
+    def verdict(self, edit, goals, by_call, limits, strange):
+        if edit.name in self.wrong:
+            return BAD, self.wrong[edit.name]
+        names = [name for name in by_call if belongs(name, edit)]
+        own = [(goal, name) for name in names for goal in goals.get(name, [])]
+        if own and not strange:
+            named = [pair for pair in own if is_carried(pair[0], edit.labels)]
+            return (REFUSED if named else BY_OTHER), "%s of %s" % (named or own)[0]
+        if any(belongs(name, edit) for name in limits):
+            return AT_LIMIT, "it gave no verdict"
+        if names or self.status == 3:
+            return UNCLEAR, "%s isn't proved either" % strange[0] if strange else "not proved, by no goal of its own"
+        return PROVED, "its functions are proved with this edit"
+
+
+def belongs(name, edit):
+    return any(("::" + name).endswith("::" + function.printed()) for function in edit.functions())
+
+
+def link_or_copy(source, target):
+    """A check replaces a file of proved work, and changes none, so a link serves."""
+    if source.endswith(".oantt"):
+        try:
+            return os.link(source, target)
+        except OSError:
+            pass
+    return shutil.copy2(source, target)

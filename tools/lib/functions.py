@@ -1,0 +1,98 @@
+"""The functions of a crate's sources: their names as the prover prints them, and the lines that they take."""
+import re
+from dataclasses import dataclass, field
+
+FUNCTION = re.compile(r"^(\s*)(?:pub(?:\([a-z]+\))?\s+)?(?:const\s+)?(?:unsafe\s+)?(?:final\s+)?(?:extern\s+\"C\"\s+)?fn\s+(\w+)")
+IMPL = re.compile(r"^(\s*)impl\b(.*)$")
+TRAIT = re.compile(r"^(\s*)(?:pub(?:\([a-z]+\))?\s+)?trait\s+(\w+)")
+
+
+@dataclass(frozen=True)
+class Function:
+    """A function with its file, its first and last line, counted from 0, and the type and trait of the impl that it stands in."""
+
+    name: str
+    file: str
+    first: int
+    last: int
+    module: tuple
+    of_type: str = ""
+    of_trait: str = ""
+    has_body: bool = True
+
+    def printed(self):
+        """The end of the name by which the prover knows it. A method's name stands below its type, wherever the impl is."""
+        if not self.of_type:
+            return "::".join([*self.module, self.name])
+        return "%s::%s" % (self.of_type[:1].upper() + self.of_type[1:] + self.of_trait if self.of_trait else self.of_type, self.name)
+
+
+def type_and_trait(head):
+    """What the head of an impl, behind the word, is for: `<K> Display for Name<K>` is for Name, and of Display."""
+    depth, plain = 0, ""
+    for letter in head.split(" where ")[0].split("{")[0]:
+        depth += {"<": 1, ">": -1}.get(letter, 0)
+        plain += letter if depth == 0 and letter != ">" else ""
+    names = [word.split("::")[-1] for word in re.findall(r"[\w:]+", plain)]
+    if "for" in names:
+        at = names.index("for")
+        return names[min(at + 1, len(names) - 1)], names[at - 1]
+    return names[0] if names else "", ""
+
+
+@dataclass
+class Sources:
+    """All functions of a crate."""
+
+    functions: list = field(default_factory=list)
+
+    @classmethod
+    def of(cls, crate):
+        found = cls()
+        for path in sorted((crate / "src").rglob("*.rt")):
+            found.functions += functions_of(path, crate)
+        return found
+
+    def named(self, call, files):
+        """The functions that `Type::method`, `Trait::method` or `function` can mean; those of the files come first."""
+        kind, _, name = call.rpartition("::")
+        found = [one for one in self.functions if one.name == name and one.has_body and (not kind or kind in (one.of_type, one.of_trait))]
+        exact = [one for one in found if kind == one.of_type] or found
+        return [one for one in exact if one.file in files] or exact
+
+    def holding(self, file, line):
+        """The innermost function of the file that has the line, or none."""
+        holders = [one for one in self.functions if one.file == file and one.first <= line <= one.last]
+        return min(holders, key=lambda one: one.last - one.first, default=None)
+
+
+def functions_of(path, crate):
+    """The functions of a file. rustfmt's indentation tells where a function and an impl end."""
+    inside = path.relative_to(crate / "src").with_suffix("")
+    module = () if str(inside) in ("lib", "main") else tuple(part for part in inside.parts if part != "mod")
+    lines, owner, found = path.read_text().split("\n"), None, []
+    for at, line in enumerate(lines):
+        if owner and line.startswith(owner[0] + "}"):
+            owner = None
+        impl, trait, function = IMPL.match(line), TRAIT.match(line), FUNCTION.match(line)
+        if impl:
+            head = " ".join(" ".join(lines[at:at + 8]).split("{")[0].split())
+            owner = (impl.group(1), *type_and_trait(IMPL.match(head).group(2)))
+        elif trait:
+            owner = (trait.group(1), trait.group(2), "")
+        elif function:
+            last, has_body = end_of(lines, at, function.group(1))
+            kind = owner[1:] if owner and len(function.group(1)) > len(owner[0]) else ("", "")
+            found.append(Function(function.group(2), str(path.relative_to(crate)), at, last, module, *kind, has_body))
+    return found
+
+
+def end_of(lines, at, indent):
+    """The last line of the function that begins at a line, and whether it has a body."""
+    for number in range(at, len(lines)):
+        line = lines[number].rstrip()
+        if line.startswith(indent + "}") or line.endswith(" {}"):
+            return number, True
+        if line.endswith(";") and "{" not in " ".join(lines[at:number + 1]):
+            return number, False
+    return at, False
