@@ -17,12 +17,15 @@ PART = re.compile(r"^== (.+)$")
 VERDICT = re.compile(r"^(?:verdict of (.+?): )?(logic=proved .*)$")
 LAST = re.compile(r"^(?:gate: |tools/prove: all checks have ended, and the gate says\n)(\d+ passed, (\d+) failed)$", re.M)
 
+TAKEN_OVER = re.compile(r"^tools/prove: this run is no whole proof", re.M)
+
 
 class Gate:
     """What the gate said: the commit, a verdict for each crate and its tests, and its last line."""
 
     def __init__(self, text):
         commits, lasts = COMMIT.findall(text), LAST.findall(text)
+        self.took_over = TAKEN_OVER.search(text) is not None
         self.commit = commits[-1] if commits else None
         self.last, self.failed = lasts[-1] if lasts else (None, None)
         self.verdicts, part = {}, None
@@ -36,6 +39,8 @@ class Gate:
         """Why no release of these crates is made after it, or None."""
         if self.last is None:
             return "it isn't what tools/prove prints to its end"
+        if self.took_over:
+            return "it took over proofs that others made"
         if self.failed != "0":
             return "its last line is %s" % self.last
         if self.commit != commit:

@@ -32,6 +32,7 @@ def check_gate():
         ("of another commit", LOG, OTHER, "it is of commit %s" % COMMIT),
         ("with changes", LOG.replace(COMMIT, COMMIT + "-dirty"), COMMIT, "it is of commit None"),
         ("one failed", LOG.replace("17 passed, 0", "17 passed, 1"), COMMIT, "17 passed, 1 failed"),
+        ("of proofs taken over", LOG.replace("== wt_keys\n", "tools/prove: this run is no whole proof: it takes over 3\n== wt_keys\n", 1), COMMIT, "took over"),
         ("cut off", LOG.split("tools/prove: all")[0], COMMIT, "to its end"),
         ("a crate that isn't proved", LOG.replace("logic=proved functions", "logic=unproved functions"), COMMIT, "no verdict of wt_keys"),
         ("a crate that isn't there", LOG.replace("== wt_keys", "== wt_core"), COMMIT, "no verdict of wt_keys"),
