@@ -197,6 +197,8 @@ function draw() {
   drawnAt = state.at;
   drawLifeNow();
   $("slider").value = state.at;
+  // The address leads back to this line.
+  if (step) history.replaceState(null, "", `#line=${step[NUMBER]}`);
   $("slider").setAttribute("aria-valuetext", $("where").textContent);
   for (const id of ["first", "back"]) $(id).disabled = state.at === 0;
   for (const id of ["on", "last"]) $(id).disabled = state.at === steps.length;

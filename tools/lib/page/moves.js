@@ -126,9 +126,10 @@ function press(event) {
 }
 
 function start() {
-  $("slider").max = steps.length;
+  // Line n is at n - 0.5 of the lanes' axis.
+  $("slider").max = steps.length + 0.5;
   document.querySelector(".regions").classList.toggle("few", numbers.limits.window + numbers.limits.main <= 12);
-  $("slider").oninput = () => go(Number($("slider").value));
+  $("slider").oninput = () => go(Math.round($("slider").value));
   $("first").onclick = () => go(0);
   $("back").onclick = () => go(state.at - 1);
   $("on").onclick = () => go(state.at + 1);
@@ -144,7 +145,7 @@ function start() {
     search($("search").value);
   });
   drawTracks();
-  const line = steps.findIndex((step) => `#${step[NUMBER]}` === location.hash);
+  const line = steps.findIndex((step) => [`#line=${step[NUMBER]}`, `#${step[NUMBER]}`].includes(location.hash));
   go(line < 0 ? 1 : line + 1);
 }
 
