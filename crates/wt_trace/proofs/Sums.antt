@@ -1,21 +1,26 @@
 -- Sums over the shards.
-use Rattle.std.proofs.Common.{◌≡◌, ℕ, zero, suc, ◌+◌, List, [], ◌∷◌, ◌++◌, codes, ap, refl, sym, ◌∙◌, append-nil, append_assoc, arith}
+use Rattle.std.proofs.Common.{◌≡◌, ℕ, zero, suc, ◌+◌, List, [], ◌∷◌, ◌++◌, ap, refl, sym, ◌∙◌, append-nil, append_assoc, arith}
 use Rattle.std.proofs.lemmas.Grind.{flat_map-append}
 use Rattle.std.proofs.lemmas.List.{map-id}
 use Rattle.std.proofs.lemmas.List.FromFn.{map-range_with_len_more}
 use Rattle.std.specs.List.{flat_map, range_with_len}
 use Rattle.wt_trace.specs.Answers.{Answers}
-use Rattle.wt_trace.specs.Report.{summary, summary_of, count_text}
+use Rattle.wt_trace.specs.Report.{summary, summary_of}
 use Rattle.wt_core.specs.Sums.{AreSums}
 use Rattle.wt_core.specs.declared.stats.Stats.{Stats}
 
 pub summary_of-totals : (t : Stats) (all : List Answers) → AreSums (λ (a : Answers). a.stats) t all → summary_of t ≡ summary all
-unfolding summary summary_of
-summary_of-totals t all are = λ i.
-    count_text (codes "lookups ") (are.lookups i) ++ (count_text (codes " hits ") (are.hits i) ++ (
-    count_text (codes " misses ") (are.misses i) ++ (count_text (codes " loads ") (are.loads i) ++ (
-    count_text (codes " failed ") (are.failed i) ++ (count_text (codes " evicted ") (are.evicted i) ++ (
-    count_text (codes " entries ") (are.entries i) ++ (count_text (codes " weight ") (are.weight i) ++ codes "\n")))))))
+unfolding summary
+summary_of-totals t all are = ap summary_of (λ i. record {
+  lookups = are.lookups i;
+  hits = are.hits i;
+  misses = are.misses i;
+  loads = are.loads i;
+  failed = are.failed i;
+  evicted = are.evicted i;
+  entries = are.entries i;
+  weight = are.weight i;
+})
 
 -- one line more
 pub flat_map-range_with_len : (f : ℕ → List ℕ) (a n j : ℕ) → a + n ≡ j → flat_map f (range_with_len a (n + 1)) ≡ flat_map f (range_with_len a n) ++ f j

@@ -43,17 +43,22 @@ summary_of t =
     count_text (codes " failed ") t.failed ++ (count_text (codes " evicted ") t.evicted ++ (
     count_text (codes " entries ") t.entries ++ (count_text (codes " weight ") t.weight ++ codes "\n")))))))
 
--- a label with the sum of a number over the shards
-abbrev pub sum_text : List ℕ → (Stats → ℕ) → List Answers → List ℕ
-sum_text label number all = count_text label (sum_by (λ (a : Answers). number a.stats) all)
+-- the numbers of all shards, added up
+abbrev pub totals_of : List Answers → Stats
+totals_of all = record {
+  lookups = sum_by (λ (a : Answers). a.stats.lookups) all;
+  hits = sum_by (λ (a : Answers). a.stats.hits) all;
+  misses = sum_by (λ (a : Answers). a.stats.misses) all;
+  loads = sum_by (λ (a : Answers). a.stats.loads) all;
+  failed = sum_by (λ (a : Answers). a.stats.failed) all;
+  evicted = sum_by (λ (a : Answers). a.stats.evicted) all;
+  entries = sum_by (λ (a : Answers). a.stats.entries) all;
+  weight = sum_by (λ (a : Answers). a.stats.weight) all;
+}
 
--- the numbers of all shards
+-- the summary's line of all shards
 unfoldable pub summary : List Answers → List ℕ
-summary all =
-    sum_text (codes "lookups ") (λ s. s.lookups) all ++ (sum_text (codes " hits ") (λ s. s.hits) all ++
-    (sum_text (codes " misses ") (λ s. s.misses) all ++ (sum_text (codes " loads ") (λ s. s.loads) all ++
-    (sum_text (codes " failed ") (λ s. s.failed) all ++ (sum_text (codes " evicted ") (λ s. s.evicted) all ++
-    (sum_text (codes " entries ") (λ s. s.entries) all ++ (sum_text (codes " weight ") (λ s. s.weight) all ++ codes "\n")))))))
+summary all = summary_of (totals_of all)
 
 -- `count` lines by what the shards answer, and the summary if no line was at fault
 unfoldable pub printed : ℕ → ℕ → Bool → List Answers → List ℕ

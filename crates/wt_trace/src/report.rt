@@ -20,20 +20,19 @@ ghost use Rattle.wt_trace.specs.Standing.{standing_of, new_standings};
 ghost use Rattle.wt_trace.specs.Stops.{IsStop};
 ghost use Rattle.wt_trace.specs.Trace.{line_end};
 
-pub(crate) mod digits;
+pub(crate) mod on_threads;
 pub(crate) mod printing;
 pub(crate) mod summary;
 pub(crate) mod texts;
-pub(crate) mod words;
 
 use crate::fault::ReplayFault;
 use crate::options::Options;
-use crate::report::digits::show_number;
 use crate::report::summary::show_numbers;
 use crate::shard::Shard;
 use crate::shard::gate::Open;
 use crate::trace::bytes::cut;
 use crate::trace::checked;
+use crate::trace::digits::show_number;
 use crate::trace::header::behind_header;
 use crate::trace::key::TraceKey;
 use crate::trace::line::Line;

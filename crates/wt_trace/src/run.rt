@@ -7,9 +7,9 @@ ghost use Rattle.wt_trace.specs.declared.fault.ReplayFault.TheVariants as fault;
 
 use crate::fault::ReplayFault;
 use crate::options::Options;
+use crate::report::on_threads::report_by_shard;
 use crate::report::report;
 use crate::report::texts::Texts;
-use crate::shard::by_shard::report_by_shard;
 use crate::shard::gate::Gate;
 use crate::tallied::Tallied;
 use std::alloc::Global;

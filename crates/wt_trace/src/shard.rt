@@ -8,18 +8,18 @@ ghost use Rattle.wt_trace.specs.Stops.{IsStop};
 ghost use Rattle.wt_trace.specs.declared.trace.line.Act.TheVariants as act;
 
 pub(crate) mod answers;
-pub(crate) mod by_shard;
 pub(crate) mod gate;
 pub(crate) mod rules;
 pub(crate) mod version;
+pub(crate) mod words;
 
 use crate::fault::ReplayFault;
 use crate::options::Options;
-use crate::report::words::{show, show_loaded, show_notices, show_reply, show_with};
 use crate::shard::answers::Answers;
 use crate::shard::gate::Gate;
 use crate::shard::rules::{load_by, version_by};
 use crate::shard::version::Version;
+use crate::shard::words::{show, show_loaded, show_notices, show_reply, show_with};
 use crate::trace::key::TraceKey;
 use crate::trace::line::{Act, Line};
 use crate::trace::pieces::Walk;

@@ -5,6 +5,7 @@ ghost use Rattle.wt_trace.specs.Trace.{line_end};
 ghost use Rattle.wt_trace.specs.Trace as spec;
 
 pub(crate) mod bytes;
+pub(crate) mod digits;
 pub(crate) mod header;
 pub(crate) mod key;
 pub(crate) mod line;

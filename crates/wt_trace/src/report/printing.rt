@@ -5,10 +5,10 @@ ghost use Rattle.wt_trace.specs.Report.{ArePieces, lines_text, piece_text};
 ghost use Rattle.wt_trace.specs.Report as spec;
 ghost use Rattle.wt_trace.specs.Trace.{line_end};
 
-use crate::report::digits::show_number;
 use crate::report::summary::show_summary;
 use crate::report::texts::Texts;
 use crate::shard::answers::Answers;
+use crate::trace::digits::show_number;
 use std::alloc::{AllocError, Global};
 use std::thread;
 use std::thread::Threads;
@@ -19,7 +19,7 @@ const PRINTED_A_LINE: usize = 24;
 
 // Appends line i of the report: its number, and what each shard adds to it.
 #[tactic(auto, unfolding(crate::specs::Report::line_text))]
-fn show_line(out: &mut Vec<u8>, first: u64, all: &[Answers], i: usize) -> Result<(), AllocError>
+fn print_line(out: &mut Vec<u8>, first: u64, all: &[Answers], i: usize) -> Result<(), AllocError>
     requires whole { All (λ a. i < length a.texts) all.now }
     requires fits { first + i < 2 ^ 64 }
     ensures { OnOk result (out.new.items ≡ out.old.items ++ spec.line_text first all.now i) }
@@ -33,7 +33,7 @@ fn show_line(out: &mut Vec<u8>, first: u64, all: &[Answers], i: usize) -> Result
 }
 
 // Appends `len` lines of the report, from line `from` on.
-fn show_lines(
+fn print_lines(
     out: &mut Vec<u8>,
     first: u64,
     all: &[Answers],
@@ -45,7 +45,7 @@ fn show_lines(
     ensures { OnOk result (out.new.items ≡ out.old.items ++ lines_text first all.now from len) }
 {
     for i in 0..len {
-        show_line(out, first, all, from + i)?;
+        print_line(out, first, all, from + i)?;
     }
     Ok(())
 }
@@ -66,7 +66,7 @@ fn piece(
     let from = (t * most).min(count);
     let len = most.min(count - from);
     let mut out = Vec::with_capacity(alloc, len.saturating_mul(PRINTED_A_LINE))?;
-    show_lines(&mut out, first, all, from, len)?;
+    print_lines(&mut out, first, all, from, len)?;
     Ok(out)
 }
 

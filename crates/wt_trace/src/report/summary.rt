@@ -3,14 +3,14 @@ ghost use Rattle.std.specs.Prelude.{◌≡◌, ◌++◌, ◌≤◌, IfOk, OnOk, 
 ghost use Rattle.wt_core.specs.Sums.{AreSums};
 ghost use Rattle.wt_trace.specs.Report as spec;
 
-use crate::report::digits::show_number;
 use crate::shard::answers::Answers;
+use crate::trace::digits::show_number;
 use std::alloc::{AllocError, Global};
 use wt_core::Stats;
 use wt_keys::NoMemory;
 
 // The sums of the numbers of all shards.
-fn totals(all: &[Answers]) -> Stats
+fn totals_of(all: &[Answers]) -> Stats
     requires { length all.now ≤ 4 }
     ensures { AreSums (λ a. a.stats) result all.now }
 {
@@ -51,7 +51,7 @@ pub fn show_summary(out: &mut Vec<u8>, all: &[Answers]) -> Result<(), AllocError
     requires { length all.now ≤ 4 }
     ensures { OnOk result (out.new.items ≡ out.old.items ++ spec.summary all.now) }
 {
-    let sum = totals(all);
+    let sum = totals_of(all);
     show_numbers(out, &sum)?;
     Ok(())
 }

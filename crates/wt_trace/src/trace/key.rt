@@ -3,7 +3,7 @@ ghost use Rattle.std.specs.Prelude.{◌≡◌, ◌++◌, ℕ, List, Option, OnOk
 ghost use Rattle.std.specs.List.{list_all};
 ghost use Rattle.wt_trace.specs.Keys.{number_of, name_of, is_name_byte};
 
-use crate::report::digits::{number_of, show_number};
+use crate::trace::digits::{number_of, show_number};
 use std::alloc::AllocError;
 use wt_keys::{CacheKey, Name};
 

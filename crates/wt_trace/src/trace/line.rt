@@ -3,8 +3,8 @@ ghost use Rattle.std.specs.Prelude.{◌≡◌};
 ghost use Rattle.wt_trace.specs.Keys.{IsNumber, IsName, numbers, names};
 ghost use Rattle.wt_trace.specs.Line as spec;
 
-use crate::report::digits::number_of;
 use crate::trace::bytes::cut;
+use crate::trace::digits::number_of;
 use crate::trace::key::TraceKey;
 
 /// What a line asks for.

@@ -139,7 +139,7 @@ fn numbered<K: TraceKey>(
 }
 
 // Takes what was read of the t-th chunk.
-fn take_at<K: TraceKey>(read: &mut Vec<Option<Piece<K>>>, t: usize) -> Option<Piece<K>>
+fn take_piece<K: TraceKey>(read: &mut Vec<Option<Piece<K>>>, t: usize) -> Option<Piece<K>>
     requires { t < vec_len read.old }
     ensures taken { result ≡ get_or read.old.items t None }
     ensures left { read.new.items ≡ slice_set read.old.items t None }
@@ -164,7 +164,7 @@ fn put_together<K: TraceKey>(
     let mut all = Pieces::new(alloc);
     for t in 0..chunks.len() {
         let n = first + all.len() as u64;
-        let own = take_at(&mut read, t);
+        let own = take_piece(&mut read, t);
         let one = numbered(alloc, first, n, bytes_at(chunks, t), own)?;
         all.push(one)?;
         if all.verdict().is_err() {

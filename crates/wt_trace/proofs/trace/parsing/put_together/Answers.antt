@@ -24,7 +24,7 @@ loop-t-preserved g c =
       few = omega (arith, c.in_ok-one.ensures.few, c.len.ensures, ap length longer ∙ length-append all.lines c.in_ok-one.one.lines.items);
       len = search rules;
       each = λ k later below.
-          let other = ap (λ (xs : List (Option (List (Line g.row.K.Denot)))). get_or xs k None) c.take_at-own.ensures.left ∙ get_or-set_other c.loop-t.read.items t k None None (λ e. omega (arith, later, e)) in
+          let other = ap (λ (xs : List (Option (List (Line g.row.K.Denot)))). get_or xs k None) c.take_piece-own.ensures.left ∙ get_or-set_other c.loop-t.read.items t k None None (λ e. omega (arith, later, e)) in
           subst (λ (o : Option (List (Line g.row.K.Denot))). IfSome o (IsFaultless (trace_from read c.args.first (lines_of (get_or c.args.chunks.now k []))))) (sym other) (inv.each k (omega (arith, later)) below);
     }
 

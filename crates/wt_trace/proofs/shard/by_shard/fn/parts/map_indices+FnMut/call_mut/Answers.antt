@@ -1,4 +1,0 @@
-use Rattle.wt_trace.proofs.shard.by_shard.fn.parts.map_indices+FnMut.call_mut.Goals as goal
-
-pub map_indices-requires : goal.map_indices-requires
-map_indices-requires g c = let r = c.requires.1.1 in (r.1.0, (r.1.1, (r.1.2, r.0)))
