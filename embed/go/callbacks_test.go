@@ -130,7 +130,7 @@ func TestADropDuringALoadKeepsItsValueOut(t *testing.T) {
 func TestALoadThatClosesTheCacheHasItsValueReturned(t *testing.T) {
 	c := open(t, setup)
 	v, err := c.Get(ctx, 1, 0, func() (string, uint32, error) { c.Close(); return "one", 1, nil })
-	if values, keys := c.Kept(); v != "one" || err != nil || values != 0 || keys != 0 || len(c.loads) != 0 {
+	if values, keys := c.Kept(); v != "one" || err != nil || values != 0 || keys != 0 {
 		t.Fatal(v, err, values, keys)
 	}
 	if _, _, err := c.Look(1, 0); !errors.Is(err, Closed) || err.Error() != "rookdresser: the cache is closed" {

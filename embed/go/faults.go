@@ -41,6 +41,24 @@ func (f Fault) Error() string {
 	return fmt.Sprintf("rookdresser: fault %d", uint64(f))
 }
 
+// A Cause is why an entry left.
+type Cause uint32
+
+// The causes.
+const (
+	Explicit Cause = C.RD_EXPLICIT // it was dropped or cleared, or the cache was closed
+	Replaced Cause = C.RD_REPLACED // another value was stored under its key
+	Expired  Cause = C.RD_EXPIRED  // it was too old
+	Size     Cause = C.RD_SIZE     // it was evicted
+)
+
+func (c Cause) String() string {
+	if c < Explicit || c > Size {
+		return fmt.Sprintf("Cause(%d)", uint32(c))
+	}
+	return [...]string{"Explicit", "Replaced", "Expired", "Size"}[c-Explicit]
+}
+
 // ErrPanicked is what those get who shared a load that panicked or ended its goroutine.
 var ErrPanicked = errors.New("rookdresser: the load panicked")
 

@@ -4,6 +4,8 @@ import (
 	"context"
 	"errors"
 	"fmt"
+	"math"
+	"math/rand"
 	"runtime"
 	"sync"
 	"sync/atomic"
@@ -69,7 +71,7 @@ func holds[K Key, V any](t *testing.T, c *Cache[K, V]) Numbers {
 	t.Helper()
 	n, err := c.Numbers()
 	values, keys := c.Kept()
-	if err != nil || uint64(values) != n.Entries || uint64(keys) != n.Entries || n.Flights != 0 || len(c.loads) != 0 {
+	if err != nil || uint64(values) != n.Entries || uint64(keys) != n.Entries || n.Flights != 0 {
 		t.Fatalf("%d values and %d keys are kept of %d entries, %d loads are open: %v", values, keys, n.Entries, n.Flights, err)
 	}
 	return n
@@ -110,26 +112,48 @@ func TestKeysAreOfAnyKindOfStringOrWholeNumber(t *testing.T) {
 
 func TestKeysGoToTheLibraryUnderASeedIfTheyAreStringsOrAreToBe(t *testing.T) {
 	plain, seeded, other := open(t, setup), open(t, Setup{Entries: 100, Seeded: true}), open(t, Setup{Entries: 100, Seeded: true})
-	if plain.keys.number(7) != 7 || seeded.keys.number(7) == other.keys.number(7) {
-		t.Fatal(plain.keys.number(7), seeded.keys.number(7), other.keys.number(7))
+	if plain.hash.of(7) != 7 || seeded.hash.of(7) == other.hash.of(7) {
+		t.Fatal(plain.hash.of(7), seeded.hash.of(7), other.hash.of(7))
 	}
 	first, second := openOf[string](t, setup), openOf[string](t, setup)
-	if first.keys.number("seven") == second.keys.number("seven") {
-		t.Fatal(first.keys.number("seven"))
+	if first.hash.of("seven") == second.hash.of("seven") {
+		t.Fatal(first.hash.of("seven"))
 	}
 }
 
+// One hash for all keys, and one whose numbers collide with those that others were moved to.
 func TestKeysOfOneHashAreToldApart(t *testing.T) {
-	c := openOf[string](t, setup)
-	// Another key has the number that this one would get.
-	number := c.keys.number("a page")
-	c.keys.hold("another", number)
-	if got := c.keys.number("a page"); got != number+1 {
-		t.Fatal(got, number)
+	hashOf := []func(key int) uint64{
+		func(int) uint64 { return math.MaxUint64 },
+		func(key int) uint64 { return uint64(key) / 3 },
 	}
-	c.keys.letGo("another")
-	if got := c.keys.number("a page"); got != number || len(c.keys.rows) != 0 || len(c.keys.used) != 0 {
-		t.Fatal(got, number, c.keys)
+	for _, hash := range hashOf {
+		table, places, numbers := tableOf[int, string](), map[int]int32{}, map[uint64]int{}
+		for turn, random := 0, rand.New(rand.NewSource(1)); turn < 20000; turn++ {
+			key := random.Intn(30)
+			at, number := table.find(key, hash(key))
+			place, held := places[key]
+			if held != (at != none) || held && (at != place || numbers[number] != key) {
+				t.Fatal(key, at, place, held)
+			}
+			if owner, taken := numbers[number]; taken && owner != key {
+				t.Fatalf("%d and %d have the number %d", key, owner, number)
+			}
+			if held {
+				table.letGo(at)
+				delete(places, key)
+				delete(numbers, number)
+			} else {
+				places[key] = table.hold(at, key, hash(key), number)
+				numbers[number] = key
+			}
+		}
+		for _, at := range places {
+			table.letGo(at)
+		}
+		if _, keys := table.kept(); keys != 0 || len(table.first) != 0 || len(table.moved) != 0 {
+			t.Fatal(keys, table.first, table.moved)
+		}
 	}
 }
 

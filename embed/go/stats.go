@@ -1,10 +1,5 @@
 package rookdresser
 
-/*
-#include "rookdresser.h"
-*/
-import "C"
-
 import "time"
 
 // Numbers are those of the library.
@@ -68,24 +63,16 @@ func (c *Cache[K, V]) Stats() Stats {
 func (c *Cache[K, V]) Numbers() (Numbers, error) {
 	c.mu.Lock()
 	defer c.mu.Unlock()
-	var n C.rd_numbers
-	if f := C.rd_get_numbers(c.c, &n); f != 0 {
-		return Numbers{}, Fault(f)
+	n, fault := c.lib.numbers()
+	if fault != 0 {
+		return Numbers{}, fault
 	}
-	return Numbers{
-		uint64(n.lookups), uint64(n.hits), uint64(n.misses), uint64(n.loads), uint64(n.failed), uint64(n.evicted),
-		uint64(n.entries), uint64(n.weight), uint64(n.step), uint64(n.latest), uint64(n.flights),
-	}, nil
+	return n, nil
 }
 
-// Kept returns how many values this side keeps, and how many keys if they are hashed. While no load is open, both are
-// Numbers().Entries.
+// Kept returns how many values and keys this side keeps. While no load is open, both are Numbers().Entries.
 func (c *Cache[K, V]) Kept() (values, keys int) {
 	c.mu.Lock()
 	defer c.mu.Unlock()
-	values = len(c.slots) - len(c.free)
-	if c.keys.rows == nil {
-		return values, values
-	}
-	return values, len(c.keys.rows)
+	return c.table.kept()
 }

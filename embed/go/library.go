@@ -1,0 +1,146 @@
+package rookdresser
+
+/*
+#include "rookdresser.h"
+
+enum { COPIED = 16 };
+
+// A cache of the library, and what its latest call told. For Go the union is bytes, so that a call needs no check of pointers.
+typedef struct {
+	union { rd_cache cache; } of;
+	rd_answer answer;
+	rd_notice notices[COPIED];
+} side;
+
+// Copies the notices of the latest call, from one on.
+static void copy_notices(side *s, uint64_t from) {
+	for (uint64_t i = 0; i < COPIED && from + i < s->answer.notices; i++)
+		rd_get_notice(&s->of.cache, from + i, &s->notices[i]);
+}
+
+// Ends each call below, so that it takes one crossing with the first notices. A refused call told none.
+static uint64_t told(side *s, uint64_t fault) {
+	if (fault) s->answer.notices = 0;
+	copy_notices(s, 0);
+	return fault;
+}
+
+static uint64_t open_side(const rd_setup *setup, side *s) { return rd_open(setup, &s->of.cache); }
+static uint64_t close_side(side *s) { return rd_close(&s->of.cache); }
+static uint64_t numbers_of(side *s, rd_numbers *n) { return rd_get_numbers(&s->of.cache, n); }
+static uint64_t look(side *s, uint64_t key, uint64_t now) { return told(s, rd_look(&s->of.cache, key, now, &s->answer)); }
+static uint64_t seek(side *s, uint64_t key, uint64_t now) { return told(s, rd_seek(&s->of.cache, key, now, &s->answer)); }
+static uint64_t drop(side *s, uint64_t key, uint64_t now) { return told(s, rd_drop_key(&s->of.cache, key, now, &s->answer)); }
+static uint64_t forget(side *s, uint64_t key, uint64_t now) { return told(s, rd_forget(&s->of.cache, key, now, &s->answer)); }
+static uint64_t clear(side *s, uint64_t now) { return told(s, rd_clear(&s->of.cache, now, &s->answer)); }
+static uint64_t clean(side *s, uint64_t now) { return told(s, rd_clean(&s->of.cache, now, &s->answer)); }
+
+static uint64_t put(side *s, uint64_t key, uint64_t token, uint32_t weight, uint64_t now) {
+	return told(s, rd_put(&s->of.cache, key, (rd_token){token, weight}, now, &s->answer));
+}
+
+static uint64_t land_failed(side *s, uint64_t id, uint64_t key, uint64_t now) {
+	return told(s, rd_land_failed(&s->of.cache, id, key, now, &s->answer));
+}
+
+// Where memory is refused the value isn't stored, and the load is closed.
+static uint64_t land(side *s, uint64_t id, uint64_t key, uint64_t token, uint32_t weight, uint64_t now) {
+	uint64_t fault = rd_land_keep(&s->of.cache, id, key, (rd_token){token, weight}, now, &s->answer);
+	if (fault) fault = rd_land_loose(&s->of.cache, id, key, now, &s->answer);
+	return told(s, fault);
+}
+*/
+import "C"
+
+// A library is one of its caches, whose calls are made one at a time. Each leaves its answer and its notices until the next one.
+type library struct{ side *C.side }
+
+func openLibrary(s Setup) (library, Fault) {
+	l := library{new(C.side)}
+	setup := setupOf(s)
+	return l, Fault(C.open_side(&setup, l.side))
+}
+
+// wrongSetting returns the name of the first setting that is out of its range, or none.
+func wrongSetting(s Setup) string {
+	setup := setupOf(s)
+	return [...]string{"", "Entries", "Window", "Flights", "Bound", "AfterWrite", "AfterAccess", "Refresh"}[C.rd_check(&setup)]
+}
+
+func setupOf(s Setup) C.rd_setup {
+	return C.rd_setup{
+		entries: C.uint32_t(s.Entries), window: C.uint32_t(s.Window), flights: C.uint32_t(s.Flights), bound: C.uint64_t(s.Bound),
+		after_write: C.uint64_t(s.AfterWrite), after_access: C.uint64_t(s.AfterAccess), refresh: C.uint64_t(s.Refresh),
+	}
+}
+
+func (l library) look(key, now uint64) Fault {
+	return Fault(C.look(l.side, C.uint64_t(key), C.uint64_t(now)))
+}
+
+func (l library) seek(key, now uint64) Fault {
+	return Fault(C.seek(l.side, C.uint64_t(key), C.uint64_t(now)))
+}
+
+func (l library) put(key, token uint64, weight uint32, now uint64) Fault {
+	return Fault(C.put(l.side, C.uint64_t(key), C.uint64_t(token), C.uint32_t(weight), C.uint64_t(now)))
+}
+
+// land closes a load with a value, and isStored says whether it was stored then.
+func (l library) land(id, key, token uint64, weight uint32, now uint64) Fault {
+	return Fault(C.land(l.side, C.uint64_t(id), C.uint64_t(key), C.uint64_t(token), C.uint32_t(weight), C.uint64_t(now)))
+}
+
+func (l library) landFailed(id, key, now uint64) Fault {
+	return Fault(C.land_failed(l.side, C.uint64_t(id), C.uint64_t(key), C.uint64_t(now)))
+}
+
+func (l library) drop(key, now uint64) Fault {
+	return Fault(C.drop(l.side, C.uint64_t(key), C.uint64_t(now)))
+}
+
+func (l library) forget(key, now uint64) Fault {
+	return Fault(C.forget(l.side, C.uint64_t(key), C.uint64_t(now)))
+}
+
+func (l library) clear(now uint64) Fault { return Fault(C.clear(l.side, C.uint64_t(now))) }
+func (l library) clean(now uint64) Fault { return Fault(C.clean(l.side, C.uint64_t(now))) }
+func (l library) close() Fault           { return Fault(C.close_side(l.side)) }
+
+// What the latest call answered, if it wasn't refused.
+
+func (l library) isHit() bool {
+	return l.side.answer.kind == C.RD_HIT || l.side.answer.kind == C.RD_HIT_LEAD
+}
+
+func (l library) leads() bool {
+	return l.side.answer.kind == C.RD_LEAD || l.side.answer.kind == C.RD_HIT_LEAD
+}
+
+func (l library) isStored() bool { return l.side.answer.kind == C.RD_KEPT }
+func (l library) token() uint64  { return uint64(l.side.answer.token) }
+func (l library) number() uint64 { return uint64(l.side.answer.number) }
+
+// notices returns how many entries the latest call told to have left.
+func (l library) notices() uint64 { return uint64(l.side.answer.notices) }
+
+// notice returns the token and the cause of one of them. They are read in turn, from 0.
+func (l library) notice(i uint64) (uint64, Cause) {
+	if i > 0 && i%C.COPIED == 0 {
+		C.copy_notices(l.side, C.uint64_t(i))
+	}
+	n := &l.side.notices[i%C.COPIED]
+	return uint64(n.token), Cause(n.cause)
+}
+
+func (l library) numbers() (Numbers, Fault) {
+	var n C.rd_numbers
+	fault := Fault(C.numbers_of(l.side, &n))
+	if fault != 0 {
+		return Numbers{}, fault
+	}
+	return Numbers{
+		uint64(n.lookups), uint64(n.hits), uint64(n.misses), uint64(n.loads), uint64(n.failed), uint64(n.evicted),
+		uint64(n.entries), uint64(n.weight), uint64(n.step), uint64(n.latest), uint64(n.flights),
+	}, 0
+}
