@@ -9,20 +9,21 @@ import (
 	"runtime"
 	"sync/atomic"
 	"testing"
+	"time"
 )
 
 var errDown = errors.New("the source is down")
 
-func got(v string) func() (string, uint32, error) {
-	return func() (string, uint32, error) { return v, 1, nil }
+func got(v string) func(context.Context) (string, uint32, error) {
+	return func(context.Context) (string, uint32, error) { return v, 1, nil }
 }
 
-func fails() (string, uint32, error) { return "", 0, errDown }
+func fails(context.Context) (string, uint32, error) { return "", 0, errDown }
 
 func TestALoadThatFailsFailsForAllWhoShareIt(t *testing.T) {
 	c := open(t, setup)
 	together(2, func(int) {
-		_, err := c.Get(ctx, 1, 0, func() (string, uint32, error) { waitForJoins(c, 1); return fails() })
+		_, err := c.Get(ctx, 1, func(context.Context) (string, uint32, error) { waitForJoins(c, 1); return fails(ctx) })
 		if err != errDown {
 			t.Error(err)
 		}
@@ -38,13 +39,13 @@ func TestALoadThatPanicsOrEndsItsGoroutineLeavesNothingOpen(t *testing.T) {
 		c, shared, panicked := open(t, setup), make(chan error), make(chan any)
 		go func() {
 			defer func() { panicked <- recover() }()
-			_, _ = c.Get(ctx, 1, 0, func() (string, uint32, error) { waitForJoins(c, 1); end(); return "", 1, nil })
+			_, _ = c.Get(ctx, 1, func(context.Context) (string, uint32, error) { waitForJoins(c, 1); end(); return "", 1, nil })
 		}()
 		for n, _ := c.Numbers(); n.Flights == 0; n, _ = c.Numbers() {
 			runtime.Gosched()
 		}
 		go func() {
-			_, err := c.Get(ctx, 1, 0, got("one"))
+			_, err := c.Get(ctx, 1, got("one"))
 			shared <- err
 		}()
 		if err := <-shared; err != ErrPanicked {
@@ -53,7 +54,7 @@ func TestALoadThatPanicsOrEndsItsGoroutineLeavesNothingOpen(t *testing.T) {
 		if why := <-panicked; why != nil && why != "of the load" {
 			t.Fatal(why)
 		}
-		if v, err := c.Get(ctx, 1, 0, got("one")); v != "one" || err != nil {
+		if v, err := c.Get(ctx, 1, got("one")); v != "one" || err != nil {
 			t.Fatal(v, err)
 		}
 		holds(t, c)
@@ -62,8 +63,8 @@ func TestALoadThatPanicsOrEndsItsGoroutineLeavesNothingOpen(t *testing.T) {
 
 func TestALoadThatAsksForItsOwnKeyIsTold(t *testing.T) {
 	c := open(t, setup)
-	v, err := c.Get(ctx, 1, 0, func() (string, uint32, error) {
-		if v, err := c.Get(ctx, 1, 0, got("inner")); err != ErrWaitsForItself {
+	v, err := c.Get(ctx, 1, func(context.Context) (string, uint32, error) {
+		if v, err := c.Get(ctx, 1, got("inner")); err != ErrWaitsForItself {
 			t.Error(v, err)
 		}
 		return "outer", 1, nil
@@ -79,12 +80,12 @@ func TestLoadsOfTwoGoroutinesThatWaitForEachOtherAreTold(t *testing.T) {
 	var begun, told int32
 	together(2, func(i int) {
 		own, other := uint64(i), uint64(1-i)
-		v, err := c.Get(ctx, own, 0, func() (string, uint32, error) {
+		v, err := c.Get(ctx, own, func(context.Context) (string, uint32, error) {
 			atomic.AddInt32(&begun, 1)
 			for atomic.LoadInt32(&begun) < 2 {
 				runtime.Gosched()
 			}
-			if _, err := c.Get(ctx, other, 0, got("of the other")); err == ErrWaitsForItself {
+			if _, err := c.Get(ctx, other, got("of the other")); err == ErrWaitsForItself {
 				atomic.AddInt32(&told, 1)
 			} else if err != nil {
 				t.Error(err)
@@ -103,14 +104,14 @@ func TestLoadsOfTwoGoroutinesThatWaitForEachOtherAreTold(t *testing.T) {
 
 func TestALoadMayUseTheCacheForOtherKeysAndChangeItsOwn(t *testing.T) {
 	c := open(t, setup)
-	v, err := c.Get(ctx, 1, 0, func() (string, uint32, error) {
-		if err := c.Put(1, "put", 1, 0); err != nil {
+	v, err := c.Get(ctx, 1, func(context.Context) (string, uint32, error) {
+		if err := c.Put(1, "put", 1); err != nil {
 			return "", 0, err
 		}
-		other, err := c.Get(ctx, 2, 0, got("two"))
+		other, err := c.Get(ctx, 2, got("two"))
 		return other + " and one", 1, err
 	})
-	put, _, _ := c.Look(1, 0)
+	put, _, _ := c.Look(1)
 	if v != "two and one" || err != nil || put != "put" || c.Stats().Stale != 1 {
 		t.Fatal(v, err, put, c.Stats())
 	}
@@ -119,8 +120,8 @@ func TestALoadMayUseTheCacheForOtherKeysAndChangeItsOwn(t *testing.T) {
 
 func TestADropDuringALoadKeepsItsValueOut(t *testing.T) {
 	c := open(t, setup)
-	v, err := c.Get(ctx, 1, 0, func() (string, uint32, error) { _, err := c.Drop(1, 0); return "one", 1, err })
-	_, found, _ := c.Look(1, 0)
+	v, err := c.Get(ctx, 1, func(context.Context) (string, uint32, error) { _, err := c.Drop(1); return "one", 1, err })
+	_, found, _ := c.Look(1)
 	if v != "one" || err != nil || found {
 		t.Fatal(v, err, found)
 	}
@@ -129,22 +130,22 @@ func TestADropDuringALoadKeepsItsValueOut(t *testing.T) {
 
 func TestALoadThatClosesTheCacheHasItsValueReturned(t *testing.T) {
 	c := open(t, setup)
-	v, err := c.Get(ctx, 1, 0, func() (string, uint32, error) { c.Close(); return "one", 1, nil })
+	v, err := c.Get(ctx, 1, func(context.Context) (string, uint32, error) { c.Close(); return "one", 1, nil })
 	if values, keys := c.Kept(); v != "one" || err != nil || values != 0 || keys != 0 {
 		t.Fatal(v, err, values, keys)
 	}
-	if _, _, err := c.Look(1, 0); !errors.Is(err, Closed) || err.Error() != "rookdresser: the cache is closed" {
+	if _, _, err := c.Look(1); !errors.Is(err, Closed) || err.Error() != "rookdresser: the cache is closed" {
 		t.Fatal(err)
 	}
 }
 
 func TestAWeightOutOfRangeStoresNothing(t *testing.T) {
 	c := open(t, Setup{Entries: 10, Bound: 5})
-	v, err := c.Get(ctx, 1, 0, func() (string, uint32, error) { return "heavy", math.MaxUint32, nil })
+	v, err := c.Get(ctx, 1, func(context.Context) (string, uint32, error) { return "heavy", math.MaxUint32, nil })
 	if v != "heavy" || err != nil || c.Stats().Stale != 1 {
 		t.Fatal(v, err)
 	}
-	if err := c.Put(1, "heavy", 6, 0); !errors.Is(err, TooHeavy) || c.Stats().Refused[TooHeavy] != 1 {
+	if err := c.Put(1, "heavy", 6); !errors.Is(err, TooHeavy) || c.Stats().Refused[TooHeavy] != 1 {
 		t.Fatal(err)
 	}
 	if n := holds(t, c); n.Entries != 0 {
@@ -153,14 +154,16 @@ func TestAWeightOutOfRangeStoresNothing(t *testing.T) {
 }
 
 func TestARefreshThatFailsReturnsTheOldValue(t *testing.T) {
-	c := open(t, Setup{Entries: 10, Refresh: 50})
-	if err := c.Put(1, "old", 1, 0); err != nil {
+	s, clock := timed(Setup{Entries: 10, Refresh: 50 * time.Millisecond})
+	c := open(t, s)
+	if err := c.Put(1, "old", 1); err != nil {
 		t.Fatal(err)
 	}
-	if v, err := c.Get(ctx, 1, 60, fails); v != "old" || err != nil {
+	clock.at.Store(60)
+	if v, err := c.Get(ctx, 1, fails); v != "old" || err != nil {
 		t.Fatal(v, err)
 	}
-	if v, err := c.Get(ctx, 1, 60, got("new")); v != "new" || err != nil {
+	if v, err := c.Get(ctx, 1, got("new")); v != "new" || err != nil {
 		t.Fatal(v, err)
 	}
 	if s := c.Stats(); s.Hits != 2 || s.Refreshes != 2 || s.Failed != 1 || s.Loads != 1 || s.Replaced != 1 {
@@ -170,12 +173,16 @@ func TestARefreshThatFailsReturnsTheOldValue(t *testing.T) {
 }
 
 func TestTheAgeOfALoadedValueCountsFromTheGet(t *testing.T) {
-	c := open(t, Setup{Entries: 10, AfterWrite: 100})
-	if _, err := c.Get(ctx, 1, 1000, got("one")); err != nil {
+	s, clock := timed(Setup{Entries: 10, AfterWrite: 100 * time.Millisecond})
+	c := open(t, s)
+	clock.at.Store(1000)
+	_, err := c.Get(ctx, 1, func(context.Context) (string, uint32, error) { clock.at.Store(1099); return "one", 1, nil })
+	if err != nil {
 		t.Fatal(err)
 	}
-	_, before, _ := c.Look(1, 1099)
-	_, after, _ := c.Look(1, 1100)
+	_, before, _ := c.Look(1)
+	clock.at.Store(1100)
+	_, after, _ := c.Look(1)
 	if !before || after {
 		t.Fatal(before, after)
 	}
@@ -183,17 +190,28 @@ func TestTheAgeOfALoadedValueCountsFromTheGet(t *testing.T) {
 }
 
 func TestAMomentThatGoesBackCountsAsTheLatest(t *testing.T) {
-	c := open(t, Setup{Entries: 10, AfterWrite: 100})
-	there := func(key uint64, now uint64) bool { _, found, _ := c.Look(key, now); return found }
-	_, _, _ = c.Look(1, 1000)
-	if err := c.Put(1, "one", 1, 5); err != nil {
+	s, clock := timed(Setup{Entries: 10, AfterWrite: 100 * time.Millisecond})
+	c := open(t, s)
+	there := func(key uint64, now int64) bool { clock.at.Store(now); _, found, _ := c.Look(key); return found }
+	_ = there(1, 1000)
+	clock.at.Store(5)
+	if err := c.Put(1, "one", 1); err != nil {
 		t.Fatal(err)
 	}
 	if !there(1, 1099) || there(1, 1100) {
 		t.Fatal("its age doesn't count from the latest moment")
 	}
+	// A hit moves the time as well.
+	if err := c.Put(1, "one", 1); err != nil || !there(1, 1180) {
+		t.Fatal(err)
+	}
+	clock.at.Store(5)
+	if err := c.Put(3, "three", 1); err != nil || !there(3, 1279) || !c.Contains(3) || there(3, 1280) {
+		t.Fatal("its age doesn't count from the latest moment", err)
+	}
 	// So does a landing whose get was made before a call at a later moment.
-	_, err := c.Get(ctx, 2, 2000, func() (string, uint32, error) { _, _, _ = c.Look(1, 2090); return "two", 1, nil })
+	clock.at.Store(2000)
+	_, err := c.Get(ctx, 2, func(context.Context) (string, uint32, error) { _ = there(1, 2090); return "two", 1, nil })
 	if err != nil || !there(2, 2189) || there(2, 2190) {
 		t.Fatal("its age doesn't count from the latest moment", err)
 	}
@@ -203,7 +221,7 @@ func TestAMomentThatGoesBackCountsAsTheLatest(t *testing.T) {
 func TestWhoWaitsForALoadMayGiveUp(t *testing.T) {
 	c, mayEnd, ended := open(t, setup), make(chan struct{}), make(chan error)
 	go func() {
-		_, err := c.Get(ctx, 1, 0, func() (string, uint32, error) { <-mayEnd; return "one", 1, nil })
+		_, err := c.Get(ctx, 1, func(context.Context) (string, uint32, error) { <-mayEnd; return "one", 1, nil })
 		ended <- err
 	}()
 	for n, _ := c.Numbers(); n.Flights == 0; n, _ = c.Numbers() {
@@ -211,179 +229,58 @@ func TestWhoWaitsForALoadMayGiveUp(t *testing.T) {
 	}
 	brief, cancel := context.WithCancel(ctx)
 	go func() { waitForJoins(c, 1); cancel() }()
-	if _, err := c.Get(brief, 1, 0, got("other")); err != context.Canceled {
+	if _, err := c.Get(brief, 1, got("other")); err != context.Canceled {
 		t.Fatal(err)
 	}
 	close(mayEnd)
 	if v, err := <-ended, error(nil); v != nil || err != nil {
 		t.Fatal(v)
 	}
-	if v, found, _ := c.Look(1, 0); v != "one" || !found {
+	if v, found, _ := c.Look(1); v != "one" || !found {
 		t.Fatal(v, found)
 	}
 	holds(t, c)
 }
 
-func TestAListenerIsToldWhatLeftAndMayUseTheCache(t *testing.T) {
-	c := openOf[string](t, Setup{Entries: 10, AfterWrite: 100})
-	var told []Left[string, string]
-	var again []string
-	c.Listen(func(left Left[string, string]) {
-		told = append(told, left)
-		if left.Cause == Expired {
-			v, err := c.Get(ctx, left.Key, 200, got("other"))
-			if err != nil {
-				t.Error(err)
-			}
-			again = append(again, v)
-		}
-	})
-	if err := c.Put("a", "first", 1, 0); err != nil {
-		t.Fatal(err)
-	}
-	if v, err := c.Get(ctx, "a", 200, got("second")); v != "second" || err != nil {
-		t.Fatal(v, err)
-	}
-	// The value that the get loaded was there by the time that the listener was called.
-	if len(again) != 1 || again[0] != "second" {
-		t.Fatal(again)
-	}
-	if err := c.Put("a", "third", 1, 200); err != nil {
-		t.Fatal(err)
-	}
-	c.Close()
-	want := []Left[string, string]{{"a", "first", Expired}, {"a", "second", Replaced}, {"a", "third", Explicit}}
-	if len(told) != 3 || told[0] != want[0] || told[1] != want[1] || told[2] != want[2] {
-		t.Fatal(told)
-	}
-}
+type named struct{}
 
-func TestALoadOrAListenerThatBlocksStopsNoOtherCall(t *testing.T) {
-	c, begun, end, ended := open(t, setup), make(chan struct{}), make(chan struct{}), make(chan error)
-	block := func() { begun <- struct{}{}; <-end }
-	c.Listen(func(Left[uint64, string]) { block() })
-	meanwhile := func() {
-		<-begun
-		if v, err := c.Get(ctx, 2, 0, got("two")); v != "two" || err != nil {
-			t.Error(v, err)
+func TestALoadOutlivesTheContextOfItsCaller(t *testing.T) {
+	c, shared := open(t, setup), make(chan error)
+	brief, cancel := context.WithCancel(context.WithValue(ctx, named{}, "a value"))
+	v, err := c.Get(brief, 1, func(lasting context.Context) (string, uint32, error) {
+		go func() {
+			v, err := c.Get(ctx, 1, got("other"))
+			if v != "one" && err == nil {
+				err = errors.New(v)
+			}
+			shared <- err
+		}()
+		waitForJoins(c, 1)
+		cancel()
+		_, has := lasting.Deadline()
+		if lasting.Err() != nil || lasting.Done() != nil || has || lasting.Value(named{}) != "a value" {
+			t.Error("its context has ended, or lost its values")
 		}
-		if _, found, err := c.Look(3, 0); found || err != nil {
-			t.Error(found, err)
-		}
-		end <- struct{}{}
-	}
-	go func() {
-		_, err := c.Get(ctx, 1, 0, func() (string, uint32, error) { block(); return "one", 1, nil })
-		ended <- err
-	}()
-	meanwhile()
-	if err := <-ended; err != nil {
-		t.Fatal(err)
-	}
-	go func() { _, err := c.Drop(1, 0); ended <- err }()
-	meanwhile()
-	if err := <-ended; err != nil {
-		t.Fatal(err)
+		return "one", 1, lasting.Err()
+	})
+	if other := <-shared; v != "one" || err != nil || other != nil {
+		t.Fatal(v, err, other)
 	}
 	holds(t, c)
-	c.Listen(nil)
 }
 
-func TestAListenerMayCloseTheCache(t *testing.T) {
+// One goroutine waits for a load that the other has just ended, and hasn't been told so yet.
+func TestALoadThatIsOverIsNoPartOfACircle(t *testing.T) {
 	c := open(t, setup)
-	c.Listen(func(Left[uint64, string]) { c.Close() })
-	for key := uint64(0); key < 3; key++ {
-		if err := c.Put(key, "held", 1, 0); err != nil {
-			t.Fatal(err)
-		}
-	}
-	if there, err := c.Drop(1, 0); !there || err != nil {
-		t.Fatal(there, err)
-	}
-	if values, keys := c.Kept(); values != 0 || keys != 0 {
-		t.Fatal(values, keys)
-	}
-}
-
-func TestAListenerThatPanicsKeepsNothingFromBeingTold(t *testing.T) {
-	c := open(t, setup)
-	told := 0
-	c.Listen(func(Left[uint64, string]) { told++; panic("of the listener") })
-	for key := uint64(0); key < 3; key++ {
-		if err := c.Put(key, "held", 1, 0); err != nil {
-			t.Fatal(err)
-		}
-	}
-	func() {
-		defer func() {
-			if recover() != "of the listener" {
-				t.Error("the panic is passed on")
-			}
-		}()
-		_ = c.Clear(0)
-	}()
-	if n := holds(t, c); told != 3 || n.Entries != 0 {
-		t.Fatal(told, n)
-	}
-}
-
-func TestAListenerThatEndsItsGoroutineKeepsNothingFromBeingTold(t *testing.T) {
-	c, told, ended := open(t, setup), 0, make(chan bool)
-	c.Listen(func(Left[uint64, string]) { told++; runtime.Goexit() })
-	for key := uint64(0); key < 3; key++ {
-		if err := c.Put(key, "held", 1, 0); err != nil {
-			t.Fatal(err)
-		}
-	}
-	go func() {
-		defer close(ended)
-		_ = c.Clear(0)
-		t.Error("its goroutine has not ended")
-	}()
-	<-ended
-	if n := holds(t, c); told != 3 || n.Entries != 0 {
-		t.Fatal(told, n)
-	}
-}
-
-func TestCausesAndFaultsAreSentences(t *testing.T) {
-	if Expired.String() != "Expired" || Cause(9).String() != "Cause(9)" {
-		t.Fatal(Expired.String(), Cause(9).String())
-	}
-	for _, fault := range []Fault{OutOfMemory, BadSetup, TooHeavy, TooManyFlights, StepsSpent, Closed} {
-		if len(fault.Error()) < len("rookdresser: out of memory") || fault.Error()[:13] != "rookdresser: " {
-			t.Fatal(fault.Error())
-		}
-	}
-}
-
-func TestAHitAllocatesNothing(t *testing.T) {
-	hitsAllocateNothing(t, open(t, setup), 7)
-	hitsAllocateNothing(t, open(t, Setup{Entries: 100, Seeded: true}), 7)
-	hitsAllocateNothing(t, openOf[string](t, setup), "a page")
-}
-
-func hitsAllocateNothing[K Key](t *testing.T, c *Cache[K, string], key K) {
-	if err := c.Put(key, "held", 1, 0); err != nil {
+	var ended *load[uint64, string]
+	_, _ = c.Get(ctx, 1, func(context.Context) (string, uint32, error) {
+		ended = c.shards[0].table.rows[0].load
+		return "one", 1, nil
+	})
+	const me, other = 1, 2
+	w, theirs := waiting{of: map[uintptr]*leader{other: &ended.leader}}, leader{goroutine: other}
+	ended.goroutine = me
+	if err := w.begin(me, &theirs); err != nil {
 		t.Fatal(err)
-	}
-	load := got("loaded")
-	gets := testing.AllocsPerRun(1000, func() { _, _ = c.Get(ctx, key, 0, load) })
-	looks := testing.AllocsPerRun(1000, func() { _, _, _ = c.Look(key, 0) })
-	if gets != 0 || looks != 0 {
-		t.Fatal(gets, looks)
-	}
-}
-
-func BenchmarkHit(b *testing.B) {
-	c, err := Open[string, string](setup)
-	if err != nil {
-		b.Fatal(err)
-	}
-	defer c.Close()
-	load := got("loaded")
-	b.ReportAllocs()
-	for i := 0; i < b.N; i++ {
-		_, _ = c.Get(ctx, "a page", 0, load)
 	}
 }

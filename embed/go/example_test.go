@@ -1,28 +1,166 @@
 package rookdresser_test
 
+// The code of README.md, which TestTheCodeOfTheReadmeIsThatOfTheExamples compares.
+
 import (
 	"context"
+	"encoding/json"
+	"expvar"
 	"fmt"
+	"hash/maphash"
+	"log"
+	"net/http"
+	"net/http/httptest"
+	"os"
+	"sort"
+	"time"
 
 	"rookdresser"
 )
 
+type Page struct{ text string }
+
+var fetches int
+
+func fetch(ctx context.Context, url string) (Page, error) {
+	fetches++
+	return Page{"the text of " + url}, ctx.Err()
+}
+
+func first(ctx context.Context, url string) (Page, error) {
+	c, err := rookdresser.Open[string, Page](rookdresser.Setup{Entries: 1000, AfterWrite: time.Minute})
+	if err != nil {
+		return Page{}, err
+	}
+	defer c.Close()
+	c.Listen(func(left rookdresser.Left[string, Page]) { log.Println(left.Key, left.Cause) })
+	page, err := c.Get(ctx, url, func(ctx context.Context) (Page, uint32, error) {
+		page, err := fetch(ctx, url) // once for all goroutines that ask meanwhile
+		return page, 1, err          // the entry weighs 1
+	})
+	return page, err
+}
+
 func Example() {
-	c, err := rookdresser.Open[string, int](rookdresser.Setup{Entries: 1000, AfterWrite: 60_000})
+	log.SetFlags(0)
+	log.SetOutput(os.Stdout)
+	page, err := first(context.Background(), "a page")
+	fmt.Println(page.text, err)
+	// Output:
+	// a page Explicit
+	// the text of a page <nil>
+}
+
+type Point struct {
+	Map  string
+	X, Y int
+}
+
+func ExampleOpenHashed() {
+	hash := func(seed maphash.Seed, p Point) uint64 {
+		return maphash.String(seed, p.Map) + uint64(p.X)<<32 + uint64(p.Y)
+	}
+	c, err := rookdresser.OpenHashed[Point, string](rookdresser.Setup{Entries: 1000}, hash)
 	if err != nil {
 		fmt.Println(err)
 		return
 	}
-	c.Listen(func(left rookdresser.Left[string, int]) { fmt.Println(left.Key, "left:", left.Cause) })
-	load := func() (int, uint32, error) { fmt.Println("loads"); return 42, 1, nil }
-	for i := 0; i < 2; i++ {
-		value, err := c.Get(context.Background(), "a page", 0, load)
-		fmt.Println(value, err)
+	defer c.Close()
+	err = c.Put(Point{"a map", 1, 2}, "a hill", 1)
+	hill, found, _ := c.Look(Point{"a map", 1, 2})
+	fmt.Println(err, hill, found, c.Contains(Point{"a map", 2, 1}))
+	// Output: <nil> a hill true false
+}
+
+func many(ctx context.Context, c *rookdresser.Cache[string, Page], urls []string) (map[string]Page, error) {
+	pages, err := c.GetMany(ctx, urls, func(ctx context.Context, absent []string) (map[string]rookdresser.Weighed[Page], error) {
+		loaded := map[string]rookdresser.Weighed[Page]{}
+		for _, url := range absent {
+			page, err := fetch(ctx, url)
+			if err != nil {
+				return nil, err
+			}
+			loaded[url] = rookdresser.Weighed[Page]{Value: page, Weight: 1}
+		}
+		return loaded, nil
+	})
+	return pages, err
+}
+
+func ExampleCache_GetMany() {
+	c, err := rookdresser.Open[string, Page](rookdresser.Setup{Entries: 1000})
+	if err != nil {
+		fmt.Println(err)
+		return
 	}
-	c.Close()
+	defer c.Close()
+	err = c.Put("b", Page{"put"}, 1)
+	fetches = 0
+	pages, second := many(context.Background(), c, []string{"a", "b", "c"})
+	keys := c.Keys()
+	sort.Strings(keys)
+	fmt.Println(err, second, pages["a"].text, pages["b"].text, pages["c"].text, fetches, keys)
+	// Output: <nil> <nil> the text of a put the text of c 2 [a b c]
+}
+
+// used is a cache after a hit, two misses, a load that failed and one that didn't.
+func used() *rookdresser.Cache[string, Page] {
+	c, err := rookdresser.Open[string, Page](rookdresser.Setup{Entries: 1000})
+	if err != nil {
+		log.Fatal(err)
+	}
+	fails := func(context.Context) (Page, uint32, error) { return Page{}, 0, fmt.Errorf("down") }
+	loads := func(context.Context) (Page, uint32, error) { return Page{}, 1, nil }
+	_, _ = c.Get(context.Background(), "a page", fails)
+	_, _ = c.Get(context.Background(), "a page", loads)
+	_, _ = c.Get(context.Background(), "a page", loads)
+	return c
+}
+
+func ExampleCache_Stats() {
+	c := used()
+	defer c.Close()
+	expvar.Publish("pages", expvar.Func(func() any { return c.Stats() }))
+
+	var shown struct{ Hits, Misses, Loads, Failed int }
+	err := json.Unmarshal([]byte(expvar.Get("pages").String()), &shown)
+	fmt.Println(shown, err)
+	// Output: {1 2 1 1} <nil>
+}
+
+func ExampleCache_Stats_prometheus() {
+	c := used()
+	defer c.Close()
+	metrics := func(w http.ResponseWriter, _ *http.Request) {
+		s := c.Stats()
+		counter := func(name string, n any) {
+			fmt.Fprintf(w, "# TYPE pages_%s_total counter\npages_%[1]s_total %v\n", name, n)
+		}
+		counter("hits", s.Hits)
+		counter("misses", s.Misses)
+		counter("loads", s.Loads)
+		counter("load_failures", s.Failed)
+		counter("load_seconds", s.LoadTime.Seconds())
+		counter("evictions", s.Expired+s.Size)
+	}
+
+	told := httptest.NewRecorder()
+	metrics(told, nil)
+	var name string
+	var value float64
+	for body := told.Body; body.Len() > 0; {
+		head, _ := body.ReadString('\n')
+		row, _ := body.ReadString('\n')
+		if _, err := fmt.Sscanf(row, "%s %g", &name, &value); err != nil || head != "# TYPE "+name+" counter\n" {
+			fmt.Println(head, row, err)
+		} else if name != "pages_load_seconds_total" {
+			fmt.Println(name, value)
+		}
+	}
 	// Output:
-	// loads
-	// 42 <nil>
-	// 42 <nil>
-	// a page left: Explicit
+	// pages_hits_total 1
+	// pages_misses_total 2
+	// pages_loads_total 1
+	// pages_load_failures_total 1
+	// pages_evictions_total 0
 }

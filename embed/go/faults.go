@@ -17,8 +17,8 @@ type Fault uint64
 const (
 	OutOfMemory    Fault = C.RD_OUT_OF_MEMORY    // the same call may succeed later
 	BadSetup       Fault = C.RD_BAD_SETUP        // a setting is out of its range
-	TooHeavy       Fault = C.RD_TOO_HEAVY        // the value weighs more than Bound
-	TooManyFlights Fault = C.RD_TOO_MANY_FLIGHTS // as many loads are open as Flights allows
+	TooHeavy       Fault = C.RD_TOO_HEAVY        // the value weighs more than its shard's part of Bound
+	TooManyFlights Fault = C.RD_TOO_MANY_FLIGHTS // as many loads are open in the shard as Flights allows
 	StepsSpent     Fault = C.RD_STEPS_SPENT      // 2^60 calls were made
 	Closed         Fault = C.RD_CLOSED           // the cache is closed
 )
@@ -65,3 +65,6 @@ var ErrPanicked = errors.New("rookdresser: the load panicked")
 // ErrWaitsForItself is what a Get returns that would wait for good: a load asked for its own key, or for one whose load in turn
 // waits for this goroutine.
 var ErrWaitsForItself = errors.New("rookdresser: the load of the key waits for this very call")
+
+// ErrNotLoaded is what those get who waited for a key of another's GetMany whose load returned no value for it.
+var ErrNotLoaded = errors.New("rookdresser: the load returned no value for the key")

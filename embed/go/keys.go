@@ -3,31 +3,36 @@ package rookdresser
 import (
 	"encoding/binary"
 	"hash/maphash"
+	"math/rand"
 	"reflect"
 	"unsafe"
 )
 
-// A Key is a string or a whole number. A string goes to the library as its hash under a random seed of the cache's own; a number
-// as it is, unless the Setup says Seeded.
+// A Key is a string or a whole number, of a type of yours too. A string goes to the library as its hash under a random seed of the
+// cache's own; a number as it is, unless the Setup says Seeded. OpenHashed takes all other keys.
 type Key interface {
 	~string | ~int | ~int8 | ~int16 | ~int32 | ~int64 | ~uint | ~uint8 | ~uint16 | ~uint32 | ~uint64 | ~uintptr
 }
 
-// A hasher makes the number of 64 bits of a key. That of a plain key is the key, so that no two have one.
-type hasher[K Key] struct {
+// A hasher makes the number of 64 bits of a key.
+type hasher[K comparable] struct {
 	kind    reflect.Kind
+	isPlain bool // whether it is the key itself
 	seed    maphash.Seed
-	isPlain bool
+	own     func(maphash.Seed, K) uint64
 }
 
-func hasherOf[K Key](seeded bool, seed maphash.Seed) hasher[K] {
+func hasherOfKind[K Key](seeded bool) hasher[K] {
 	kind := reflect.TypeOf(*new(K)).Kind()
-	return hasher[K]{kind: kind, seed: seed, isPlain: !seeded && kind != reflect.String}
+	return hasher[K]{kind: kind, seed: maphash.MakeSeed(), isPlain: !seeded && kind != reflect.String}
 }
 
 func (h *hasher[K]) of(key K) uint64 {
 	if h.isPlain {
 		return h.whole(key)
+	}
+	if h.own != nil {
+		return h.ofOwn(key)
 	}
 	if h.kind == reflect.String {
 		return maphash.String(h.seed, *(*string)(unsafe.Pointer(&key)))
@@ -35,6 +40,15 @@ func (h *hasher[K]) of(key K) uint64 {
 	var bytes [8]byte
 	binary.LittleEndian.PutUint64(bytes[:], h.whole(key))
 	return maphash.Bytes(h.seed, bytes[:])
+}
+
+// ofOwn compares the key first, so that one that can't be compared panics while no lock is held. One that doesn't equal itself is
+// never found, whatever its number.
+func (h *hasher[K]) ofOwn(key K) uint64 {
+	if key != key {
+		return rand.Uint64()
+	}
+	return h.own(h.seed, key)
 }
 
 // whole returns a key that is a whole number, as 64 bits. The kind says what the key is in memory.

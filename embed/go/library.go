@@ -3,14 +3,25 @@ package rookdresser
 /*
 #include "rookdresser.h"
 
-enum { COPIED = 16 };
+enum { COPIED = 16, HITS = 64 };
 
-// A cache of the library, and what its latest call told. For Go the union is bytes, so that a call needs no check of pointers.
+// A cache of the library, what its latest call told, and the hits that it isn't told yet. For Go the union is bytes, so that a call
+// needs no check of pointers.
 typedef struct {
 	union { rd_cache cache; } of;
 	rd_answer answer;
 	rd_notice notices[COPIED];
+	uint64_t hits;
+	struct { uint64_t key, now; } hit[HITS];
 } side;
+
+// Tells the hits in their order, before each other call. One that is refused memory was served all the same.
+static rd_cache *at(side *s) {
+	for (uint64_t i = 0; i < s->hits; i++)
+		rd_look(&s->of.cache, s->hit[i].key, s->hit[i].now, &s->answer);
+	s->hits = 0;
+	return &s->of.cache;
+}
 
 // Copies the notices of the latest call, from one on.
 static void copy_notices(side *s, uint64_t from) {
@@ -26,27 +37,29 @@ static uint64_t told(side *s, uint64_t fault) {
 }
 
 static uint64_t open_side(const rd_setup *setup, side *s) { return rd_open(setup, &s->of.cache); }
-static uint64_t close_side(side *s) { return rd_close(&s->of.cache); }
-static uint64_t numbers_of(side *s, rd_numbers *n) { return rd_get_numbers(&s->of.cache, n); }
-static uint64_t look(side *s, uint64_t key, uint64_t now) { return told(s, rd_look(&s->of.cache, key, now, &s->answer)); }
-static uint64_t seek(side *s, uint64_t key, uint64_t now) { return told(s, rd_seek(&s->of.cache, key, now, &s->answer)); }
-static uint64_t drop(side *s, uint64_t key, uint64_t now) { return told(s, rd_drop_key(&s->of.cache, key, now, &s->answer)); }
-static uint64_t forget(side *s, uint64_t key, uint64_t now) { return told(s, rd_forget(&s->of.cache, key, now, &s->answer)); }
-static uint64_t clear(side *s, uint64_t now) { return told(s, rd_clear(&s->of.cache, now, &s->answer)); }
-static uint64_t clean(side *s, uint64_t now) { return told(s, rd_clean(&s->of.cache, now, &s->answer)); }
+static uint64_t close_side(side *s) { return rd_close(at(s)); }
+static uint64_t numbers_of(side *s, rd_numbers *n) { return rd_get_numbers(at(s), n); }
+static uint64_t look(side *s, uint64_t key, uint64_t now) { return told(s, rd_look(at(s), key, now, &s->answer)); }
+static uint64_t seek(side *s, uint64_t key, uint64_t now) { return told(s, rd_seek(at(s), key, now, &s->answer)); }
+static uint64_t drop(side *s, uint64_t key, uint64_t now) { return told(s, rd_drop_key(at(s), key, now, &s->answer)); }
+static uint64_t forget(side *s, uint64_t key, uint64_t now) { return told(s, rd_forget(at(s), key, now, &s->answer)); }
+static uint64_t clear(side *s, uint64_t now) { return told(s, rd_clear(at(s), now, &s->answer)); }
+static uint64_t clean(side *s, uint64_t now) { return told(s, rd_clean(at(s), now, &s->answer)); }
 
 static uint64_t put(side *s, uint64_t key, uint64_t token, uint32_t weight, uint64_t now) {
-	return told(s, rd_put(&s->of.cache, key, (rd_token){token, weight}, now, &s->answer));
+	return told(s, rd_put(at(s), key, (rd_token){token, weight}, now, &s->answer));
 }
 
+static void tell_hits(side *s) { at(s); }
+
 static uint64_t land_failed(side *s, uint64_t id, uint64_t key, uint64_t now) {
-	return told(s, rd_land_failed(&s->of.cache, id, key, now, &s->answer));
+	return told(s, rd_land_failed(at(s), id, key, now, &s->answer));
 }
 
 // Where memory is refused the value isn't stored, and the load is closed.
 static uint64_t land(side *s, uint64_t id, uint64_t key, uint64_t token, uint32_t weight, uint64_t now) {
-	uint64_t fault = rd_land_keep(&s->of.cache, id, key, (rd_token){token, weight}, now, &s->answer);
-	if (fault) fault = rd_land_loose(&s->of.cache, id, key, now, &s->answer);
+	uint64_t fault = rd_land_keep(at(s), id, key, (rd_token){token, weight}, now, &s->answer);
+	if (fault) fault = rd_land_loose(at(s), id, key, now, &s->answer);
 	return told(s, fault);
 }
 */
@@ -70,7 +83,17 @@ func wrongSetting(s Setup) string {
 func setupOf(s Setup) C.rd_setup {
 	return C.rd_setup{
 		entries: C.uint32_t(s.Entries), window: C.uint32_t(s.Window), flights: C.uint32_t(s.Flights), bound: C.uint64_t(s.Bound),
-		after_write: C.uint64_t(s.AfterWrite), after_access: C.uint64_t(s.AfterAccess), refresh: C.uint64_t(s.Refresh),
+		after_write: C.uint64_t(s.AfterWrite.Milliseconds()), after_access: C.uint64_t(s.AfterAccess.Milliseconds()),
+		refresh: C.uint64_t(s.Refresh.Milliseconds()),
+	}
+}
+
+// hit keeps a look-up of which the caller knows that it hits. There is no answer of it.
+func (l library) hit(key, now uint64) {
+	at := &l.side.hit[l.side.hits]
+	at.key, at.now = C.uint64_t(key), C.uint64_t(now)
+	if l.side.hits++; l.side.hits == C.HITS {
+		C.tell_hits(l.side)
 	}
 }
 

@@ -2,182 +2,139 @@ package rookdresser
 
 import (
 	"context"
-	"sync"
-	"sync/atomic"
 	"time"
 
 	"rookdresser/internal/goroutine"
 )
 
-// A leader is the goroutine that makes a load, and whether it still does.
-type leader struct {
-	goroutine uintptr
-	over      atomic.Bool
-}
-
 // A load is one that a goroutine makes and others may wait for.
-type load[V any] struct {
+type load[K comparable, V any] struct {
 	leader
+	shard           *shard[K, V]
 	id, number, now uint64
 	row             int32
 	done            chan struct{} // there is one once another goroutine has joined
 	value           V
+	weight          uint32
 	err             error
 }
 
-// Get returns the key's value; if there is none, that of load, which all who ask meanwhile share. load returns the value and its
-// weight. The value's age counts from now, the moment of this call, not from the end of the load.
-//
-// An entry that is due is loaded again by the first who asks, in its own goroutine: it is given the new value, or the old one if
-// that load fails. The others get the old value meanwhile. ctx limits how long another's load is waited for; it doesn't cut a
-// load off.
-func (c *Cache[K, V]) Get(ctx context.Context, key K, now uint64, load func() (V, uint32, error)) (v V, err error) {
-	hash := c.hash.of(key)
-	c.mu.Lock()
-	at, number := c.find(key, hash)
-	if err = c.made(c.lib.seek(number, now)); err != nil {
-		c.mu.Unlock()
-		return v, err
-	}
-	hit := c.lib.isHit()
-	c.stats.look(hit)
-	if hit {
-		v = c.table.slots[c.lib.token()].value
-	}
-	if c.lib.leads() {
-		return c.lead(c.begin(at, key, hash, number, now), v, hit, load)
-	}
-	if !hit {
-		return c.join(ctx, key, hash)
-	}
-	left := c.left()
-	c.mu.Unlock()
-	c.tell(left)
-	return v, nil
+// sought is what a seek found: a value, a load to make, with a value if it is a refresh, or a load to wait for.
+type sought[K comparable, V any] struct {
+	value      V
+	isHit      bool
+	lead, join *load[K, V]
+	left       []Left[K, V]
 }
 
-// begin opens the load that the latest answer told to make. The lock is held.
-func (c *Cache[K, V]) begin(at int32, key K, hash, number, now uint64) *load[V] {
-	if at == none {
-		at, number = c.table.find(key, hash)
+// Get returns the key's value; if there is none, that of fetch, which all who ask meanwhile share. fetch returns the value and its
+// weight. The value's age counts from the moment of this call, not from the end of the load.
+//
+// An entry that is due is loaded again by the first who asks, in its own goroutine: it is given the new value, or the old one if
+// that load fails. The others get the old value meanwhile.
+//
+// ctx limits how long another's load is waited for. fetch is given a context with the values of ctx that doesn't end with it, since
+// others may share the load; so a fetch that is to be cut off sets a time-out of its own.
+//
+// The error is fetch's, ctx's, ErrPanicked, ErrWaitsForItself, ErrNotLoaded, TooManyFlights, OutOfMemory or Closed.
+func (c *Cache[K, V]) Get(ctx context.Context, key K, fetch func(context.Context) (V, uint32, error)) (V, error) {
+	found, err := c.seek(key)
+	switch {
+	case found.lead != nil:
+		return c.lead(ctx, found, fetch)
+	case found.join != nil:
+		c.tell(found.left)
+		return found.join.wait(ctx)
 	}
-	at = c.table.hold(at, key, hash, number)
-	of := &load[V]{id: c.lib.number(), number: number, now: now, row: at, err: ErrPanicked}
+	c.tell(found.left)
+	return found.value, err
+}
+
+func (c *Cache[K, V]) seek(key K) (found sought[K, V], err error) {
+	s, hash, now := c.enter(key)
+	defer s.mu.Unlock()
+	at, number := s.table.find(key, hash)
+	if found.value, found.isHit = s.sureHit(at, number, now); found.isHit {
+		return found, nil
+	}
+	if err = s.made(s.lib.seek(number, now), now); err != nil {
+		return found, err
+	}
+	found.value, found.isHit = s.looked()
+	if s.lib.leads() {
+		found.lead = s.begin(at, key, hash, number, found.isHit)
+	} else if !found.isHit {
+		found.join = s.join(at)
+	}
+	found.left = s.left(c.listener != nil)
+	return found, nil
+}
+
+// begin opens the load that the latest answer told to make.
+func (s *shard[K, V]) begin(at int32, key K, hash, number uint64, isRefresh bool) *load[K, V] {
+	at = s.table.hold(at, key, hash, number)
+	of := &load[K, V]{shard: s, id: s.lib.number(), number: number, now: s.latest, row: at, err: ErrPanicked}
 	of.goroutine = goroutine.Current()
-	c.table.rows[at].load = of
+	s.table.rows[at].load = of
+	if isRefresh {
+		s.stats.Refreshes++
+	}
 	return of
 }
 
-// lead makes the load. The lock is held, and given back. What left by the seek is told once the load has landed, so that a
-// listener may ask for the key.
-func (c *Cache[K, V]) lead(of *load[V], old V, refresh bool, fetch func() (V, uint32, error)) (V, error) {
-	if refresh {
-		c.stats.Refreshes++
+// join returns the load of the row's key that another goroutine makes.
+func (s *shard[K, V]) join(at int32) *load[K, V] {
+	of := s.table.rows[at].load
+	if of.done == nil {
+		of.done = make(chan struct{})
 	}
-	left := c.left()
-	c.mu.Unlock()
-	var weight uint32
-	begun := time.Now()
-	defer func() { c.land(of, weight, time.Since(begun), left) }()
-	of.value, weight, of.err = fetch()
-	if refresh && of.err != nil {
-		return old, nil
+	s.stats.Joins++
+	return of
+}
+
+// lead makes the load. What left by the seek is told once the load has landed, so that a listener may ask for the key.
+func (c *Cache[K, V]) lead(ctx context.Context, found sought[K, V], fetch func(context.Context) (V, uint32, error)) (V, error) {
+	of, left, begun := found.lead, found.left, c.clock.elapsed()
+	defer func() { c.tell(append(left, of.land(c.clock.elapsed()-begun, c.listener != nil)...)) }()
+	of.value, of.weight, of.err = fetch(lasting{ctx})
+	if found.isHit && of.err != nil {
+		return found.value, nil
 	}
 	return of.value, of.err
 }
 
-// land closes a load, and then tells those who share it and the listener.
-func (c *Cache[K, V]) land(of *load[V], weight uint32, took time.Duration, left []Left[K, V]) {
-	c.mu.Lock()
-	if at := &c.table.rows[of.row]; at.load == of {
+// land closes a load, and returns what left. Then those who share it have its value.
+func (of *load[K, V]) land(took time.Duration, listens bool) []Left[K, V] {
+	s := of.shard
+	s.mu.Lock()
+	defer s.mu.Unlock()
+	if at := &s.table.rows[of.row]; at.load == of {
 		at.load = nil
 	}
-	c.stats.LoadTime += took
+	s.stats.LoadTime += took
 	if of.err != nil {
-		c.stats.Failed++
-		_ = c.lib.landFailed(of.id, of.number, of.now)
-		c.table.letGo(of.row)
+		s.stats.Failed++
+		_ = s.lib.landFailed(of.id, of.number, s.moment(of.now))
+		s.table.letGo(of.row)
 	} else {
-		c.stats.Loads++
-		c.store(of, weight)
+		s.stats.Loads++
+		s.store(of)
 	}
-	left = append(left, c.left()...)
-	c.mu.Unlock()
 	of.over.Store(true)
 	if of.done != nil {
 		close(of.done)
 	}
-	c.tell(left)
+	return s.left(listens)
 }
 
 // store lands a value. If it is stored, the load's use of the row becomes the entry's. In a closed cache there is no load to close.
-func (c *Cache[K, V]) store(of *load[V], weight uint32) {
-	token := c.table.keep(of.value)
-	if c.lib.land(of.id, of.number, token, weight, of.now) == 0 && c.lib.isStored() {
-		c.table.slots[token].row = of.row
+func (s *shard[K, V]) store(of *load[K, V]) {
+	token := s.table.keep(of.value)
+	if s.lib.land(of.id, of.number, token, of.weight, s.moment(of.now)) == 0 && s.lib.isStored() {
+		s.table.store(token, of.row, s.latest)
 		return
 	}
-	c.stats.Stale++
-	c.table.drop(token)
-	c.table.letGo(of.row)
-}
-
-// join waits for the load of the key that another goroutine makes. The lock is held, and given back.
-func (c *Cache[K, V]) join(ctx context.Context, key K, hash uint64) (V, error) {
-	at, _ := c.table.find(key, hash)
-	of := c.table.rows[at].load
-	if of.done == nil {
-		of.done = make(chan struct{})
-	}
-	c.stats.Joins++
-	left := c.left()
-	c.mu.Unlock()
-	c.tell(left)
-	return of.wait(ctx)
-}
-
-func (of *load[V]) wait(ctx context.Context) (v V, err error) {
-	select {
-	case <-of.done:
-		return of.value, of.err
-	default:
-	}
-	me := goroutine.Current()
-	if err := waits.begin(me, &of.leader); err != nil {
-		return v, err
-	}
-	defer waits.end(me)
-	select {
-	case <-of.done:
-		return of.value, of.err
-	case <-ctx.Done():
-		return v, ctx.Err()
-	}
-}
-
-// waits tells which goroutine waits for which. Only those that wait take its lock.
-var waits = waiting{of: map[uintptr]*leader{}}
-
-type waiting struct {
-	mu sync.Mutex
-	of map[uintptr]*leader
-}
-
-// begin follows who waits for whom. A circle of loads that aren't over would stay one for good.
-func (w *waiting) begin(me uintptr, of *leader) error {
-	w.mu.Lock()
-	defer w.mu.Unlock()
-	for at := of; at != nil && !at.over.Load(); at = w.of[at.goroutine] {
-		if at.goroutine == me {
-			return ErrWaitsForItself
-		}
-	}
-	w.of[me] = of
-	return nil
-}
-
-func (w *waiting) end(me uintptr) {
-	w.mu.Lock()
-	defer w.mu.Unlock()
-	delete(w.of, me)
+	s.stats.Stale++
+	s.table.drop(token)
+	s.table.letGo(of.row)
 }

@@ -1,210 +1,170 @@
-// Package rookdresser is the proved sequential cache of librookdresser, behind a sync.Mutex, for Go values under strings or
-// whole numbers.
+// Package rookdresser is the proved sequential cache of librookdresser, behind locks, for Go values under Go keys.
 // It is tested, not proved. CGO_CFLAGS and CGO_LDFLAGS name the header's folder and the library.
 package rookdresser
 
 import (
-	"fmt"
 	"hash/maphash"
-	"sync"
+	"math/bits"
 )
 
-// A Setup is what a cache is opened for: durations in milliseconds, 0 for never.
-type Setup struct {
-	Entries uint32 // how many the cache may hold: 1 to 65,536
-	Window  uint32 // how many of them the window may hold: 1 to Entries; 0 stands for a hundredth
-	Flights uint32 // how many loads may be open: 1 to 4,096; 0 stands for 1,024
-	Bound   uint64 // how much the entries may weigh together: 1 to 2^48; 0 stands for 2^48
-	// An entry expires so long after it was written, and so long after it was used.
-	AfterWrite, AfterAccess uint64
-	// An entry is due for a further load so long after it was written.
-	Refresh uint64
-	// Whether the library gets keys that are numbers under a random seed of the cache's own, too, as it gets all strings. Then
-	// nobody who chooses keys can aim at its tables.
-	Seeded bool
-}
-
-func (s Setup) withDefaults() Setup {
-	if s.Window == 0 {
-		if s.Window = s.Entries / 100; s.Window == 0 {
-			s.Window = 1
-		}
-	}
-	if s.Flights == 0 {
-		s.Flights = 1024
-	}
-	if s.Bound == 0 {
-		s.Bound = 1 << 48
-	}
-	return s
-}
-
-// Left is an entry that left.
-type Left[K Key, V any] struct {
-	Key   K
-	Value V
-	Cause Cause
-}
-
-// A Cache holds values of type V by keys of type K, for many goroutines. No code of the caller's runs while it holds its lock.
-type Cache[K Key, V any] struct {
-	mu       sync.Mutex
-	lib      library
+// A Cache holds values of type V by keys of type K, for many goroutines.
+//
+// A call with a key takes the lock of the key's shard for one step, expected O(1); the others take those of all shards, one after
+// the other, so that they aren't one step if there are several. No code of the caller's runs while a lock is held. A call that
+// returns a Fault has changed nothing in the shard that refused it.
+type Cache[K comparable, V any] struct {
+	shards   []*shard[K, V]
 	hash     hasher[K]
-	table    table[K, V]
-	stats    Stats
+	clock    clock
 	listener func(Left[K, V])
 }
 
-// Open returns an empty cache, or an error that is BadSetup and names the setting, or OutOfMemory. Close frees it.
+// Open returns an empty cache, or an error that is BadSetup and names the setting, or OutOfMemory, in this order. Close frees it;
+// the collector doesn't, as its memory is C's.
 func Open[K Key, V any](s Setup) (*Cache[K, V], error) {
-	s = s.withDefaults()
-	if wrong := wrongSetting(s); wrong != "" {
-		return nil, fmt.Errorf("%w: %s", BadSetup, wrong)
-	}
-	lib, fault := openLibrary(s)
-	if fault != 0 {
-		return nil, fault
-	}
-	return &Cache[K, V]{lib: lib, hash: hasherOf[K](s.Seeded, maphash.MakeSeed()), table: tableOf[K, V]()}, nil
+	return opened[K, V](s, hasherOfKind[K](s.Seeded))
 }
 
-// Listen has the function called for each entry that leaves, in the goroutine whose call made it leave, with no lock held and
-// after the load of that call has landed. It may use the cache. If it panics, it is called for the others all the same.
-// Listen is called before the cache is shared.
-func (c *Cache[K, V]) Listen(listener func(Left[K, V])) { c.listener = listener }
+// OpenHashed is Open for keys of any comparable type, with a hash of theirs: maphash.Comparable[K] of Go 1.24, or one of yours.
+//
+// Equal keys need equal hashes under one seed. Keys of one hash are told apart, slowly if they are many. The seed is the cache's
+// own, so that nobody who chooses keys can aim at the library's tables, if the hash makes use of it.
+func OpenHashed[K comparable, V any](s Setup, hash func(maphash.Seed, K) uint64) (*Cache[K, V], error) {
+	if hash == nil {
+		return nil, wrong("hash")
+	}
+	return opened[K, V](s, hasher[K]{own: hash, seed: maphash.MakeSeed()})
+}
+
+func opened[K comparable, V any](s Setup, hash hasher[K]) (*Cache[K, V], error) {
+	parts, err := s.parts()
+	if err != nil {
+		return nil, err
+	}
+	c := &Cache[K, V]{hash: hash, clock: clockOf(s)}
+	for _, part := range parts {
+		lib, fault := openLibrary(part)
+		if fault != 0 {
+			c.Close()
+			return nil, fault
+		}
+		c.shards = append(c.shards, shardOf[K, V](part, lib))
+	}
+	return c, nil
+}
+
+// of returns the key's shard and hash.
+func (c *Cache[K, V]) of(key K) (*shard[K, V], uint64) {
+	hash := c.hash.of(key)
+	if len(c.shards) == 1 {
+		return c.shards[0], hash
+	}
+	// Numbers that are close together are spread by the golden ratio.
+	i, _ := bits.Mul64(hash*0x9e3779b97f4a7c15, uint64(len(c.shards)))
+	return c.shards[i], hash
+}
 
 // Close frees the cache, and tells the listener of all that was there. Closing it again does nothing.
 func (c *Cache[K, V]) Close() {
-	c.mu.Lock()
-	_ = c.lib.clear(0)
-	left := c.left()
-	_ = c.lib.close()
-	c.mu.Unlock()
+	var left []Left[K, V]
+	for _, s := range c.shards {
+		left = append(left, s.close(c.listener != nil)...)
+	}
 	c.tell(left)
 }
 
-// Look returns the value under the key, if it is there, with no load.
-func (c *Cache[K, V]) Look(key K, now uint64) (v V, found bool, err error) {
-	hash := c.hash.of(key)
-	c.mu.Lock()
-	_, number := c.find(key, hash)
-	if err = c.made(c.lib.look(number, now)); err != nil {
-		c.mu.Unlock()
-		return v, false, err
+// Look returns the value under the key, if it is there, with no load. Finding it is a use. The error is Closed or OutOfMemory.
+func (c *Cache[K, V]) Look(key K) (v V, found bool, err error) {
+	s, hash, now := c.enter(key)
+	at, number := s.table.find(key, hash)
+	if v, found = s.sureHit(at, number, now); found {
+		s.mu.Unlock()
+		return v, true, nil
 	}
-	if found = c.lib.isHit(); found {
-		v = c.table.slots[c.lib.token()].value
+	if err = s.made(s.lib.look(number, now), now); err == nil {
+		v, found = s.looked()
 	}
-	c.stats.look(found)
-	left := c.left()
-	c.mu.Unlock()
-	c.tell(left)
-	return v, found, nil
+	return v, found, c.leave(s, err)
 }
 
-// Put stores the value under the key.
-func (c *Cache[K, V]) Put(key K, v V, weight uint32, now uint64) error {
-	hash := c.hash.of(key)
-	c.mu.Lock()
-	at, number := c.table.find(key, hash)
-	token := c.table.keep(v)
-	if err := c.made(c.lib.put(number, token, weight, now)); err != nil {
-		c.table.drop(token)
-		c.mu.Unlock()
-		return err
+// Contains tells whether Look would find the key. It counts as no look-up, and as no use of the entry. In a closed cache nothing is
+// found.
+func (c *Cache[K, V]) Contains(key K) bool {
+	s, hash, now := c.enter(key)
+	defer s.mu.Unlock()
+	at, _ := s.table.find(key, hash)
+	return s.isThere(at, now)
+}
+
+// Keys returns the keys that Look would find, in no order. O(entries).
+func (c *Cache[K, V]) Keys() (keys []K) {
+	now := c.clock.now()
+	for _, s := range c.shards {
+		keys = s.keys(keys, now)
 	}
-	c.table.slots[token].row = c.table.hold(at, key, hash, number)
-	left := c.left()
-	c.mu.Unlock()
-	c.tell(left)
-	return nil
+	return keys
 }
 
-// Drop takes the key's entry out, and tells whether there was one. A load of it that is open stores nothing.
-func (c *Cache[K, V]) Drop(key K, now uint64) (bool, error) {
-	hash := c.hash.of(key)
-	c.mu.Lock()
-	_, number := c.find(key, hash)
-	return c.done(c.lib.drop(number, now))
+// Put stores the value under the key, in place of one that is there. What leaves may be the new value itself, if others are used
+// more. The error is Closed, TooHeavy or OutOfMemory.
+func (c *Cache[K, V]) Put(key K, v V, weight uint32) error {
+	s, hash, now := c.enter(key)
+	return c.leave(s, s.put(key, hash, v, weight, now))
 }
 
-// Forget lets nobody further join an open load of the key, which stores nothing, and tells whether there was one.
-func (c *Cache[K, V]) Forget(key K, now uint64) (bool, error) {
-	hash := c.hash.of(key)
-	c.mu.Lock()
-	_, number := c.find(key, hash)
-	return c.done(c.lib.forget(number, now))
+// Drop takes the key's entry out, and tells whether there was one. A load of it that is open stores nothing. The error is Closed.
+func (c *Cache[K, V]) Drop(key K) (bool, error) {
+	s, hash, now := c.enter(key)
+	_, number := s.table.find(key, hash)
+	err := s.made(s.lib.drop(number, now), now)
+	there := err == nil && s.lib.number() == 1
+	return there, c.leave(s, err)
 }
 
-// Clear takes every entry out. The open loads store nothing.
-func (c *Cache[K, V]) Clear(now uint64) error {
-	c.mu.Lock()
-	_, err := c.done(c.lib.clear(now))
-	return err
+// Forget lets nobody further join an open load of the key, which stores nothing, and tells whether there was one. The error is
+// Closed.
+func (c *Cache[K, V]) Forget(key K) (bool, error) {
+	s, hash, now := c.enter(key)
+	_, number := s.table.find(key, hash)
+	err := s.made(s.lib.forget(number, now), now)
+	there := err == nil && s.lib.number() == 1
+	return there, c.leave(s, err)
 }
 
-// Clean takes every expired entry out.
-func (c *Cache[K, V]) Clean(now uint64) error {
-	c.mu.Lock()
-	_, err := c.done(c.lib.clean(now))
-	return err
-}
+// Clear takes every entry out. The open loads store nothing. O(entries). The error is Closed.
+func (c *Cache[K, V]) Clear() error { return c.sweep(library.clear) }
 
-// done ends a call whose answer is one number, and gives the lock back.
-func (c *Cache[K, V]) done(fault Fault) (bool, error) {
-	err := c.made(fault)
-	there, left := err == nil && c.lib.number() == 1, c.left()
-	c.mu.Unlock()
-	c.tell(left)
-	return there, err
-}
+// Clean takes every expired entry out. O(entries). The error is Closed.
+func (c *Cache[K, V]) Clean() error { return c.sweep(library.clean) }
 
-// Below the lock is held, but in tell.
-
-// find returns the key's row, or none, and its number. The number of a plain key is known without its row.
-func (c *Cache[K, V]) find(key K, hash uint64) (at int32, number uint64) {
-	if c.hash.isPlain {
-		return none, hash
-	}
-	return c.table.find(key, hash)
-}
-
-// made counts a refusal.
-func (c *Cache[K, V]) made(fault Fault) error {
-	if fault == 0 {
-		return nil
-	}
-	c.stats.refuse(fault)
-	return fault
-}
-
-// left takes out what the latest call told to have left.
-func (c *Cache[K, V]) left() (left []Left[K, V]) {
-	for i, n := uint64(0), c.lib.notices(); i < n; i++ {
-		token, cause := c.lib.notice(i)
-		value, at := c.table.drop(token)
-		c.stats.leave(cause)
-		if c.listener != nil {
-			left = append(left, Left[K, V]{c.table.rows[at].key, value, cause})
+func (c *Cache[K, V]) sweep(call func(library, uint64) Fault) (err error) {
+	now := c.clock.now()
+	var left []Left[K, V]
+	for _, s := range c.shards {
+		s.mu.Lock()
+		now := s.moment(now)
+		if fault := s.made(call(s.lib, now), now); fault != nil {
+			err = fault
 		}
-		c.table.letGo(at)
+		left = append(left, s.left(c.listener != nil)...)
+		s.mu.Unlock()
 	}
-	return left
+	c.tell(left)
+	return err
 }
 
-// tell calls the listener for each. If it panics or ends its goroutine, the others are told first.
-func (c *Cache[K, V]) tell(left []Left[K, V]) {
-	for i := range left {
-		func() {
-			returned := false
-			defer func() {
-				if !returned {
-					c.tell(left[i+1:])
-				}
-			}()
-			c.listener(left[i])
-			returned = true
-		}()
-	}
+// enter takes the lock of the key's shard, and returns the key's hash and the moment. What may be the caller's is called before.
+func (c *Cache[K, V]) enter(key K) (s *shard[K, V], hash, now uint64) {
+	now = c.clock.now()
+	s, hash = c.of(key)
+	s.mu.Lock()
+	return s, hash, s.moment(now)
+}
+
+// leave gives the lock back, and then tells the listener what the call told to have left.
+func (c *Cache[K, V]) leave(s *shard[K, V], err error) error {
+	left := s.left(c.listener != nil)
+	s.mu.Unlock()
+	c.tell(left)
+	return err
 }

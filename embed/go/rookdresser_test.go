@@ -10,6 +10,7 @@ import (
 	"sync"
 	"sync/atomic"
 	"testing"
+	"time"
 )
 
 var setup = Setup{Entries: 100, Window: 1, Flights: 16, Bound: 1 << 40}
@@ -23,6 +24,18 @@ func together(goroutines int, work func(int)) {
 		go func(i int) { defer all.Done(); work(i) }(i)
 	}
 	all.Wait()
+}
+
+// A hand is a clock that a test sets, in milliseconds.
+type hand struct{ at atomic.Int64 }
+
+func (h *hand) now() time.Time { return time.UnixMilli(h.at.Load()) }
+
+// timed is the setup with a clock that begins at 0.
+func timed(s Setup) (Setup, *hand) {
+	h := new(hand)
+	s.Clock = h.now
+	return s, h
 }
 
 func open(t *testing.T, s Setup) *Cache[uint64, string] { return openOf[uint64](t, s) }
@@ -52,10 +65,10 @@ func holdsExactly[K Key](t *testing.T, c *Cache[K, string], keyOf func(uint64) K
 	together(4, func(n int) {
 		for i := uint64(0); i < 20000; i++ {
 			key := keyOf((i*2654435761 + uint64(n)*40503) >> 7 % 300)
-			if v, found, err := c.Look(key, i); err != nil || found && v != fmt.Sprint("v", key) {
+			if v, found, err := c.Look(key); err != nil || found && v != fmt.Sprint("v", key) {
 				t.Error(v, err)
 			} else if !found {
-				if err := c.Put(key, fmt.Sprint("v", key), 1, i); err != nil {
+				if err := c.Put(key, fmt.Sprint("v", key), 1); err != nil {
 					t.Error(err)
 				}
 			}
@@ -67,7 +80,7 @@ func holdsExactly[K Key](t *testing.T, c *Cache[K, string], keyOf func(uint64) K
 }
 
 // holds has the values and the keys that are kept compared with the entries of the library.
-func holds[K Key, V any](t *testing.T, c *Cache[K, V]) Numbers {
+func holds[K comparable, V any](t *testing.T, c *Cache[K, V]) Numbers {
 	t.Helper()
 	n, err := c.Numbers()
 	values, keys := c.Kept()
@@ -92,16 +105,16 @@ func TestKeysAreOfAnyKindOfStringOrWholeNumber(t *testing.T) {
 	}
 	defer small.Close()
 	for i := -3; i < 3; i++ {
-		if err := text.Put(page(fmt.Sprint("a page of a name longer than 24 bytes ", i)), i, 1, 0); err != nil {
+		if err := text.Put(page(fmt.Sprint("a page of a name longer than 24 bytes ", i)), i, 1); err != nil {
 			t.Fatal(err)
 		}
-		if err := small.Put(place(i), i, 1, 0); err != nil {
+		if err := small.Put(place(i), i, 1); err != nil {
 			t.Fatal(err)
 		}
 	}
 	for i := -3; i < 3; i++ {
-		v, found, _ := text.Look(page(fmt.Sprint("a page of a name longer than 24 bytes ", i)), 0)
-		w, there, _ := small.Look(place(i), 0)
+		v, found, _ := text.Look(page(fmt.Sprint("a page of a name longer than 24 bytes ", i)))
+		w, there, _ := small.Look(place(i))
 		if v != i || !found || w != i || !there {
 			t.Fatal(i, v, found, w, there)
 		}
@@ -165,7 +178,7 @@ func TestAKeyIsLoadedOnceForAllWhoAsk(t *testing.T) {
 func loadsOnce[K Key](t *testing.T, c *Cache[K, string], key K) {
 	var made int32
 	together(64, func(int) {
-		v, err := c.Get(ctx, key, 0, func() (string, uint32, error) {
+		v, err := c.Get(ctx, key, func(context.Context) (string, uint32, error) {
 			atomic.AddInt32(&made, 1)
 			waitForJoins(c, 63)
 			return "seven", 1, nil
@@ -180,8 +193,50 @@ func loadsOnce[K Key](t *testing.T, c *Cache[K, string], key K) {
 }
 
 // waitForJoins returns once so many goroutines wait for a load of another.
-func waitForJoins[K Key, V any](c *Cache[K, V], joins uint64) {
+func waitForJoins[K comparable, V any](c *Cache[K, V], joins uint64) {
 	for c.Stats().Joins < joins {
 		runtime.Gosched()
+	}
+}
+
+func TestCausesAndFaultsAreSentences(t *testing.T) {
+	if Expired.String() != "Expired" || Cause(9).String() != "Cause(9)" {
+		t.Fatal(Expired.String(), Cause(9).String())
+	}
+	for _, fault := range []Fault{OutOfMemory, BadSetup, TooHeavy, TooManyFlights, StepsSpent, Closed} {
+		if len(fault.Error()) < len("rookdresser: out of memory") || fault.Error()[:13] != "rookdresser: " {
+			t.Fatal(fault.Error())
+		}
+	}
+}
+
+func TestAHitAllocatesNothing(t *testing.T) {
+	hitsAllocateNothing(t, open(t, setup), 7)
+	hitsAllocateNothing(t, open(t, Setup{Entries: 100, Seeded: true}), 7)
+	hitsAllocateNothing(t, openOf[string](t, setup), "a page")
+}
+
+func hitsAllocateNothing[K Key](t *testing.T, c *Cache[K, string], key K) {
+	if err := c.Put(key, "held", 1); err != nil {
+		t.Fatal(err)
+	}
+	load := got("loaded")
+	gets := testing.AllocsPerRun(1000, func() { _, _ = c.Get(ctx, key, load) })
+	looks := testing.AllocsPerRun(1000, func() { _, _, _ = c.Look(key) })
+	if gets != 0 || looks != 0 {
+		t.Fatal(gets, looks)
+	}
+}
+
+func BenchmarkHit(b *testing.B) {
+	c, err := Open[string, string](setup)
+	if err != nil {
+		b.Fatal(err)
+	}
+	defer c.Close()
+	load := got("loaded")
+	b.ReportAllocs()
+	for i := 0; i < b.N; i++ {
+		_, _ = c.Get(ctx, "a page", load)
 	}
 }

@@ -2,7 +2,7 @@ package rookdresser
 
 import "time"
 
-// Numbers are those of the library.
+// Numbers are those of the library. Latest is in milliseconds since the cache was opened.
 type Numbers struct {
 	Lookups, Hits, Misses, Loads, Failed, Evicted, Entries, Weight, Step, Latest, Flights uint64
 }
@@ -17,14 +17,6 @@ type Stats struct {
 	Stale                             uint64 // values that were loaded and not stored
 	Explicit, Replaced, Expired, Size uint64 // entries that left, by their cause
 	Refused                           map[Fault]uint64
-}
-
-func (s *Stats) look(hit bool) {
-	if hit {
-		s.Hits++
-	} else {
-		s.Misses++
-	}
 }
 
 func (s *Stats) refuse(f Fault) {
@@ -47,32 +39,72 @@ func (s *Stats) leave(cause Cause) {
 	}
 }
 
-// Stats returns what this side counted.
+// Stats returns what this side counted, of all shards together.
 func (c *Cache[K, V]) Stats() Stats {
-	c.mu.Lock()
-	defer c.mu.Unlock()
-	s := c.stats
-	s.Refused = make(map[Fault]uint64, len(c.stats.Refused))
-	for fault, count := range c.stats.Refused {
-		s.Refused[fault] = count
+	sum := Stats{Refused: map[Fault]uint64{}}
+	for _, s := range c.shards {
+		s.mu.Lock()
+		sum.add(&s.stats)
+		s.mu.Unlock()
 	}
-	return s
+	return sum
 }
 
-// Numbers returns the numbers of the library.
-func (c *Cache[K, V]) Numbers() (Numbers, error) {
-	c.mu.Lock()
-	defer c.mu.Unlock()
-	n, fault := c.lib.numbers()
-	if fault != 0 {
-		return Numbers{}, fault
+func (s *Stats) add(other *Stats) {
+	s.Hits += other.Hits
+	s.Misses += other.Misses
+	s.Joins += other.Joins
+	s.Loads += other.Loads
+	s.Failed += other.Failed
+	s.Refreshes += other.Refreshes
+	s.LoadTime += other.LoadTime
+	s.Stale += other.Stale
+	s.Explicit += other.Explicit
+	s.Replaced += other.Replaced
+	s.Expired += other.Expired
+	s.Size += other.Size
+	for fault, count := range other.Refused {
+		s.Refused[fault] += count
 	}
-	return n, nil
+}
+
+// Numbers returns the numbers of the library, of all shards together, or the error Closed.
+func (c *Cache[K, V]) Numbers() (sum Numbers, err error) {
+	for _, s := range c.shards {
+		s.mu.Lock()
+		n, fault := s.lib.numbers()
+		s.mu.Unlock()
+		if fault != 0 {
+			return Numbers{}, fault
+		}
+		sum.add(n)
+	}
+	return sum, nil
+}
+
+func (n *Numbers) add(other Numbers) {
+	n.Lookups += other.Lookups
+	n.Hits += other.Hits
+	n.Misses += other.Misses
+	n.Loads += other.Loads
+	n.Failed += other.Failed
+	n.Evicted += other.Evicted
+	n.Entries += other.Entries
+	n.Weight += other.Weight
+	n.Step += other.Step
+	n.Flights += other.Flights
+	if other.Latest > n.Latest {
+		n.Latest = other.Latest
+	}
 }
 
 // Kept returns how many values and keys this side keeps. While no load is open, both are Numbers().Entries.
 func (c *Cache[K, V]) Kept() (values, keys int) {
-	c.mu.Lock()
-	defer c.mu.Unlock()
-	return c.table.kept()
+	for _, s := range c.shards {
+		s.mu.Lock()
+		v, k := s.table.kept()
+		s.mu.Unlock()
+		values, keys = values+v, keys+k
+	}
+	return values, keys
 }

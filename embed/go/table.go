@@ -9,13 +9,15 @@ type row[K comparable, V any] struct {
 	hash, number uint64
 	uses         uint32 // one for its entry, and one for each load of it
 	next         int32  // the next row of the same hash, or none
-	load         *load[V]
+	slot         int32  // that of its entry, or none
+	load         *load[K, V]
 }
 
 // A slot is a value that the library holds or is handed. Its place is the token.
 type slot[V any] struct {
-	value V
-	row   int32
+	value         V
+	row           int32
+	written, used uint64 // as the library has them
 }
 
 // A table keeps the keys and the values of one cache of the library.
@@ -46,18 +48,15 @@ func (t *table[K, V]) find(key K, hash uint64) (at int32, number uint64) {
 			return at, t.rows[at].number
 		}
 	}
-	for number = hash; t.isTaken(number); {
+	for number = hash; there || t.isMoved(number); _, there = t.first[number] {
 		number++
 	}
 	return none, number
 }
 
-func (t *table[K, V]) isTaken(number uint64) bool {
-	if _, moved := t.moved[number]; moved {
-		return true
-	}
-	_, there := t.first[number]
-	return there
+func (t *table[K, V]) isMoved(number uint64) bool {
+	_, moved := t.moved[number]
+	return moved
 }
 
 // hold returns the place of the key's row, which has one use more. find returned at and number.
@@ -72,7 +71,7 @@ func (t *table[K, V]) hold(at int32, key K, hash, number uint64) int32 {
 		if !there {
 			next = none
 		}
-		t.rows[at] = row[K, V]{key: key, hash: hash, number: number, next: next}
+		t.rows[at] = row[K, V]{key: key, hash: hash, number: number, next: next, slot: none}
 		t.first[hash] = at
 		if number != hash {
 			t.moved[number] = struct{}{}
@@ -92,7 +91,7 @@ func (t *table[K, V]) letGo(at int32) {
 	if r.number != r.hash {
 		delete(t.moved, r.number)
 	}
-	*r = row[K, V]{}
+	*r = row[K, V]{slot: none}
 	t.freeRows = append(t.freeRows, at)
 }
 
@@ -111,20 +110,30 @@ func (t *table[K, V]) unlink(at int32) {
 	}
 }
 
-// keep returns a token for the value, whose row is told by stored once the library has it.
+// keep returns a token for a value that isn't stored yet.
 func (t *table[K, V]) keep(value V) (token uint64) {
 	if last := len(t.freeSlots) - 1; last >= 0 {
 		token, t.freeSlots = t.freeSlots[last], t.freeSlots[:last]
 	} else {
 		token, t.slots = uint64(len(t.slots)), append(t.slots, slot[V]{})
 	}
-	t.slots[token] = slot[V]{value, none}
+	t.slots[token] = slot[V]{value: value, row: none}
 	return token
+}
+
+// store makes the value that of the row, whose use the entry has from now on.
+func (t *table[K, V]) store(token uint64, at int32, now uint64) {
+	of := &t.slots[token]
+	of.row, of.written, of.used = at, now, now
+	t.rows[at].slot = int32(token)
 }
 
 // drop gives the token up, and returns its value and its row.
 func (t *table[K, V]) drop(token uint64) (V, int32) {
 	was := t.slots[token]
+	if was.row != none && t.rows[was.row].slot == int32(token) {
+		t.rows[was.row].slot = none
+	}
 	t.slots[token] = slot[V]{}
 	t.freeSlots = append(t.freeSlots, token)
 	return was.value, was.row

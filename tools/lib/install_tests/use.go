@@ -4,8 +4,10 @@ package main
 import (
 	"context"
 	"fmt"
+	"log"
 	"sync"
 	"sync/atomic"
+	"time"
 
 	"rookdresser"
 )
@@ -16,7 +18,7 @@ func fetch(ctx context.Context, url string) (Page, error) {
 	return Page{"the text of " + url}, ctx.Err()
 }
 
-func lines(ctx context.Context, url string, nowMs uint64) (Page, error) {
+func lines(ctx context.Context, url string) (Page, error) {
 	// README
 	return page, err
 }
@@ -34,7 +36,7 @@ func eightThreads() error {
 		go func() {
 			defer all.Done()
 			for n := uint64(0); n < 10_000; n++ {
-				got, err := c.Get(context.Background(), n%100, 0, func() (uint64, uint32, error) { return n%100 + 1, 1, nil })
+				got, err := c.Get(context.Background(), n%100, func(context.Context) (uint64, uint32, error) { return n%100 + 1, 1, nil })
 				if err != nil || got != n%100+1 {
 					atomic.AddUint64(&wrong, 1)
 				}
@@ -48,7 +50,7 @@ func eightThreads() error {
 }
 
 func main() {
-	page, err := lines(context.Background(), "a page", 0)
+	page, err := lines(context.Background(), "a page")
 	if err == nil {
 		fmt.Println(page.text)
 		err = eightThreads()

@@ -1,0 +1,110 @@
+package rookdresser
+
+import (
+	"context"
+	"errors"
+)
+
+// A Weighed is a value with its weight.
+type Weighed[V any] struct {
+	Value  V
+	Weight uint32
+}
+
+// GetMany returns the values of several keys. Those that are absent or due, and that nobody else loads, go to one call of fetch, or
+// to several if they are more than the loads that may be open; all who ask meanwhile share them. Then it waits for those that
+// others load.
+//
+// A key for which fetch returns no value isn't in the map, and its entry stays if it was due; others who wait for it get
+// ErrNotLoaded. With an error, the first of those of Get, the map has what was found all the same. ctx is as in Get.
+func (c *Cache[K, V]) GetMany(ctx context.Context, keys []K, fetch func(context.Context, []K) (map[K]Weighed[V], error)) (map[K]V, error) {
+	found := make(map[K]V, len(keys))
+	var joined []join[K, V]
+	var first error
+	for len(keys) > 0 && first == nil {
+		var b batch[K, V]
+		keys, first = c.begin(&b, keys, found)
+		joined = append(joined, b.joined...)
+		if err := c.leadMany(ctx, &b, found, fetch); first == nil {
+			first = err
+		}
+	}
+	for _, j := range joined {
+		v, err := j.load.wait(ctx)
+		if err == nil {
+			found[j.key] = v
+		} else if first == nil && !errors.Is(err, ErrNotLoaded) {
+			first = err
+		}
+	}
+	return found, first
+}
+
+type join[K comparable, V any] struct {
+	key  K
+	load *load[K, V]
+}
+
+// A batch is what one call of fetch loads, with what left as it was begun, and what others load.
+type batch[K comparable, V any] struct {
+	absent []K
+	leads  []*load[K, V]
+	left   []Left[K, V]
+	joined []join[K, V]
+}
+
+// begin seeks the keys, up to one that finds too many loads open if the batch has some, and returns the rest of them.
+func (c *Cache[K, V]) begin(b *batch[K, V], keys []K, found map[K]V) ([]K, error) {
+	for i, key := range keys {
+		at, err := c.seek(key)
+		if errors.Is(err, TooManyFlights) && len(b.leads) > 0 {
+			return keys[i:], nil
+		} else if err != nil {
+			return nil, err
+		}
+		b.left = append(b.left, at.left...)
+		if at.isHit {
+			found[key] = at.value
+		}
+		if at.lead != nil {
+			b.absent, b.leads = append(b.absent, key), append(b.leads, at.lead)
+		} else if at.join != nil {
+			b.joined = append(b.joined, join[K, V]{key, at.join})
+		}
+	}
+	return nil, nil
+}
+
+// leadMany makes the loads of a batch. Their time is counted once.
+func (c *Cache[K, V]) leadMany(ctx context.Context, b *batch[K, V], found map[K]V, fetch func(context.Context, []K) (map[K]Weighed[V], error)) (err error) {
+	if len(b.leads) == 0 {
+		c.tell(b.left)
+		return nil
+	}
+	begun := c.clock.elapsed()
+	defer func() {
+		took := c.clock.elapsed() - begun
+		for _, of := range b.leads {
+			b.left = append(b.left, of.land(took, c.listener != nil)...)
+			took = 0
+		}
+		c.tell(b.left)
+	}()
+	fetched, failed := fetch(lasting{ctx}, append([]K(nil), b.absent...))
+	for i, of := range b.leads {
+		key := b.absent[i]
+		got, there := fetched[key]
+		if failed != nil {
+			of.err = failed
+			if _, old := found[key]; !old {
+				err = failed
+			}
+		} else if there {
+			of.value, of.weight, of.err = got.Value, got.Weight, nil
+			found[key] = got.Value
+		} else {
+			of.err = ErrNotLoaded
+		}
+	}
+	return err
+}

@@ -1,0 +1,44 @@
+package rookdresser
+
+import (
+	"testing"
+
+	"rookdresser/internal/refusing"
+)
+
+// Of each call the first, the second or the third allocation is refused, if there are so many. Then the call is refused, or a value
+// that was loaded is returned and not stored, or a hit is no use; and the cache is whole.
+func TestRefusedMemoryKeepsTheCacheWhole(t *testing.T) {
+	c := open(t, Setup{Entries: 200, Flights: 16})
+	var refused, stale, puts uint64
+	for i := 0; i < 3000; i++ {
+		key, before := uint64(i*7919)%600, c.Stats()
+		was := refusing.After(i%3, func() {
+			switch i % 4 {
+			case 0:
+				if err := c.Put(key, "put", 1); err == OutOfMemory {
+					puts++
+				} else if err != nil {
+					t.Fatal(err)
+				}
+			case 1:
+				_, _, _ = c.Look(key)
+			default:
+				if v, err := c.Get(ctx, key, got("loaded")); v == "" && err != OutOfMemory || v != "" && err != nil {
+					t.Fatal(v, err)
+				}
+			}
+		})
+		after := c.Stats()
+		refused += after.Refused[OutOfMemory] - before.Refused[OutOfMemory]
+		stale += after.Stale - before.Stale
+		if !was && (after.Stale != before.Stale || after.Refused[OutOfMemory] != before.Refused[OutOfMemory]) {
+			t.Fatal(i, before, after)
+		}
+		holds(t, c)
+	}
+	t.Log(refused, "calls refused,", stale, "values not stored")
+	if stale == 0 || puts == 0 {
+		t.Fatal(stale, puts)
+	}
+}

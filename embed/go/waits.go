@@ -1,0 +1,70 @@
+package rookdresser
+
+import (
+	"context"
+	"sync"
+	"sync/atomic"
+	"time"
+
+	"rookdresser/internal/goroutine"
+)
+
+// A leader is the goroutine that makes a load, and whether it still does.
+type leader struct {
+	goroutine uintptr
+	over      atomic.Bool
+}
+
+// wait returns what the load returned, once it is over. A channel is there, since this goroutine has joined.
+func (of *load[K, V]) wait(ctx context.Context) (v V, err error) {
+	select {
+	case <-of.done:
+		return of.value, of.err
+	default:
+	}
+	me := goroutine.Current()
+	if err := waits.begin(me, &of.leader); err != nil {
+		return v, err
+	}
+	defer waits.end(me)
+	select {
+	case <-of.done:
+		return of.value, of.err
+	case <-ctx.Done():
+		return v, ctx.Err()
+	}
+}
+
+// waits tells which goroutine waits for which. Only those that wait take its lock.
+var waits = waiting{of: map[uintptr]*leader{}}
+
+type waiting struct {
+	mu sync.Mutex
+	of map[uintptr]*leader
+}
+
+// begin follows who waits for whom. A circle of loads that aren't over would stay one for good.
+func (w *waiting) begin(me uintptr, of *leader) error {
+	w.mu.Lock()
+	defer w.mu.Unlock()
+	for at := of; at != nil && !at.over.Load(); at = w.of[at.goroutine] {
+		if at.goroutine == me {
+			return ErrWaitsForItself
+		}
+	}
+	w.of[me] = of
+	return nil
+}
+
+func (w *waiting) end(me uintptr) {
+	w.mu.Lock()
+	defer w.mu.Unlock()
+	delete(w.of, me)
+}
+
+// A lasting context has the values of another one, and doesn't end with it.
+type lasting struct{ context.Context }
+
+func (lasting) Deadline() (end time.Time, ok bool) { return time.Time{}, false }
+func (lasting) Done() <-chan struct{}              { return nil }
+func (lasting) Err() error                         { return nil }
