@@ -25,7 +25,7 @@
  *  - no call is made from a signal handler, nor in the forked child of a process with threads.
  *
  * Keys go to the tables as they are: whoever chooses them can choose ones that the library treats alike, and so make it
- * slow. Keys that strangers choose are made numbers under a secret seed before, as embed/c/seeded.h does.
+ * slow. Keys that strangers choose are made numbers under a secret seed before, as rookdresser_seeded.h does.
  */
 #ifndef ROOKDRESSER_H
 #define ROOKDRESSER_H

@@ -1,5 +1,5 @@
-/* The counts of stats.h: each after calls whose answers are known, and beside the numbers of the library. */
-#include "stats.h"
+/* The counts of rookdresser_stats.h: each after calls whose answers are known, and beside the numbers of the library. */
+#include "rookdresser_stats.h"
 #include <stdio.h>
 #include <stdlib.h>
 #define CHECK(x)                                                                                             \

@@ -1,5 +1,6 @@
-// The header from C++: a cache of numbers and one of names.
-#include "stats.h"
+// The headers from C++: a cache of numbers and one of names, and a loading one.
+#include "rookdresser_loading.h"
+#include "rookdresser_seeded.h"
 #include <cstdio>
 
 int main() {
@@ -17,6 +18,14 @@ int main() {
     ok = ok && rd_put_name(&names, &alice, rd_token{8, 2}, 0, &a) == RD_OK && a.kind == RD_STORED;
     ok = ok && rd_look_name(&names, &alice, 0, &a) == RD_OK && a.kind == RD_HIT && a.token == 8;
     ok = ok && rd_close(&cache) == RD_OK && rd_close(&names) == RD_OK;
+    rd_loading loading = RD_LOADING_INIT;
+    rd_shared *got;
+    const uint64_t seed[2] = {1, 2};
+    ok = ok && rd_loading_open(&loading, &setup, [](rd_shared *value) { delete value; }) == RD_OK;
+    ok = ok && rd_loading_put(&loading, rd_seeded(seed, "alice", 5), new rd_shared(), 1, 0) == RD_OK;
+    ok = ok && rd_loading_look(&loading, rd_seeded(seed, "alice", 5), 0, &got) == RD_OK && got;
+    rd_loading_release(&loading, got);
+    ok = ok && rd_loading_close(&loading) == RD_OK;
     std::puts(ok ? "from C++: ok" : "from C++: wrong");
     return ok ? 0 : 1;
 }

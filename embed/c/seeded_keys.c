@@ -1,6 +1,6 @@
-/* seeded.h against the vectors that the authors of SipHash gave: seed 00 01 .. 0f, and the texts "", 00, 00 01, .. */
+/* rookdresser_seeded.h against the vectors that the authors of SipHash gave: seed 00 01 .. 0f, and the texts "", 00, 00 01, .. */
 #include "rookdresser.h"
-#include "seeded.h"
+#include "rookdresser_seeded.h"
 #include <stdio.h>
 #define CHECK(x)                                                                                             \
     do {                                                                                                     \

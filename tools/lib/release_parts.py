@@ -54,7 +54,7 @@ def for_system(built, needs):
     """The program, the libraries for C, the tools that need Python alone, and the pages."""
     library, soname = built.library, built.soname
     tools = ["tools/" + name for name in PYTHON_TOOLS]
-    pages = tracked("README.md", "CHANGELOG.md", "CONTRIBUTING.md", "docs", "embed/*.md", "embed/c/*.h", ":!embed/c/keys.h", "traces",
+    pages = tracked("README.md", "CHANGELOG.md", "CONTRIBUTING.md", "docs", "embed/*.md", "traces",
                     "tools/README.md", "bench/README.md")
     entries = {
         "INSTALL.md": entry("docs/INSTALL.md"),
@@ -64,7 +64,7 @@ def for_system(built, needs):
         "lib/" + soname: Entry((library / soname).read_bytes(), runs=True),
         "lib/librookdresser.so": Entry(link=soname),
         "lib/pkgconfig/rookdresser.pc": pkg_config((library / "rookdresser.pc").read_text()),
-        "include/rookdresser.h": Entry((library / "rookdresser.h").read_bytes()),
+        **{"include/" + header.name: Entry(header.read_bytes()) for header in library.glob("*.h")},
         "share/man/man1/wt_replay.1": entry("docs/wt_replay.1"),
         "share/bash-completion/completions/wt_replay": entry("tools/completions/wt_replay.bash"),
         "share/zsh/site-functions/_wt_replay": entry("tools/completions/_wt_replay"),

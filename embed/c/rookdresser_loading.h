@@ -1,0 +1,306 @@
+/* A loading cache for threads: a cache of rookdresser.h behind a lock, with one load for all who ask for a key meanwhile.
+ *
+ *     typedef struct page { rd_shared shared; char text[100]; } page;     a value begins with its count of shares
+ *     rd_loading pages = RD_LOADING_INIT;
+ *     rd_loading_open(&pages, &setup, free_page);                         free_page(&page->shared) frees a page
+ *     rd_loading_get(&pages, key, now_ms, load_page, context, &shared);   the page, with a share of the caller's
+ *     rd_loading_release(&pages, shared);
+ *
+ * Keys are numbers; names, if ROOKDRESSER_LOADING_NAMES is defined before this header is included. A load and a destroy are called
+ * with no lock held, and may use the cache. Each call returns a fault of rd_fault, RD_OK if there is none, and rd_loading_get an
+ * error besides. After rd_loading_close all calls return RD_CLOSED. Takes no memory of its own. Written by hand, and tested with
+ * the address, undefined-behaviour and thread sanitizers, not proved. It needs pthreads and the __atomic functions of gcc or clang.
+ */
+#ifndef ROOKDRESSER_LOADING_H
+#define ROOKDRESSER_LOADING_H
+#include "rookdresser_stats.h"
+#include <pthread.h>
+
+#ifdef ROOKDRESSER_LOADING_NAMES
+typedef rd_name rd_loading_key;
+typedef rd_name_notice rd_loading_notice;
+#define RD_LOADING_OPEN rd_open_names
+#define RD_LOADING_NOTICE rd_get_notice_name
+#define RD_LOADING_CALL(call, cache, ...) call##_name(cache, __VA_ARGS__)
+#define RD_LOADING_DROP rd_drop_name
+#define RD_LOADING_KEY(key) (&(key))
+#else
+typedef uint64_t rd_loading_key;
+typedef rd_notice rd_loading_notice;
+#define RD_LOADING_OPEN rd_open
+#define RD_LOADING_NOTICE rd_get_notice
+#define RD_LOADING_CALL(call, cache, ...) call(cache, __VA_ARGS__)
+#define RD_LOADING_DROP rd_drop_key
+#define RD_LOADING_KEY(key) (key)
+#endif
+
+/* What a value begins with. The cache has a share of each value that it holds, and each caller of what it was given. */
+typedef struct rd_shared {
+    long shares;
+    struct rd_shared *next; /* the next of those that left the cache by one call */
+} rd_shared;
+
+enum { RD_WAITS_FOR_ITSELF = 1000, RD_LOADING_ERRORS = 1001 };
+
+/* Loads a key: RD_OK with a new value and its weight, or an error of the caller's from RD_LOADING_ERRORS on, with no value. It has
+ * to return: no longjmp and no cancellation. */
+typedef uint64_t rd_load(void *context, rd_loading_key key, rd_shared **value, uint32_t *weight);
+
+/* A load under way and a wait for one, on the stack of the thread that makes it or waits. */
+typedef struct rd_flight {
+    uint64_t id;
+    pthread_t thread;
+    bool is_over;     /* of a wait: then it has the value with a share, or the error */
+    rd_shared *value;
+    uint64_t error;
+    struct rd_flight *next;
+} rd_flight;
+
+typedef struct rd_loading {
+    pthread_mutex_t lock; /* of all that follows */
+    pthread_cond_t ended; /* some load has ended */
+    rd_cache cache;
+    rd_stats stats;
+    rd_flight *loads, *waits;
+    void (*destroy)(rd_shared *value);
+} rd_loading;
+#define RD_LOADING_INIT {PTHREAD_MUTEX_INITIALIZER, PTHREAD_COND_INITIALIZER, RD_CACHE_INIT, {{0}, {0}, {0}, 0}, 0, 0, 0}
+
+/* Opens an empty cache, as rd_open. destroy is called for each value once nobody has a share of it. */
+static inline uint64_t rd_loading_open(rd_loading *l, const rd_setup *setup, void (*destroy)(rd_shared *value)) {
+    pthread_mutex_lock(&l->lock);
+    uint64_t fault = RD_LOADING_OPEN(setup, &l->cache);
+    if (!fault) l->destroy = destroy;
+    pthread_mutex_unlock(&l->lock);
+    return fault;
+}
+
+/* One share more of a value of which the caller has one. */
+static inline rd_shared *rd_loading_share(rd_shared *value) {
+    if (value) __atomic_add_fetch(&value->shares, 1, __ATOMIC_RELAXED);
+    return value;
+}
+
+/* Gives up a share. Without a value it does nothing. */
+static inline void rd_loading_release(rd_loading *l, rd_shared *value) {
+    if (value && __atomic_sub_fetch(&value->shares, 1, __ATOMIC_ACQ_REL) == 0) l->destroy(value);
+}
+
+/* Counts a call. Returns its fault, with what left by it put before `left`. The lock is held. */
+static inline uint64_t rd_loading_made(rd_loading *l, uint64_t fault, const rd_answer *answer, rd_shared **left) {
+    rd_loading_notice notice;
+    if (rd_count(&l->stats, fault, answer)) return fault;
+    for (uint64_t i = 0; i < answer->notices; i++) {
+        RD_LOADING_NOTICE(&l->cache, i, &notice);
+        rd_count_left(&l->stats, notice.cause);
+        rd_shared *value = (rd_shared *)(uintptr_t)notice.token;
+        value->next = *left;
+        *left = value;
+    }
+    return fault;
+}
+
+/* Gives the lock back, and then gives up the cache's share of what left. */
+static inline void rd_loading_leave(rd_loading *l, rd_shared *left) {
+    pthread_mutex_unlock(&l->lock);
+    while (left) {
+        rd_shared *next = left->next;
+        rd_loading_release(l, left);
+        left = next;
+    }
+}
+
+static inline rd_token rd_loading_token(rd_shared *value, uint32_t weight) {
+    rd_token token = {(uint64_t)(uintptr_t)value, weight};
+    return token;
+}
+
+/* Stores a new value, of which the cache has the only share. If it is refused, it is destroyed. */
+static inline uint64_t rd_loading_put(rd_loading *l, rd_loading_key key, rd_shared *value, uint32_t weight, uint64_t now) {
+    rd_answer answer;
+    rd_shared *left = 0;
+    value->shares = 1;
+    pthread_mutex_lock(&l->lock);
+    uint64_t fault = RD_LOADING_CALL(rd_put, &l->cache, RD_LOADING_KEY(key), rd_loading_token(value, weight), now, &answer);
+    fault = rd_loading_made(l, fault, &answer, &left);
+    rd_loading_leave(l, left);
+    if (fault) rd_loading_release(l, value);
+    return fault;
+}
+
+/* The value under the key with a share of the caller's, or none, with no load. */
+static inline uint64_t rd_loading_look(rd_loading *l, rd_loading_key key, uint64_t now, rd_shared **value) {
+    rd_answer answer;
+    rd_shared *left = 0;
+    *value = 0;
+    pthread_mutex_lock(&l->lock);
+    uint64_t fault = RD_LOADING_CALL(rd_look, &l->cache, RD_LOADING_KEY(key), now, &answer);
+    if (!rd_loading_made(l, fault, &answer, &left) && answer.kind == RD_HIT)
+        *value = rd_loading_share((rd_shared *)(uintptr_t)answer.token);
+    rd_loading_leave(l, left);
+    return fault;
+}
+
+/* Whether the load waits for this thread: its own thread is it, or waits for a load of this cache that does. The lock is held. */
+static inline bool rd_loading_waits_for(const rd_loading *l, uint64_t id, pthread_t thread) {
+    for (;;) {
+        const rd_flight *at = l->loads, *wait = l->waits;
+        while (at && at->id != id) at = at->next;
+        if (!at) return false;
+        if (pthread_equal(at->thread, thread)) return true;
+        while (wait && !pthread_equal(wait->thread, at->thread)) wait = wait->next;
+        if (!wait) return false;
+        id = wait->id;
+    }
+}
+
+/* Waits for the load of this id, once the lock is given back for what left. The lock is held, and given back. */
+static inline uint64_t rd_loading_join(rd_loading *l, uint64_t id, rd_shared *left, rd_shared **value) {
+    rd_flight wait = {id, pthread_self(), false, 0, RD_OK, l->waits};
+    if (rd_loading_waits_for(l, id, wait.thread)) {
+        rd_loading_leave(l, left);
+        return RD_WAITS_FOR_ITSELF;
+    }
+    l->waits = &wait;
+    if (left) {
+        rd_loading_leave(l, left);
+        pthread_mutex_lock(&l->lock);
+    }
+    while (!wait.is_over) pthread_cond_wait(&l->ended, &l->lock);
+    pthread_mutex_unlock(&l->lock);
+    *value = wait.value;
+    return wait.error;
+}
+
+/* Ends a load, and hands its value or its error to those who wait for it. The lock is held. */
+static inline void rd_loading_end(rd_loading *l, const rd_flight *of) {
+    rd_flight **at = &l->loads;
+    while (*at != of) at = &(*at)->next;
+    *at = of->next;
+    for (at = &l->waits; *at;) {
+        rd_flight *wait = *at;
+        if (wait->id != of->id) {
+            at = &wait->next;
+            continue;
+        }
+        *at = wait->next;
+        wait->value = rd_loading_share(of->value);
+        wait->error = of->error;
+        wait->is_over = true;
+    }
+    pthread_cond_broadcast(&l->ended);
+}
+
+/* Closes a load. A value of which memory is refused isn't stored. The lock is held. */
+static inline void rd_loading_land(rd_loading *l, const rd_flight *of, rd_loading_key key, uint32_t weight, uint64_t now, rd_shared **left) {
+    rd_answer answer;
+    uint64_t fault;
+    if (of->error) {
+        fault = RD_LOADING_CALL(rd_land_failed, &l->cache, of->id, RD_LOADING_KEY(key), now, &answer);
+        rd_loading_made(l, fault, &answer, left);
+        return;
+    }
+    rd_loading_share(of->value);
+    fault = RD_LOADING_CALL(rd_land_keep, &l->cache, of->id, RD_LOADING_KEY(key), rd_loading_token(of->value, weight), now, &answer);
+    if (rd_loading_made(l, fault, &answer, left) == RD_OUT_OF_MEMORY) {
+        fault = RD_LOADING_CALL(rd_land_loose, &l->cache, of->id, RD_LOADING_KEY(key), now, &answer);
+        rd_loading_made(l, fault, &answer, left);
+    }
+    if (fault || answer.kind != RD_KEPT) rd_loading_release(l, of->value);
+}
+
+/* Makes a load. The lock is held, and given back. `old` is the value of an entry that was due, with a share, or none. */
+static inline uint64_t rd_loading_lead(rd_loading *l, uint64_t id, rd_loading_key key, uint64_t now, rd_load *load, void *context,
+                                       rd_shared *left, rd_shared *old, rd_shared **value) {
+    rd_flight of = {id, pthread_self(), false, 0, RD_OK, l->loads};
+    uint32_t weight = 1;
+    l->loads = &of;
+    pthread_mutex_unlock(&l->lock);
+    of.error = load(context, key, &of.value, &weight);
+    if (of.error)
+        of.value = 0;
+    else
+        of.value->shares = 1;
+    pthread_mutex_lock(&l->lock);
+    rd_loading_land(l, &of, key, weight, now, &left);
+    rd_loading_end(l, &of);
+    rd_loading_leave(l, left);
+    *value = of.error ? old : of.value;
+    if (of.error) return old ? (uint64_t)RD_OK : of.error;
+    rd_loading_release(l, old);
+    return RD_OK;
+}
+
+/* The key's value with a share of the caller's. If there is none, or it is due for a further load, this thread loads it, and all
+ * who ask meanwhile share the load; of an entry that is due they get the old value, and so does this thread if the load fails.
+ * RD_WAITS_FOR_ITSELF if it asks for its own load, or for one of this cache that waits for it in turn; an error of the load's. The
+ * value's age counts from now. With an error or a fault there is no value. */
+static inline uint64_t rd_loading_get(rd_loading *l, rd_loading_key key, uint64_t now, rd_load *load, void *context, rd_shared **value) {
+    rd_answer answer;
+    rd_shared *left = 0, *held = 0;
+    *value = 0;
+    pthread_mutex_lock(&l->lock);
+    uint64_t fault = RD_LOADING_CALL(rd_seek, &l->cache, RD_LOADING_KEY(key), now, &answer);
+    if (rd_loading_made(l, fault, &answer, &left)) {
+        rd_loading_leave(l, left);
+        return fault;
+    }
+    if (answer.kind == RD_JOIN) return rd_loading_join(l, answer.number, left, value);
+    if (answer.kind != RD_LEAD) held = rd_loading_share((rd_shared *)(uintptr_t)answer.token);
+    if (answer.kind != RD_HIT) return rd_loading_lead(l, answer.number, key, now, load, context, left, held, value);
+    rd_loading_leave(l, left);
+    *value = held;
+    return RD_OK;
+}
+
+/* Takes the key's entry out; a load of it that is open stores nothing. */
+static inline uint64_t rd_loading_drop(rd_loading *l, rd_loading_key key, uint64_t now) {
+    rd_answer answer;
+    rd_shared *left = 0;
+    pthread_mutex_lock(&l->lock);
+    uint64_t fault = rd_loading_made(l, RD_LOADING_DROP(&l->cache, RD_LOADING_KEY(key), now, &answer), &answer, &left);
+    rd_loading_leave(l, left);
+    return fault;
+}
+
+/* Lets nobody further join an open load of the key, which stores nothing. */
+static inline uint64_t rd_loading_forget(rd_loading *l, rd_loading_key key, uint64_t now) {
+    rd_answer answer;
+    rd_shared *left = 0;
+    pthread_mutex_lock(&l->lock);
+    uint64_t fault = RD_LOADING_CALL(rd_forget, &l->cache, RD_LOADING_KEY(key), now, &answer);
+    fault = rd_loading_made(l, fault, &answer, &left);
+    rd_loading_leave(l, left);
+    return fault;
+}
+
+static inline uint64_t rd_loading_sweep(rd_loading *l, uint64_t (*call)(rd_cache *, uint64_t, rd_answer *), uint64_t now, bool closes) {
+    rd_answer answer;
+    rd_shared *left = 0;
+    pthread_mutex_lock(&l->lock);
+    uint64_t fault = rd_loading_made(l, call(&l->cache, now, &answer), &answer, &left);
+    if (closes && !fault) fault = rd_close(&l->cache);
+    rd_loading_leave(l, left);
+    return fault;
+}
+
+/* Takes every entry out. The open loads store nothing. */
+static inline uint64_t rd_loading_clear(rd_loading *l, uint64_t now) { return rd_loading_sweep(l, rd_clear, now, false); }
+
+/* Takes every expired entry out. */
+static inline uint64_t rd_loading_clean(rd_loading *l, uint64_t now) { return rd_loading_sweep(l, rd_clean, now, false); }
+
+/* Closes the cache, which may be in use: what was there leaves, and values of loads that are open are returned and not stored. Once
+ * no thread is in a call of it, it may be opened again, and its memory may be given up. The counts go on. */
+static inline uint64_t rd_loading_close(rd_loading *l) { return rd_loading_sweep(l, rd_clear, 0, true); }
+
+/* The numbers of the library, and the counts of rookdresser_stats.h, at one moment. Either may be null. */
+static inline uint64_t rd_loading_numbers(rd_loading *l, rd_numbers *numbers, rd_stats *stats) {
+    uint64_t fault = RD_OK;
+    pthread_mutex_lock(&l->lock);
+    if (numbers) fault = rd_get_numbers(&l->cache, numbers);
+    if (stats) *stats = l->stats;
+    pthread_mutex_unlock(&l->lock);
+    return fault;
+}
+#endif
