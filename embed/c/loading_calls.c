@@ -35,7 +35,10 @@ static rd_shared *new_value(int number) {
     return &v->shared;
 }
 
+static void (*as_it_is_destroyed)(void);
+
 static void destroy(rd_shared *shared) {
+    if (as_it_is_destroyed) as_it_is_destroyed();
     pthread_mutex_lock(&counting);
     live--;
     pthread_mutex_unlock(&counting);
@@ -169,6 +172,17 @@ static void test_changes_during_a_load(void) {
     whole();
 }
 
+static void look_at_another(void) { CHECK(looked(11, 160) == 11); }
+
+static void test_a_destroy_that_uses_the_cache(void) {
+    CHECK(rd_loading_put(&l, 11, new_value(11), 1, 160) == RD_OK && rd_loading_put(&l, 12, new_value(12), 1, 160) == RD_OK);
+    CHECK(looked(11, 160) == 11);
+    as_it_is_destroyed = look_at_another;
+    CHECK(rd_loading_put(&l, 12, new_value(13), 1, 160) == RD_OK && rd_loading_drop(&l, 12, 160) == RD_OK);
+    as_it_is_destroyed = NULL;
+    whole();
+}
+
 /* Of 300 loads the first or the second allocation is refused: the get is, or else its value is returned and not stored. */
 static void test_refused_memory(void) {
     rd_stats before, after;
@@ -212,6 +226,7 @@ int main(void) {
     test_a_refresh();
     test_waits_for_itself();
     test_changes_during_a_load();
+    test_a_destroy_that_uses_the_cache();
     test_refused_memory();
     test_closing();
     CHECK(rd_loading_open(&l, &setup, destroy) == RD_OK && rd_loading_clear(&l, 0) == RD_OK && rd_loading_close(&l) == RD_OK);

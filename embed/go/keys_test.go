@@ -1,11 +1,13 @@
 package rookdresser
 
-// Keys of any comparable type, with a hash that is the caller's code; shards; settings.
+// Keys of any comparable type, with a hash that is the caller's code, and a clock that is.
 
 import (
 	"errors"
+	"fmt"
 	"hash/maphash"
 	"math"
+	"math/rand"
 	"runtime"
 	"testing"
 	"time"
@@ -65,38 +67,92 @@ func TestAKeyThatDoesNotEqualItselfIsNeverFoundAndLeavesNothing(t *testing.T) {
 	}
 }
 
-func TestAHashThatPanicsOrEndsItsGoroutineMovesNothing(t *testing.T) {
-	for _, end := range []func(){func() { panic("of the hash") }, runtime.Goexit} {
-		ends := false
-		c := openHashed(t, func(_ maphash.Seed, key int) uint64 {
-			if ends {
-				end()
-			}
-			return uint64(key)
-		})
+func TestAHashOrAClockThatPanicsOrEndsItsGoroutineMovesNothing(t *testing.T) {
+	ends := func() {}
+	hash := func(_ maphash.Seed, key int) uint64 { ends(); return uint64(key) }
+	still := func() time.Time { ends(); return time.UnixMilli(0) }
+	ofHash, err := OpenHashed[int, string](Setup{Entries: 10}, hash)
+	if err != nil {
+		t.Fatal(err)
+	}
+	defer ofHash.Close()
+	ofClock, err := Open[int, string](Setup{Entries: 10, AfterWrite: time.Hour, Clock: still})
+	if err != nil {
+		t.Fatal(err)
+	}
+	defer ofClock.Close()
+	for _, c := range []*Cache[int, string]{ofHash, ofClock} {
 		if err := c.Put(1, "one", 1); err != nil {
 			t.Fatal(err)
 		}
 		before, _ := c.Numbers()
-		ends = true
-		for _, call := range []func(){
-			func() { _, _, _ = c.Look(1) }, func() { _ = c.Put(1, "", 1) }, func() { _, _ = c.Get(ctx, 2, got("")) },
-			func() { _, _ = c.Drop(1) }, func() { _, _ = c.Forget(1) }, func() { _ = c.Contains(1) },
-		} {
-			ended := make(chan any)
-			go func() {
-				defer func() { ended <- recover() }()
-				call()
-				t.Error("its call has returned")
-			}()
-			if why := <-ended; why != nil && why != "of the hash" {
-				t.Fatal(why)
+		for _, end := range []func(){func() { panic("of the caller's") }, runtime.Goexit} {
+			ends = end
+			for _, call := range []func(){
+				func() { _, _, _ = c.Look(1) }, func() { _ = c.Put(1, "", 1) }, func() { _, _ = c.Get(ctx, 2, got("")) },
+				func() { _, _ = c.Drop(1) }, func() { _, _ = c.Forget(1) }, func() { _ = c.Contains(1) },
+			} {
+				ended := make(chan any)
+				go func() {
+					defer func() { ended <- recover() }()
+					call()
+					t.Error("its call has returned")
+				}()
+				if why := <-ended; why != nil && why != "of the caller's" {
+					t.Fatal(why)
+				}
 			}
 		}
-		ends = false
+		ends = func() {}
 		if after := holds(t, c); before != after {
 			t.Fatal(before, after)
 		}
+	}
+}
+
+func TestAHashThatPanicsAmongManyKeysLeavesNoLoadOpen(t *testing.T) {
+	c := openHashed(t, func(_ maphash.Seed, key int) uint64 {
+		if key == 3 {
+			panic("of the hash")
+		}
+		return uint64(key)
+	})
+	func() {
+		defer func() {
+			if recover() != "of the hash" {
+				t.Error("the panic is passed on")
+			}
+		}()
+		_, _ = c.GetMany(ctx, []int{1, 2, 3}, nil)
+	}()
+	if v, err := c.Get(ctx, 1, got("one")); v != "one" || err != nil {
+		t.Fatal(v, err)
+	}
+	holds(t, c)
+}
+
+func TestAHashThatContradictsItselfLeaksNothing(t *testing.T) {
+	random := rand.New(rand.NewSource(1))
+	c := openHashed(t, func(maphash.Seed, int) uint64 { return uint64(random.Intn(8)) })
+	for turn := 0; turn < 20_000; turn++ {
+		key, value := random.Intn(200), fmt.Sprint(turn)
+		switch random.Intn(4) {
+		case 0:
+			if err := c.Put(key, value, 1); err != nil {
+				t.Fatal(err)
+			}
+		case 1:
+			if _, err := c.Drop(key); err != nil {
+				t.Fatal(err)
+			}
+		default:
+			if _, err := c.Get(ctx, key, got(value)); err != nil {
+				t.Fatal(err)
+			}
+		}
+	}
+	if n := holds(t, c); n.Entries != 100 {
+		t.Fatal(n)
 	}
 }
 
@@ -137,85 +193,37 @@ func TestAHashAndAClockMayUseTheCacheAndBlockNoOtherCall(t *testing.T) {
 	holds(t, c)
 }
 
-func TestShardsHoldMoreThanOneCacheMayAndShareTheSettings(t *testing.T) {
-	c, err := Open[int, int](Setup{Entries: 100_001})
-	if err != nil {
-		t.Fatal(err)
+func TestAHashOrAClockThatClosesTheCacheHasTheCallRefused(t *testing.T) {
+	var closes func()
+	once := func() {
+		if closes != nil {
+			closes()
+		}
 	}
-	defer c.Close()
-	for i := 0; i < 150_000; i++ {
-		if err := c.Put(i, i, 1); err != nil {
+	for _, call := range []func(c *Cache[int, string]) error{
+		func(c *Cache[int, string]) error { return c.Put(2, "two", 1) },
+		func(c *Cache[int, string]) error { _, _, err := c.Look(1); return err },
+		func(c *Cache[int, string]) error { _, err := c.Get(ctx, 1, got("other")); return err },
+	} {
+		hash := func(_ maphash.Seed, key int) uint64 { once(); return uint64(key) }
+		ofHash, err := OpenHashed[int, string](Setup{Entries: 10}, hash)
+		if err != nil {
 			t.Fatal(err)
 		}
-	}
-	if n := holds(t, c); n.Entries != 100_001 || n.Step != 150_000 || n.Evicted != 49_999 || len(c.shards) != 2 || len(c.Keys()) != 100_001 {
-		t.Fatal(n, len(c.shards), len(c.Keys()))
-	}
-	parts, err := Setup{Entries: 10, Shards: 4, Window: 6, Bound: 9}.parts()
-	if err != nil {
-		t.Fatal(err)
-	}
-	wanted := [][3]uint64{{3, 2, 3}, {3, 2, 2}, {2, 1, 2}, {2, 1, 2}}
-	for i, p := range parts {
-		if got := [3]uint64{uint64(p.Entries), uint64(p.Window), p.Bound}; got != wanted[i] || p.Flights != 1024 {
-			t.Fatal(i, p)
+		ofClock, err := Open[int, string](Setup{Entries: 10, AfterWrite: time.Hour, Clock: func() time.Time { once(); return time.UnixMilli(0) }})
+		if err != nil {
+			t.Fatal(err)
 		}
-	}
-	if err := c.Clear(); err != nil {
-		t.Fatal(err)
-	}
-	if n := holds(t, c); n.Entries != 0 {
-		t.Fatal(n)
-	}
-}
-
-// Keys in a row, and keys a power of two apart: no shard has more than twice its part.
-func TestKeysAreSpreadOverTheShards(t *testing.T) {
-	for _, apart := range []uint64{1, 8, 1 << 12, 1 << 20} {
-		c := open(t, Setup{Entries: 80_000, Shards: 8})
-		for i := uint64(0); i < 8000; i++ {
-			if err := c.Put(i*apart, "", 1); err != nil {
+		for _, c := range []*Cache[int, string]{ofHash, ofClock} {
+			if err := c.Put(1, "one", 1); err != nil {
 				t.Fatal(err)
 			}
-		}
-		for i, s := range c.shards {
-			if _, keys := s.table.kept(); keys < 500 || keys > 2000 {
-				t.Fatal(apart, i, keys)
+			closes = c.Close
+			err := call(c)
+			closes = nil
+			if values, keys := c.Kept(); err != Closed || values != 0 || keys != 0 {
+				t.Fatal(err, values, keys)
 			}
 		}
-	}
-}
-
-func TestEachSettingOutOfItsRangeIsNamed(t *testing.T) {
-	for _, row := range []struct {
-		s    Setup
-		name string
-	}{
-		{Setup{}, "Entries"},
-		{Setup{Entries: 65_537, Shards: 1}, "Entries"},
-		{Setup{Entries: 3, Shards: 4}, "Shards"},
-		{Setup{Entries: 10_000, Shards: 4097}, "Shards"},
-		{Setup{Entries: 3, Window: 4}, "Window"},
-		{Setup{Entries: 3, Flights: 4097}, "Flights"},
-		{Setup{Entries: 3, Bound: 1<<48 + 1}, "Bound"},
-		{Setup{Entries: 3, Shards: 3, Bound: 2}, "Bound"},
-		{Setup{Entries: 3, AfterWrite: 60_000}, "AfterWrite"},
-		{Setup{Entries: 3, AfterAccess: -time.Second}, "AfterAccess"},
-		{Setup{Entries: 3, Refresh: time.Millisecond - 1}, "Refresh"},
-	} {
-		_, err := Open[uint64, string](row.s)
-		if !errors.Is(err, BadSetup) || err.Error() != "rookdresser: a setting is out of its range: "+row.name {
-			t.Fatal(row, err)
-		}
-	}
-	for _, s := range []Setup{
-		{Entries: 1, Window: 1, Flights: 1, Bound: 1, AfterWrite: time.Millisecond, AfterAccess: time.Millisecond, Refresh: time.Millisecond},
-		{Entries: 4096, Shards: 4096, Flights: 4096, Bound: 4096 << 48, AfterWrite: math.MaxInt64},
-	} {
-		c, err := Open[uint64, string](s)
-		if err != nil {
-			t.Fatal(s, err)
-		}
-		c.Close()
 	}
 }

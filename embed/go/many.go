@@ -17,17 +17,16 @@ type Weighed[V any] struct {
 //
 // A key for which fetch returns no value isn't in the map, and its entry stays if it was due; others who wait for it get
 // ErrNotLoaded. With an error, the first of those of Get, the map has what was found all the same. ctx is as in Get.
-func (c *Cache[K, V]) GetMany(ctx context.Context, keys []K, fetch func(context.Context, []K) (map[K]Weighed[V], error)) (map[K]V, error) {
+func (c *Cache[K, V]) GetMany(
+	ctx context.Context, keys []K, fetch func(context.Context, []K) (map[K]Weighed[V], error),
+) (map[K]V, error) {
 	found := make(map[K]V, len(keys))
 	var joined []join[K, V]
 	var first error
 	for len(keys) > 0 && first == nil {
-		var b batch[K, V]
-		keys, first = c.begin(&b, keys, found)
+		b := batch[K, V]{found: found}
+		keys, first = c.makeBatch(ctx, &b, keys, fetch)
 		joined = append(joined, b.joined...)
-		if err := c.leadMany(ctx, &b, found, fetch); first == nil {
-			first = err
-		}
 	}
 	for _, j := range joined {
 		v, err := j.load.wait(ctx)
@@ -47,14 +46,38 @@ type join[K comparable, V any] struct {
 
 // A batch is what one call of fetch loads, with what left as it was begun, and what others load.
 type batch[K comparable, V any] struct {
+	found  map[K]V
 	absent []K
 	leads  []*load[K, V]
 	left   []Left[K, V]
 	joined []join[K, V]
 }
 
+// makeBatch begins loads of the keys and makes them, and returns the keys that are left to seek. The time of a batch is counted
+// once. If a hash, a clock or fetch panics, the loads that were begun end.
+func (c *Cache[K, V]) makeBatch(
+	ctx context.Context, b *batch[K, V], keys []K, fetch func(context.Context, []K) (map[K]Weighed[V], error),
+) (rest []K, err error) {
+	begun := c.clock.elapsed()
+	defer func() {
+		took := c.clock.elapsed() - begun
+		for _, of := range b.leads {
+			b.left = append(b.left, of.land(took, c.listener != nil)...)
+			took = 0
+		}
+		c.tell(b.left)
+	}()
+	if rest, err = c.begin(b, keys); len(b.leads) == 0 {
+		return rest, err
+	}
+	if failed := b.load(fetch(lasting{ctx}, append([]K(nil), b.absent...))); err == nil {
+		err = failed
+	}
+	return rest, err
+}
+
 // begin seeks the keys, up to one that finds too many loads open if the batch has some, and returns the rest of them.
-func (c *Cache[K, V]) begin(b *batch[K, V], keys []K, found map[K]V) ([]K, error) {
+func (c *Cache[K, V]) begin(b *batch[K, V], keys []K) ([]K, error) {
 	for i, key := range keys {
 		at, err := c.seek(key)
 		if errors.Is(err, TooManyFlights) && len(b.leads) > 0 {
@@ -64,7 +87,7 @@ func (c *Cache[K, V]) begin(b *batch[K, V], keys []K, found map[K]V) ([]K, error
 		}
 		b.left = append(b.left, at.left...)
 		if at.isHit {
-			found[key] = at.value
+			b.found[key] = at.value
 		}
 		if at.lead != nil {
 			b.absent, b.leads = append(b.absent, key), append(b.leads, at.lead)
@@ -75,33 +98,19 @@ func (c *Cache[K, V]) begin(b *batch[K, V], keys []K, found map[K]V) ([]K, error
 	return nil, nil
 }
 
-// leadMany makes the loads of a batch. Their time is counted once.
-func (c *Cache[K, V]) leadMany(ctx context.Context, b *batch[K, V], found map[K]V, fetch func(context.Context, []K) (map[K]Weighed[V], error)) (err error) {
-	if len(b.leads) == 0 {
-		c.tell(b.left)
-		return nil
-	}
-	begun := c.clock.elapsed()
-	defer func() {
-		took := c.clock.elapsed() - begun
-		for _, of := range b.leads {
-			b.left = append(b.left, of.land(took, c.listener != nil)...)
-			took = 0
-		}
-		c.tell(b.left)
-	}()
-	fetched, failed := fetch(lasting{ctx}, append([]K(nil), b.absent...))
+// load gives the loads what was fetched, and returns why it failed if a key has no old value either.
+func (b *batch[K, V]) load(fetched map[K]Weighed[V], failed error) (err error) {
 	for i, of := range b.leads {
 		key := b.absent[i]
 		got, there := fetched[key]
 		if failed != nil {
 			of.err = failed
-			if _, old := found[key]; !old {
+			if _, old := b.found[key]; !old {
 				err = failed
 			}
 		} else if there {
 			of.value, of.weight, of.err = got.Value, got.Weight, nil
-			found[key] = got.Value
+			b.found[key] = got.Value
 		} else {
 			of.err = ErrNotLoaded
 		}

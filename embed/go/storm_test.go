@@ -149,6 +149,28 @@ func TestACircleOfAnyLengthIsTold(t *testing.T) {
 	}
 }
 
+// Two loads wait for each other through goroutines of their own: nobody sees that, and it lasts until a context ends.
+func TestACircleThroughOtherGoroutinesLastsUntilAContextEnds(t *testing.T) {
+	c := open(t, setup)
+	brief, cancel := context.WithCancel(ctx)
+	var begun sync.WaitGroup
+	begun.Add(2)
+	go func() { waitForJoins(c, 2); cancel() }()
+	together(2, func(i int) {
+		_, err := c.Get(ctx, uint64(i), func(context.Context) (string, uint32, error) {
+			begun.Done()
+			begun.Wait()
+			child := make(chan error)
+			go func() { _, err := c.Get(brief, uint64(1-i), got("none")); child <- err }()
+			return "", 1, <-child
+		})
+		if err != context.Canceled {
+			t.Error(err)
+		}
+	})
+	holds(t, c)
+}
+
 // What waits gives up at any moment; each load ends all the same.
 func TestAStormOfGetsThatGiveUpLeavesNothing(t *testing.T) {
 	c := open(t, Setup{Entries: 20})
