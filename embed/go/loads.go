@@ -11,6 +11,7 @@ import (
 type load[K comparable, V any] struct {
 	leader
 	shard           *shard[K, V]
+	ctx             lasting
 	id, number, now uint64
 	row             int32
 	done            chan struct{} // there is one once another goroutine has joined
@@ -96,7 +97,8 @@ func (s *shard[K, V]) join(at int32) *load[K, V] {
 func (c *Cache[K, V]) lead(ctx context.Context, found sought[K, V], fetch func(context.Context) (V, uint32, error)) (V, error) {
 	of, left, begun := found.lead, found.left, c.clock.elapsed()
 	defer func() { c.tell(append(left, of.land(c.clock.elapsed()-begun, c.listener != nil)...)) }()
-	of.value, of.weight, of.err = fetch(lasting{ctx})
+	of.ctx = lasting{ctx}
+	of.value, of.weight, of.err = fetch(&of.ctx)
 	if found.isHit && of.err != nil {
 		return found.value, nil
 	}

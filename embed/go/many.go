@@ -70,7 +70,7 @@ func (c *Cache[K, V]) makeBatch(
 	if rest, err = c.begin(b, keys); len(b.leads) == 0 {
 		return rest, err
 	}
-	if failed := b.load(fetch(lasting{ctx}, append([]K(nil), b.absent...))); err == nil {
+	if failed := b.load(fetch(&lasting{ctx}, append([]K(nil), b.absent...))); err == nil {
 		err = failed
 	}
 	return rest, err

@@ -31,7 +31,7 @@ func TestManyKeysAreLoadedByOneCall(t *testing.T) {
 		t.Fatal(err)
 	}
 	var asked [][]uint64
-	found, err := c.GetMany(ctx, []uint64{1, 2, 3, 1, 4}, each(&asked, 4))
+	found, err := c.GetMany(ctx, []uint64{4, 2, 1, 3, 1, 4}, each(&asked, 4))
 	if fmt.Sprint(found) != "map[1:v1 2:two 3:v3]" || err != nil || fmt.Sprint(asked) != "[[1 3 4]]" {
 		t.Fatal(found, err, asked)
 	}
@@ -39,7 +39,7 @@ func TestManyKeysAreLoadedByOneCall(t *testing.T) {
 	if len(found) != 3 || err != nil || len(asked) != 1 {
 		t.Fatal(found, err, asked)
 	}
-	if s := c.Stats(); s.Loads != 2 || s.Failed != 1 || s.Hits != 4 || s.Misses != 4 || s.Joins != 1 {
+	if s := c.Stats(); s.Loads != 2 || s.Failed != 1 || s.Hits != 4 || s.Misses != 5 || s.Joins != 2 {
 		t.Fatal(s)
 	}
 	holds(t, c)

@@ -65,6 +65,6 @@ func (w *waiting) end(me uintptr) {
 // A lasting context has the values of another one, and doesn't end with it.
 type lasting struct{ context.Context }
 
-func (lasting) Deadline() (end time.Time, ok bool) { return time.Time{}, false }
-func (lasting) Done() <-chan struct{}              { return nil }
-func (lasting) Err() error                         { return nil }
+func (*lasting) Deadline() (end time.Time, ok bool) { return time.Time{}, false }
+func (*lasting) Done() <-chan struct{}              { return nil }
+func (*lasting) Err() error                         { return nil }
