@@ -1,7 +1,7 @@
 """Blocks of a Markdown page, with the comments above them that a reader doesn't see.
 
     <!-- not run: REASON -->     the block of commands below isn't run
-    <!-- first: COMMAND -->      is run before the block below, in the same folder
+    <!-- first: COMMAND -->      is run before the commands of the block below, in the same shell
     <!-- figures aside -->       in the output that the block below shows, each number may be another
     <!-- file: PATH -->          the block below is written into the file
     <!-- file: PATH, behind: TEXT -->   the block below goes into the file, behind the item that begins with this text
