@@ -1,10 +1,16 @@
 //! A cache of keys and values of any type, for one owner.
-use crate::store::{Ended, Store};
+use crate::panics::Panics;
+use crate::several::Several;
+use crate::store::{drop_each, Ended, Store};
 use crate::table::Place;
 use crate::{Fault, Found, Landed, Left, Numbers, Setup, Token};
 use std::borrow::Borrow;
 use std::collections::hash_map::RandomState;
 use std::hash::{BuildHasher, Hash};
+use std::sync::Arc;
+
+/// What left a cache by one call. The cache shares a key with a load of it that is open.
+type AllLeft<K, V> = Vec<Left<Arc<K>, V>>;
 
 /// A cache for one owner. Each call that changes it also returns what left.
 ///
@@ -23,25 +29,24 @@ impl<K: Hash + Eq + Clone, V> Cache<K, V> {
 
     /// The key's value, if it is there, with what left.
     #[allow(clippy::type_complexity)]
-    pub fn look<Q>(&mut self, key: &Q, now: u64) -> Result<(Option<&V>, Vec<Left<K, V>>), Fault>
+    pub fn look<Q>(&mut self, key: &Q, now: u64) -> Result<(Option<&V>, AllLeft<K, V>), Fault>
     where
         K: Borrow<Q>,
         Q: Hash + Eq + ?Sized,
     {
-        let number = self.number(key);
-        let found = self.store.look(number, now)?;
-        let left = self.store.left();
-        match found {
-            Found::Hit(token) => Ok((Some(self.store.value(token)), left)),
-            _ => Ok((None, left)),
-        }
+        let hash = self.hasher.hash_one(key);
+        let at = self.found(hash, key);
+        let is_there = self.store.look(at, hash, now)?.is_some();
+        let left = self.store.left().into_vec();
+        let value = at.filter(|_| is_there).and_then(|at| self.store.table.row(at).value.as_ref());
+        Ok((value, left))
     }
 
     /// Looks the key up, and joins or opens a load, with what left. Whoever leads the load calls `land` or `fail`.
-    pub fn seek(&mut self, key: &K, now: u64) -> Result<(Found, Vec<Left<K, V>>), Fault> {
+    pub fn seek(&mut self, key: &K, now: u64) -> Result<(Found, AllLeft<K, V>), Fault> {
         let place = self.place(key);
         let (found, _) = self.store.seek(place, now)?;
-        Ok((found, self.store.left()))
+        Ok((found, self.store.left().into_vec()))
     }
 
     /// The value of a token that the cache holds.
@@ -50,53 +55,65 @@ impl<K: Hash + Eq + Clone, V> Cache<K, V> {
     }
 
     /// Stores the value under the key.
-    pub fn put(&mut self, key: &K, value: V, weight: u32, now: u64) -> Result<Vec<Left<K, V>>, Fault> {
+    pub fn put(&mut self, key: &K, value: V, weight: u32, now: u64) -> Result<AllLeft<K, V>, Fault> {
         let place = self.place(key);
-        self.store.put(place, value, weight, now).map_err(|(fault, _)| fault)
+        self.store.put(place, value, weight, now).map(Several::into_vec).map_err(|(fault, _)| fault)
     }
 
     /// Closes a load that this caller leads with a value. If memory is refused, the load is closed without storing.
-    pub fn land(&mut self, id: u64, key: &K, value: V, weight: u32, now: u64) -> (Landed, Vec<Left<K, V>>) {
-        let number = self.number(key);
-        let Ended { landed, left, .. } = self.store.land(id, number, value, weight, now);
-        (landed, left)
+    pub fn land(&mut self, id: u64, key: &K, value: V, weight: u32, now: u64) -> (Landed, AllLeft<K, V>) {
+        match self.found(self.hasher.hash_one(key), key) {
+            Some(at) => ended(self.store.land(id, at, value, weight, now)),
+            None => {
+                drop(value);
+                self.land_nothing(id, key, now)
+            }
+        }
     }
 
     /// Closes a load that this caller leads and that failed. The key's entry leaves if it has expired meanwhile.
-    pub fn fail(&mut self, id: u64, key: &K, now: u64) -> (Landed, Vec<Left<K, V>>) {
+    pub fn fail(&mut self, id: u64, key: &K, now: u64) -> (Landed, AllLeft<K, V>) {
+        match self.found(self.hasher.hash_one(key), key) {
+            Some(at) => ended(self.store.fail(id, at, now)),
+            None => self.land_nothing(id, key, now),
+        }
+    }
+
+    // No load of the key is open, as the key isn't in use.
+    fn land_nothing(&mut self, id: u64, key: &K, now: u64) -> (Landed, AllLeft<K, V>) {
         let number = self.number(key);
-        let Ended { landed, left, .. } = self.store.fail(id, number, now);
-        (landed, left)
+        let landed = self.store.tokens.land_failed(id, number, now).unwrap_or(Landed::Gone);
+        (landed, self.store.left().into_vec())
     }
 
     /// Takes the key's entry out. A load of the key that is open will store nothing.
-    pub fn drop_key<Q>(&mut self, key: &Q, now: u64) -> Result<Vec<Left<K, V>>, Fault>
+    pub fn drop_key<Q>(&mut self, key: &Q, now: u64) -> Result<AllLeft<K, V>, Fault>
     where
         K: Borrow<Q>,
         Q: Hash + Eq + ?Sized,
     {
         let number = self.number(key);
-        self.store.drop_key(number, now)
+        self.store.drop_key(number, now).map(Several::into_vec)
     }
 
     /// Lets nobody further join a load of the key that is open, which will store nothing. Tells whether there was one.
-    pub fn forget<Q>(&mut self, key: &Q, now: u64) -> Result<(bool, Vec<Left<K, V>>), Fault>
+    pub fn forget<Q>(&mut self, key: &Q, now: u64) -> Result<(bool, AllLeft<K, V>), Fault>
     where
         K: Borrow<Q>,
         Q: Hash + Eq + ?Sized,
     {
         let number = self.number(key);
-        self.store.forget(number, now)
+        self.store.forget(number, now).map(|(forgot, left)| (forgot, left.into_vec()))
     }
 
     /// Takes every entry out.
-    pub fn clear(&mut self, now: u64) -> Result<Vec<Left<K, V>>, Fault> {
-        self.store.clear(now)
+    pub fn clear(&mut self, now: u64) -> Result<AllLeft<K, V>, Fault> {
+        self.store.clear(now).map(Several::into_vec)
     }
 
     /// Takes every expired entry out.
-    pub fn clean(&mut self, now: u64) -> Result<Vec<Left<K, V>>, Fault> {
-        self.store.clean(now)
+    pub fn clean(&mut self, now: u64) -> Result<AllLeft<K, V>, Fault> {
+        self.store.clean(now).map(Several::into_vec)
     }
 
     /// The numbers of the cache.
@@ -109,12 +126,12 @@ impl<K: Hash + Eq + Clone, V> Cache<K, V> {
         self.store.kept()
     }
 
-    fn found<Q>(&self, hash: u64, key: &Q) -> Option<u64>
+    fn found<Q>(&self, hash: u64, key: &Q) -> Option<u32>
     where
         K: Borrow<Q>,
         Q: Eq + ?Sized,
     {
-        self.store.table.rows(hash).find(|row| row.key.borrow() == key).map(|row| row.number)
+        self.store.table.rows(hash).find(|(_, row)| (*row.key).borrow() == key).map(|row| row.0)
     }
 
     // The key's number, or one that it could have.
@@ -124,11 +141,24 @@ impl<K: Hash + Eq + Clone, V> Cache<K, V> {
         Q: Hash + Eq + ?Sized,
     {
         let hash = self.hasher.hash_one(key);
-        self.found(hash, key).unwrap_or_else(|| self.store.table.free(hash))
+        self.store.number(self.found(hash, key), hash)
     }
 
     fn place(&self, key: &K) -> Place<K> {
         let hash = self.hasher.hash_one(key);
-        self.found(hash, key).map_or_else(|| Place::New(hash, key.clone()), Place::At)
+        self.found(hash, key).map_or_else(|| self.store.table.new_place(hash, Arc::new(key.clone())), Place::At)
     }
+}
+
+// How a load landed, and what left by it. What isn't stored is dropped.
+fn ended<K, V>(ended: Ended<K, V>) -> (Landed, AllLeft<K, V>) {
+    let Ended { landed, value, key, left } = ended;
+    let mut panics = Panics::default();
+    panics.of(|| drop(value));
+    panics.of(|| drop(key));
+    if panics.is_none() {
+        return (landed, left.into_vec());
+    }
+    drop_each(left, &mut panics);
+    panics.checked((landed, Vec::new()))
 }

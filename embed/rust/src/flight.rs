@@ -1,7 +1,17 @@
 //! A load under way, and who waits for it.
+use crate::lock::locked;
 use std::sync::atomic::{AtomicBool, Ordering};
-use std::sync::{Arc, Condvar, Mutex, MutexGuard, PoisonError};
+use std::sync::{Arc, Condvar, Mutex, PoisonError};
 use std::thread::{self, ThreadId};
+
+thread_local! {
+    static OWN: ThreadId = thread::current().id();
+}
+
+/// The thread that calls. It may be asked for while the thread ends, when it has no such variable any more.
+pub(crate) fn own_thread() -> ThreadId {
+    OWN.try_with(|own| *own).unwrap_or_else(|_| thread::current().id())
+}
 
 /// What became of a load.
 pub(crate) enum Outcome<V, E> {
@@ -21,7 +31,7 @@ impl<V, E> Clone for Outcome<V, E> {
     }
 }
 
-/// A load that one thread makes and others may wait for.
+/// A load that one thread makes and others wait for.
 pub(crate) struct Flight<V, E> {
     told: Mutex<Option<Outcome<V, E>>>,
     bell: Condvar,
@@ -34,10 +44,9 @@ pub(crate) struct Flight<V, E> {
 pub(crate) struct WaitsForItself;
 
 impl<V, E> Flight<V, E> {
-    /// A load that this thread makes.
-    pub(crate) fn new() -> Self {
-        let (told, bell) = (Mutex::new(None), Condvar::new());
-        Flight { told, bell, leader: thread::current().id(), is_over: Arc::new(AtomicBool::new(false)) }
+    /// A load that the leader makes.
+    pub(crate) fn of(leader: ThreadId) -> Self {
+        Flight { told: Mutex::new(None), bell: Condvar::new(), leader, is_over: Arc::new(AtomicBool::new(false)) }
     }
 
     pub(crate) fn tell(&self, outcome: Outcome<V, E>) {
@@ -73,7 +82,7 @@ struct Waiting;
 impl Waiting {
     // Follows who waits for whom. A circle of loads that aren't over would stay one for good.
     fn begin(leader: ThreadId, is_over: &Arc<AtomicBool>) -> Result<Waiting, WaitsForItself> {
-        let waits = thread::current().id();
+        let waits = own_thread();
         let mut waiting = locked(&WAITING);
         let mut at = leader;
         while !is_over.load(Ordering::SeqCst) {
@@ -92,12 +101,7 @@ impl Waiting {
 
 impl Drop for Waiting {
     fn drop(&mut self) {
-        let waits = thread::current().id();
+        let waits = own_thread();
         locked(&WAITING).retain(|edge| edge.waits != waits);
     }
-}
-
-/// The lock, whatever happened under it: no code of the caller's runs under a lock of ours.
-pub(crate) fn locked<T>(mutex: &Mutex<T>) -> MutexGuard<'_, T> {
-    mutex.lock().unwrap_or_else(PoisonError::into_inner)
 }

@@ -1,55 +1,67 @@
 //! A load that this thread makes.
-use crate::flight::{locked, Flight, Outcome};
-use crate::shard::{Gone, Shard};
+use crate::flight::Outcome;
+use crate::lock::Lock;
+use crate::panics::Panics;
+use crate::shard::{AllGone, Shard};
 use crate::store::Ended;
 use crate::{GetError, Landed, Loading};
-use std::sync::{Arc, Mutex};
-use std::time::Instant;
+use std::sync::Arc;
+use std::time::{Duration, Instant};
 
 /// A load that this thread makes. If it is dropped before it lands, it lands as failed and those who joined ask again.
 pub(crate) struct Lead<'a, K, V, E> {
     pub(crate) of: &'a Loading<K, V, E>,
-    pub(crate) shard: &'a Mutex<Shard<K, V, E>>,
-    pub(crate) flight: Arc<Flight<V, E>>,
+    pub(crate) shard: &'a Lock<Shard<K, V, E>>,
     pub(crate) id: u64,
-    pub(crate) number: u64,
+    /// The place of the load among those of the shard.
+    pub(crate) load: u32,
+    /// The row of the key.
+    pub(crate) at: u32,
     /// The moment of the seek.
     pub(crate) now: u64,
     /// What a refresh is to replace.
     pub(crate) old: Option<Arc<V>>,
     /// What left by the seek. It is told once the load has landed, so that a listener may ask for the key.
-    pub(crate) left: Vec<Gone<K, V>>,
-    pub(crate) begun: Instant,
+    pub(crate) left: AllGone<K, V>,
+    /// When the load began.
+    pub(crate) begun: Option<Instant>,
     pub(crate) has_landed: bool,
 }
 
 impl<K, V, E> Lead<'_, K, V, E> {
     pub(crate) fn make(mut self, load: impl FnOnce() -> Result<(V, u32), E>) -> Result<Arc<V>, GetError<E>> {
-        self.begun = Instant::now();
+        self.begun = Some(Instant::now());
         match load() {
             Ok((value, weight)) => {
-                let value = Arc::new(value);
-                self.land(Some((value.clone(), weight)), Outcome::Value(value.clone()));
-                Ok(value)
+                let (value, old) = (Arc::new(value), self.old.take());
+                let panics = self.land(Some((value.clone(), weight)), old, || Outcome::Value(value.clone()));
+                panics.checked(Ok(value))
             }
             Err(error) => {
-                let error = Arc::new(error);
-                self.land(None, Outcome::Failed(error.clone()));
-                self.old.take().ok_or(GetError::Load(error))
+                let (error, old) = (Arc::new(error), self.old.take());
+                let mut panics = self.land(None, None, || Outcome::Failed(error.clone()));
+                let Some(old) = old else { return panics.checked(Err(GetError::Load(error))) };
+                panics.of(|| drop(error));
+                panics.checked(Ok(old))
             }
         }
     }
 
-    // Lands the load, tells those who share it, and lets go of what left.
-    fn land(&mut self, value: Option<(Arc<V>, u32)>, outcome: Outcome<V, E>) {
+    // Lands the load, tells those who share it, and lets go of what left and of the old value.
+    fn land(
+        &mut self,
+        value: Option<(Arc<V>, u32)>,
+        old: Option<Arc<V>>,
+        outcome: impl FnOnce() -> Outcome<V, E>,
+    ) -> Panics {
         self.has_landed = true;
-        let took = self.begun.elapsed();
+        let took = self.begun.map_or(Duration::ZERO, |begun| begun.elapsed());
         let has_value = value.is_some();
-        let mut shard = locked(self.shard);
-        shard.flights.remove(&self.id);
-        let Ended { landed, value: _value, key: _key, left } = match value {
-            Some((value, weight)) => shard.store.land(self.id, self.number, value, weight, self.now),
-            None => shard.store.fail(self.id, self.number, self.now),
+        let mut shard = self.shard.take();
+        let load = shard.loads.remove(self.load);
+        let Ended { landed, value, key, left } = match value {
+            Some((value, weight)) => shard.store.land(self.id, self.at, value, weight, self.now),
+            None => shard.store.fail(self.id, self.at, self.now),
         };
         shard.stats.tell(&left);
         shard.stats.load_time += took;
@@ -57,17 +69,24 @@ impl<K, V, E> Lead<'_, K, V, E> {
         shard.stats.failed += u64::from(!has_value);
         shard.stats.stale += u64::from(has_value && !matches!(landed, Landed::Kept(_)));
         drop(shard);
-        self.flight.tell(outcome);
-        let mut all = std::mem::take(&mut self.left);
-        all.extend(left);
-        self.of.listener.release(all);
+        if let Some(flight) = load.flight {
+            flight.tell(outcome());
+        }
+        let mut panics = Panics::default();
+        self.of.listener.release_into(std::mem::replace(&mut self.left, AllGone::none()), &mut panics);
+        self.of.listener.release_into(left, &mut panics);
+        panics.of(|| drop(value));
+        panics.of(|| drop(key));
+        panics.of(|| drop(old));
+        panics
     }
 }
 
 impl<K, V, E> Drop for Lead<'_, K, V, E> {
     fn drop(&mut self) {
         if !self.has_landed {
-            self.land(None, Outcome::Again);
+            let old = self.old.take();
+            self.land(None, old, || Outcome::Again).pass_on();
         }
     }
 }

@@ -1,9 +1,8 @@
 //! Who is told what left. No lock is held here.
-use crate::shard::Gone;
-use std::any::Any;
-use std::panic::{catch_unwind, resume_unwind, AssertUnwindSafe};
+use crate::panics::Panics;
+use crate::shard::{AllGone, Gone};
+use crate::store::drop_each;
 
-type Panic = Box<dyn Any + Send>;
 type Function<K, V> = Box<dyn Fn(&Gone<K, V>) + Send + Sync>;
 
 /// A function of the caller's, or none.
@@ -18,51 +17,39 @@ impl<K, V> Listener<K, V> {
         Listener(Some(Box::new(listener)))
     }
 
-    /// Tells what left and hands it over. If the listener panics, all of it is told and dropped first.
-    pub(crate) fn told(&self, left: Vec<Gone<K, V>>) -> Vec<Gone<K, V>> {
-        if let Some(panic) = self.tell(&left) {
-            drop_each(left);
-            resume_unwind(panic);
+    /// Tells what left, and hands it over. If that or a call before panicked, all of it is told and dropped first.
+    pub(crate) fn told(&self, left: AllGone<K, V>, mut panics: Panics) -> Vec<Gone<K, V>> {
+        self.tell(&left, &mut panics);
+        if panics.is_none() {
+            return left.into_vec();
         }
-        left
+        drop_each(left, &mut panics);
+        panics.checked(Vec::new())
     }
 
-    /// Tells what left and drops it. The first panic is passed on once all is told and dropped.
+    /// Tells what left, and drops it.
     #[inline]
-    pub(crate) fn release(&self, left: Vec<Gone<K, V>>) {
+    pub(crate) fn release_into(&self, left: AllGone<K, V>, panics: &mut Panics) {
+        self.tell(&left, panics);
+        drop_each(left, panics);
+    }
+
+    /// The same. The first panic is passed on once all is told and dropped.
+    #[inline]
+    pub(crate) fn release(&self, left: AllGone<K, V>) {
         if !left.is_empty() {
-            self.release_some(left);
+            let mut panics = Panics::default();
+            self.release_into(left, &mut panics);
+            panics.pass_on();
         }
     }
 
-    #[cold]
-    fn release_some(&self, left: Vec<Gone<K, V>>) {
-        let told = self.tell(&left);
-        let dropped = drop_each(left);
-        match told.or(dropped) {
-            Some(panic) if !std::thread::panicking() => resume_unwind(panic),
-            _ => {}
+    #[inline]
+    fn tell(&self, left: &AllGone<K, V>, panics: &mut Panics) {
+        if let Some(listener) = &self.0 {
+            for left in left.iter() {
+                panics.of(|| listener(left));
+            }
         }
     }
-
-    // Calls the listener for each. Returns the first panic.
-    fn tell(&self, left: &[Gone<K, V>]) -> Option<Panic> {
-        let listener = self.0.as_ref()?;
-        first_panic(left, listener)
-    }
-}
-
-fn drop_each<K, V>(left: Vec<Gone<K, V>>) -> Option<Panic> {
-    first_panic(left, drop)
-}
-
-// A call that panics keeps none of the others from being made.
-fn first_panic<T>(of: impl IntoIterator<Item = T>, call: impl Fn(T)) -> Option<Panic> {
-    let mut panicked = None;
-    for of in of {
-        if let Err(panic) = catch_unwind(AssertUnwindSafe(|| call(of))) {
-            panicked.get_or_insert(panic);
-        }
-    }
-    panicked
 }

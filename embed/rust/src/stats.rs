@@ -1,5 +1,6 @@
 //! What an operator wants to know of a cache.
-use crate::{Cause, Fault, Left};
+use crate::store::AllLeft;
+use crate::{Cause, Fault};
 use std::ops::AddAssign;
 use std::time::Duration;
 
@@ -38,8 +39,9 @@ pub struct Stats {
 }
 
 impl Stats {
-    pub(crate) fn tell<K, V>(&mut self, left: &[Left<K, V>]) {
-        for left in left {
+    #[inline]
+    pub(crate) fn tell<K, V>(&mut self, left: &AllLeft<K, V>) {
+        for left in left.iter() {
             *match left.cause {
                 Cause::Explicit => &mut self.explicit,
                 Cause::Replaced => &mut self.replaced,

@@ -1,6 +1,9 @@
 //! Tokens with the values and the keys that they stand for. No code of the caller's runs here: what leaves is moved out.
+use crate::panics::Panics;
+use crate::several::Several;
 use crate::table::{Place, Table};
-use crate::{Fault, Found, Landed, Notice, Numbers, Setup, Token, Tokens};
+use crate::{Fault, Found, Landed, Numbers, Setup, Token, Tokens};
+use std::sync::Arc;
 
 /// Why an entry left.
 #[derive(Clone, Copy, Debug, PartialEq, Eq, Hash)]
@@ -26,144 +29,126 @@ pub struct Left<K, V> {
     pub cause: Cause,
 }
 
-/// What a call returns beside what left.
-pub(crate) type Returned<T, K, V> = Result<(T, Vec<Left<K, V>>), Fault>;
+/// What left by a call.
+pub(crate) type AllLeft<K, V> = Several<Left<Arc<K>, V>>;
 
-// Values by their places, which are the tokens.
-struct Slots<T> {
-    slots: Vec<Option<T>>,
-    free: Vec<u64>,
-}
-
-impl<T> Slots<T> {
-    fn keep(&mut self, value: T) -> u64 {
-        if let Some(place) = self.free.pop() {
-            self.slots[place as usize] = Some(value);
-            return place;
-        }
-        self.slots.push(Some(value));
-        self.slots.len() as u64 - 1
-    }
-
-    fn take(&mut self, place: u64) -> T {
-        self.free.push(place);
-        self.slots[place as usize].take().expect("a token that is held has its value")
-    }
-
-    fn get(&self, place: u64) -> &T {
-        self.slots[place as usize].as_ref().expect("a token that is held has its value")
-    }
-}
-
-/// A cache of tokens, with a value for each token and a key for each number.
+/// A cache of tokens, with a row for each key that is in use.
 pub(crate) struct Store<K, V> {
     pub(crate) tokens: Tokens,
-    pub(crate) table: Table<K>,
-    kept: Slots<V>,
+    pub(crate) table: Table<K, V>,
 }
 
-impl<K: Clone, V> Store<K, V> {
+impl<K, V> Store<K, V> {
     pub(crate) fn open(setup: &Setup) -> Result<Self, Fault> {
-        let kept = Slots { slots: Vec::new(), free: Vec::new() };
-        Ok(Store { tokens: Tokens::open(setup)?, table: Table::new(), kept })
+        Ok(Store { tokens: Tokens::open(setup)?, table: Table::new() })
     }
 
-    pub(crate) fn value(&self, token: Token) -> &V {
-        self.kept.get(token.token)
-    }
-
-    /// A look-up. What left by it is to be asked for.
     #[inline]
-    pub(crate) fn look(&mut self, number: u64, now: u64) -> Result<Found, Fault> {
-        self.tokens.look(number, now)
+    pub(crate) fn value(&self, token: Token) -> &V {
+        self.table.value(token.token)
     }
 
-    /// A seek; a load that this caller leads uses the key's number, which is returned. What left by it is to be asked for.
-    pub(crate) fn seek(&mut self, place: Place<K>, now: u64) -> Result<(Found, u64), Fault> {
-        let mut number = match place {
-            Place::At(number) => number,
-            Place::New(hash, _) => self.table.free(hash),
-        };
-        let found = self.tokens.seek(number, now)?;
-        if matches!(found, Found::Lead(_) | Found::HitLead(..)) {
-            number = self.table.hold(place);
+    /// The number of a row, or the one for a new key of this hash.
+    #[inline]
+    pub(crate) fn number(&self, at: Option<u32>, hash: u64) -> u64 {
+        match at {
+            Some(at) => self.table.row(at).number,
+            None => self.table.free(hash),
         }
-        Ok((found, number))
     }
 
-    /// A refused value is given back.
+    /// Looks up the key of a row, or a new key of this hash. Returns the value if it is there. `left` tells what left by it.
+    #[inline]
+    pub(crate) fn look(&mut self, at: Option<u32>, hash: u64, now: u64) -> Result<Option<&V>, Fault> {
+        let row = at.map(|at| self.table.row(at));
+        let number = row.map_or_else(|| self.table.free(hash), |row| row.number);
+        match self.tokens.look(number, now)? {
+            Found::Hit(_) => Ok(row.and_then(|row| row.value.as_ref())),
+            _ => Ok(None),
+        }
+    }
+
+    /// A seek, with the key's row if it has one. A load that it opened uses the row. `left` tells what left by it.
+    #[inline]
+    pub(crate) fn seek(&mut self, place: Place<K>, now: u64) -> Result<(Found, Option<u32>), Fault> {
+        let found = self.tokens.seek(self.table.number(&place), now)?;
+        let at = match (found, place) {
+            (Found::Lead(_) | Found::HitLead(..), place) => Some(self.table.open(place)),
+            (_, Place::At(at)) => Some(at),
+            (_, Place::New { .. }) => None,
+        };
+        Ok((found, at))
+    }
+
+    /// Stores the value. One that is refused is given back.
+    #[inline]
     pub(crate) fn put(
         &mut self,
         place: Place<K>,
         value: V,
         weight: u32,
         now: u64,
-    ) -> Result<Vec<Left<K, V>>, (Fault, V)> {
-        let number = match place {
-            Place::At(number) => number,
-            Place::New(hash, _) => self.table.free(hash),
-        };
-        let token = self.kept.keep(value);
+    ) -> Result<AllLeft<K, V>, (Fault, V)> {
+        let (number, token) = (self.table.number(&place), self.table.next_token(&place));
         match self.tokens.put(number, Token { token, weight }, now) {
             Ok(()) => {
-                self.table.hold(place);
-                Ok(self.left())
+                let old = self.table.store(place, value);
+                Ok(self.left_with(old))
             }
-            Err(fault) => Err((fault, self.kept.take(token))),
+            Err(fault) => {
+                drop(place);
+                Err((fault, value))
+            }
         }
     }
 
-    /// Closes a load that used the number. If memory is refused it is closed without storing. What isn't stored leaves with
-    /// no cause: it is given back.
-    pub(crate) fn land(&mut self, id: u64, number: u64, value: V, weight: u32, now: u64) -> Ended<K, V> {
-        let token = self.kept.keep(value);
-        let landed = self.tokens.land_keep(id, number, Token { token, weight }, now);
-        let mut left = self.left();
-        let mut ended = Ended { landed: Landed::Gone, value: None, key: None, left: Vec::new() };
-        match landed {
-            // The load's use of the number is the entry's now.
-            Ok(Landed::Kept(shared)) => ended.landed = Landed::Kept(shared),
-            Ok(landed) => {
-                ended.value = Some(self.kept.take(token));
-                ended.landed = landed;
+    /// Closes a load that used the row. If memory is refused it is closed without storing. A value that isn't stored is given back.
+    pub(crate) fn land(&mut self, id: u64, at: u32, value: V, weight: u32, now: u64) -> Ended<K, V> {
+        let number = self.table.row(at).number;
+        let token = self.table.next_token(&Place::At(at));
+        match self.tokens.land_keep(id, number, Token { token, weight }, now) {
+            Ok(landed @ Landed::Kept(_)) => {
+                let old = self.table.store(Place::At(at), value);
+                let key = self.table.close(at);
+                Ended { landed, value: None, key, left: self.left_with(old) }
             }
+            Ok(landed) => self.ended(landed, at, Some(value)),
             Err(_) => {
-                ended.value = Some(self.kept.take(token));
-                ended.landed = self.tokens.land_loose(id, number, now).unwrap_or(Landed::Gone);
-                left.extend(self.left());
+                let landed = self.tokens.land_loose(id, number, now).unwrap_or(Landed::Gone);
+                self.ended(landed, at, Some(value))
             }
         }
-        if matches!(ended.landed, Landed::Loose(_) | Landed::Failed(_)) {
-            ended.key = self.table.let_go(number);
-        }
-        ended.left = left;
-        ended
     }
 
-    /// Closes a load that used the number and failed.
-    pub(crate) fn fail(&mut self, id: u64, number: u64, now: u64) -> Ended<K, V> {
-        let landed = self.tokens.land_failed(id, number, now).unwrap_or(Landed::Gone);
+    /// Closes a load that used the row and failed.
+    pub(crate) fn fail(&mut self, id: u64, at: u32, now: u64) -> Ended<K, V> {
+        let landed = self.tokens.land_failed(id, self.table.row(at).number, now).unwrap_or(Landed::Gone);
+        self.ended(landed, at, None)
+    }
+
+    // A load of the row ended, and stored nothing.
+    fn ended(&mut self, landed: Landed, at: u32, value: Option<V>) -> Ended<K, V> {
         let left = self.left();
-        let key = if landed == Landed::Gone { None } else { self.table.let_go(number) };
-        Ended { landed, value: None, key, left }
+        let key = if landed == Landed::Gone { None } else { self.table.close(at) };
+        Ended { landed, value, key, left }
     }
 
-    pub(crate) fn drop_key(&mut self, number: u64, now: u64) -> Result<Vec<Left<K, V>>, Fault> {
+    pub(crate) fn drop_key(&mut self, number: u64, now: u64) -> Result<AllLeft<K, V>, Fault> {
         self.tokens.drop_key(number, now)?;
         Ok(self.left())
     }
 
-    pub(crate) fn forget(&mut self, number: u64, now: u64) -> Returned<bool, K, V> {
+    pub(crate) fn forget(&mut self, number: u64, now: u64) -> Result<(bool, AllLeft<K, V>), Fault> {
         let forgot = self.tokens.forget(number, now)?;
         Ok((forgot, self.left()))
     }
 
-    pub(crate) fn clear(&mut self, now: u64) -> Result<Vec<Left<K, V>>, Fault> {
+    pub(crate) fn clear(&mut self, now: u64) -> Result<AllLeft<K, V>, Fault> {
         self.tokens.clear(now)?;
         Ok(self.left())
     }
 
-    pub(crate) fn clean(&mut self, now: u64) -> Result<Vec<Left<K, V>>, Fault> {
+    pub(crate) fn clean(&mut self, now: u64) -> Result<AllLeft<K, V>, Fault> {
         self.tokens.clean(now)?;
         Ok(self.left())
     }
@@ -173,39 +158,62 @@ impl<K: Clone, V> Store<K, V> {
     }
 
     pub(crate) fn kept(&self) -> (usize, usize) {
-        (self.kept.slots.iter().flatten().count(), self.table.len())
+        self.table.kept()
     }
 
-    /// What left by the latest call. A key that a load still uses is cloned.
+    /// What left by the latest call. It is asked for once: the rows are given up.
     #[inline]
-    pub(crate) fn left(&mut self) -> Vec<Left<K, V>> {
+    pub(crate) fn left(&mut self) -> AllLeft<K, V> {
+        self.left_with(None)
+    }
+
+    // The same of a call that stored a value in place of an old one, which the library tells to have left.
+    #[inline]
+    fn left_with(&mut self, old: Option<V>) -> AllLeft<K, V> {
         if self.tokens.has_notices() {
-            self.taken_out()
+            self.taken_out(old)
         } else {
-            Vec::new()
+            Several::none()
         }
     }
 
-    #[inline(never)]
-    fn taken_out(&mut self) -> Vec<Left<K, V>> {
-        let notices: Vec<Notice<u64>> = self.tokens.notices().collect();
-        notices
-            .into_iter()
-            .map(|notice| {
-                let last = self.table.let_go(notice.key);
-                let key = last.unwrap_or_else(|| self.table.key(notice.key).clone());
-                Left { key, value: self.kept.take(notice.token), cause: cause(notice.cause) }
-            })
-            .collect()
+    fn taken_out(&mut self, mut old: Option<V>) -> AllLeft<K, V> {
+        let mut left = Several::none();
+        for notice in self.tokens.notices() {
+            let (key, value) = self.table.take(notice.token, &mut old);
+            left.push(Left { key, value, cause: cause(notice.cause) });
+        }
+        left
     }
+}
+
+impl<K, V> Drop for Store<K, V> {
+    fn drop(&mut self) {
+        let mut panics = Panics::default();
+        for (key, value) in self.table.take_all() {
+            panics.of(|| drop(value));
+            panics.of(|| drop(key));
+        }
+        panics.pass_on();
+    }
+}
+
+/// Drops what left, each key and each value whatever the drops before did.
+#[inline]
+pub(crate) fn drop_each<K, V>(left: AllLeft<K, V>, panics: &mut Panics) {
+    left.for_each(|left| {
+        let Left { key, value, .. } = left;
+        panics.of(|| drop(value));
+        panics.of(|| drop(key));
+    });
 }
 
 /// How a load ended, with what is now the caller's again.
 pub(crate) struct Ended<K, V> {
     pub(crate) landed: Landed,
     pub(crate) value: Option<V>,
-    pub(crate) key: Option<K>,
-    pub(crate) left: Vec<Left<K, V>>,
+    pub(crate) key: Option<Arc<K>>,
+    pub(crate) left: AllLeft<K, V>,
 }
 
 fn cause(number: u32) -> Cause {

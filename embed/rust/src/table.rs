@@ -1,133 +1,245 @@
-//! Which number of the library's stands for which key. No code of the caller's runs here: keys are compared by whoever calls.
-use std::collections::HashMap;
-use std::hash::{BuildHasherDefault, Hasher};
+//! The keys in use, each with its number of the library's and its value. No code of the caller's runs here: keys are compared by
+//! whoever calls, and what is let go of is handed out.
+use crate::slab::Slab;
+use std::collections::HashSet;
+use std::sync::Arc;
 
-/// A key in use, with its number.
-pub(crate) struct Row<K> {
-    pub(crate) key: K,
+/// A key in use: by an entry, by loads, or by both.
+pub(crate) struct Row<K, V> {
+    pub(crate) key: Arc<K>,
+    /// What the library calls the key.
     pub(crate) number: u64,
-    // How many entries and loads use it.
-    uses: u32,
+    /// The entry's value.
+    pub(crate) value: Option<V>,
+    /// Whoever opened the key's newest load knows it by this.
+    pub(crate) newest: u32,
+    hash: u64,
+    // The row that comes next in the chain, or NONE.
+    next: u32,
+    // How many loads of the key are open.
+    loads: u32,
+    // The token of the value is twice the row's place, and one more every other time: a value and the next one differ in it.
+    turn: bool,
 }
 
-// The rows of one hash. There are several only if keys have the same hash.
-struct Rows<K> {
-    first: Row<K>,
-    more: Vec<Row<K>>,
-}
+const NONE: u32 = u32::MAX;
 
-/// Rows by the hashes of their keys.
-pub(crate) struct Table<K> {
-    rows: HashMap<u64, Rows<K>, BuildHasherDefault<Itself>>,
-    // The hashes of the numbers that aren't their keys' hashes.
-    moved: HashMap<u64, u64>,
+/// Rows by their places, and by the hashes of their keys in chains.
+pub(crate) struct Table<K, V> {
+    rows: Slab<Row<K, V>>,
+    // The first row of each chain, or NONE. There are a power of two, at least twice as many as rows.
+    chains: Vec<u32>,
+    // The numbers that aren't their keys' hashes.
+    moved: HashSet<u64>,
 }
 
 /// Where a key stands, or is to stand.
 pub(crate) enum Place<K> {
-    /// It is in use, under this number.
-    At(u64),
-    /// It isn't; its hash is this.
-    New(u64, K),
+    /// It is in use, in this row.
+    At(u32),
+    /// It isn't, and is to have this number.
+    New { hash: u64, number: u64, key: Arc<K> },
 }
 
-impl<K> Table<K> {
-    pub(crate) fn new() -> Table<K> {
-        Table { rows: HashMap::default(), moved: HashMap::new() }
+impl<K, V> Table<K, V> {
+    pub(crate) fn new() -> Table<K, V> {
+        Table { rows: Slab::new(), chains: vec![NONE; 16], moved: HashSet::new() }
     }
 
-    /// The rows of the keys with this hash.
-    pub(crate) fn rows(&self, hash: u64) -> impl Iterator<Item = &Row<K>> {
-        self.rows.get(&hash).into_iter().flat_map(|rows| std::iter::once(&rows.first).chain(&rows.more))
+    #[inline]
+    fn chain(&self, hash: u64) -> usize {
+        (spread(hash) >> 32) as usize & (self.chains.len() - 1)
     }
 
-    /// The row of this hash, if there is one and no other.
-    pub(crate) fn only(&self, hash: u64) -> Option<&Row<K>> {
-        self.rows.get(&hash).filter(|rows| rows.more.is_empty()).map(|rows| &rows.first)
+    /// The rows of the keys with this hash, each with its place.
+    #[inline]
+    pub(crate) fn rows(&self, hash: u64) -> impl Iterator<Item = (u32, &Row<K, V>)> {
+        let mut next = self.chains[self.chain(hash)];
+        std::iter::from_fn(move || {
+            while next != NONE {
+                let at = next;
+                let row = &self.rows[at];
+                next = row.next;
+                if row.hash == hash {
+                    return Some((at, row));
+                }
+            }
+            None
+        })
+    }
+
+    /// The place of the one row with this hash, if there is one and no other.
+    #[inline]
+    pub(crate) fn only(&self, hash: u64) -> Option<u32> {
+        let mut rows = self.rows(hash);
+        let (at, _) = rows.next()?;
+        rows.next().is_none().then_some(at)
+    }
+
+    /// The row at a place that is in use.
+    #[inline]
+    pub(crate) fn row(&self, at: u32) -> &Row<K, V> {
+        &self.rows[at]
+    }
+
+    #[inline]
+    pub(crate) fn row_mut(&mut self, at: u32) -> &mut Row<K, V> {
+        &mut self.rows[at]
     }
 
     /// A number for a new key: its hash, or the next number that no key uses. So a key that comes again is mostly counted with
     /// its earlier uses.
     pub(crate) fn free(&self, hash: u64) -> u64 {
         let mut number = hash;
-        while self.moved.contains_key(&number) || self.rows(number).any(|row| row.number == number) {
+        while self.moved.contains(&number) || self.rows(number).any(|(_, row)| row.number == number) {
             number = number.wrapping_add(1);
         }
         number
     }
 
-    /// The number of the place, which has one use more now.
-    pub(crate) fn hold(&mut self, place: Place<K>) -> u64 {
+    /// The place of a key that isn't in use yet, as long as nothing is stored or opened.
+    pub(crate) fn new_place(&self, hash: u64, key: Arc<K>) -> Place<K> {
+        Place::New { hash, number: self.free(hash), key }
+    }
+
+    /// The number of the place.
+    #[inline]
+    pub(crate) fn number(&self, place: &Place<K>) -> u64 {
         match place {
-            Place::At(number) => {
-                self.row(number).uses += 1;
-                number
-            }
-            Place::New(hash, key) => {
-                let number = self.free(hash);
-                if number != hash {
-                    self.moved.insert(number, hash);
-                }
-                let row = Row { key, number, uses: 1 };
-                match self.rows.get_mut(&hash) {
-                    Some(rows) => rows.more.push(row),
-                    None => drop(self.rows.insert(hash, Rows { first: row, more: Vec::new() })),
-                }
-                number
-            }
+            Place::At(at) => self.rows[*at].number,
+            Place::New { number, .. } => *number,
         }
     }
 
-    /// Gives up a use of the number. Returns its key if that was the last one.
-    pub(crate) fn let_go(&mut self, number: u64) -> Option<K> {
-        let row = self.row(number);
-        row.uses -= 1;
-        if row.uses > 0 {
-            return None;
-        }
-        let hash = self.moved.remove(&number).unwrap_or(number);
-        let rows = self.rows.get_mut(&hash)?;
-        if let Some(place) = rows.more.iter().position(|row| row.number == number) {
-            return Some(rows.more.swap_remove(place).key);
-        }
-        match rows.more.pop() {
-            Some(row) => Some(std::mem::replace(&mut rows.first, row).key),
-            None => self.rows.remove(&hash).map(|rows| rows.first.key),
+    /// The token of the next value that is stored at the place.
+    #[inline]
+    pub(crate) fn next_token(&self, place: &Place<K>) -> u64 {
+        match place {
+            Place::At(at) => token(*at, !self.rows[*at].turn),
+            Place::New { .. } => token(self.rows.next(), false),
         }
     }
 
-    /// The key of a number that is in use.
-    pub(crate) fn key(&mut self, number: u64) -> &K {
-        &self.row(number).key
-    }
-
-    /// How many keys are in use.
-    pub(crate) fn len(&self) -> usize {
-        self.rows.values().map(|rows| 1 + rows.more.len()).sum()
-    }
-
-    fn row(&mut self, number: u64) -> &mut Row<K> {
-        let hash = self.moved.get(&number).copied().unwrap_or(number);
-        let rows = self.rows.get_mut(&hash).expect("a number in use has its row");
-        if rows.first.number == number {
-            return &mut rows.first;
+    // The row of the place.
+    #[inline]
+    fn held(&mut self, place: Place<K>) -> u32 {
+        match place {
+            Place::At(at) => at,
+            Place::New { hash, number, key } => self.added(hash, number, key),
         }
-        rows.more.iter_mut().find(|row| row.number == number).expect("a number in use has its row")
+    }
+
+    fn added(&mut self, hash: u64, number: u64, key: Arc<K>) -> u32 {
+        if self.rows.len() * 2 >= self.chains.len() {
+            self.grow();
+        }
+        if number != hash {
+            self.moved.insert(number);
+        }
+        let chain = self.chain(hash);
+        let next = self.chains[chain];
+        let row = Row { key, number, value: None, newest: NONE, hash, next, loads: 0, turn: true };
+        self.chains[chain] = self.rows.insert(row);
+        self.chains[chain]
+    }
+
+    #[cold]
+    fn grow(&mut self) {
+        self.chains = vec![NONE; self.chains.len() * 2];
+        let rows: Vec<_> = self.rows.iter().map(|(at, row)| (at, self.chain(row.hash))).collect();
+        for (at, chain) in rows {
+            self.rows[at].next = std::mem::replace(&mut self.chains[chain], at);
+        }
+    }
+
+    /// Has a load use the place, whose row is returned.
+    pub(crate) fn open(&mut self, place: Place<K>) -> u32 {
+        let at = self.held(place);
+        self.rows[at].loads += 1;
+        at
+    }
+
+    /// A load uses the row no longer. Returns the key if nothing else does.
+    pub(crate) fn close(&mut self, at: u32) -> Option<Arc<K>> {
+        self.rows[at].loads -= 1;
+        self.is_free(at).then(|| self.removed(at))
+    }
+
+    fn is_free(&self, at: u32) -> bool {
+        self.rows[at].loads == 0 && self.rows[at].value.is_none()
+    }
+
+    /// Stores the value whose token was the next one. Returns the value before.
+    pub(crate) fn store(&mut self, place: Place<K>, value: V) -> Option<V> {
+        let at = self.held(place);
+        let row = &mut self.rows[at];
+        row.turn = !row.turn;
+        row.value.replace(value)
+    }
+
+    /// The key and the value of a token that left. The value is the old one, which `store` has returned, or the row's.
+    pub(crate) fn take(&mut self, gone: u64, old: &mut Option<V>) -> (Arc<K>, V) {
+        let at = place(gone);
+        let row = &mut self.rows[at];
+        let value = if token(at, row.turn) == gone { row.value.take() } else { old.take() };
+        let key = if self.is_free(at) { self.removed(at) } else { self.rows[at].key.clone() };
+        (key, value.expect("a token that is held has its value"))
+    }
+
+    /// The value of a token that the library holds.
+    #[inline]
+    pub(crate) fn value(&self, token: u64) -> &V {
+        self.rows[place(token)].value.as_ref().expect("a token that is held has its value")
+    }
+
+    fn removed(&mut self, at: u32) -> Arc<K> {
+        let row = self.rows.remove(at);
+        if row.number != row.hash {
+            self.moved.remove(&row.number);
+        }
+        let chain = self.chain(row.hash);
+        let mut before = self.chains[chain];
+        if before == at {
+            self.chains[chain] = row.next;
+            return row.key;
+        }
+        while self.rows[before].next != at {
+            before = self.rows[before].next;
+        }
+        self.rows[before].next = row.next;
+        row.key
+    }
+
+    /// Takes all rows out.
+    pub(crate) fn take_all(&mut self) -> impl Iterator<Item = (Arc<K>, Option<V>)> {
+        let rows = std::mem::replace(self, Table::new()).rows;
+        rows.into_iter().map(|row| (row.key, row.value))
+    }
+
+    /// How many values and how many keys there are.
+    pub(crate) fn kept(&self) -> (usize, usize) {
+        (self.rows.iter().filter(|(_, row)| row.value.is_some()).count(), self.rows.len())
     }
 }
 
-/// The hash of a number that is itself a hash under a random seed.
-#[derive(Default)]
-pub(crate) struct Itself(u64);
+// The upper half goes by most bits of the hash, so that one whose bits aren't all alike spreads too.
+#[inline]
+fn spread(hash: u64) -> u64 {
+    hash.wrapping_mul(0x9E37_79B9_7F4A_7C15)
+}
 
-impl Hasher for Itself {
-    fn finish(&self) -> u64 {
-        self.0
-    }
-    fn write(&mut self, _: &[u8]) {
-        unreachable!("only numbers are hashed")
-    }
-    fn write_u64(&mut self, number: u64) {
-        self.0 = number;
-    }
+/// Which of some parts a hash belongs to. It goes by the uppermost bits, and a chain by those below them.
+#[inline]
+pub(crate) fn part_of(hash: u64, parts: usize) -> usize {
+    ((spread(hash) >> 48) as usize * parts) >> 16
+}
+
+#[inline]
+fn token(at: u32, turn: bool) -> u64 {
+    u64::from(at) * 2 + u64::from(turn)
+}
+
+#[inline]
+fn place(token: u64) -> u32 {
+    (token / 2) as u32
 }

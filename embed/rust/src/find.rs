@@ -1,0 +1,121 @@
+//! Which row is a key's. Keys of the caller's are compared and cloned while the lock is given back.
+use crate::loading::{Loading, Locked};
+use crate::panics::Panics;
+use crate::plain::are_plain;
+use crate::several::Several;
+use crate::table::Place;
+use std::borrow::Borrow;
+use std::sync::Arc;
+
+/// A row that is alone of its hash: its key and its place.
+pub(crate) type Only<K> = Option<(Arc<K>, u32)>;
+
+/// The shard with the key's place, and the key itself if it was cloned, which is to be dropped once the lock is given back.
+pub(crate) type Placed<'a, K, V, E> = (Locked<'a, K, V, E>, Place<K>, Option<Arc<K>>);
+
+impl<K, V, E> Loading<K, V, E> {
+    /// The row that is alone of its hash. It is nearly always the key's: a call uses it at once, and has the key compared by
+    /// `is_of` once the lock is given back. None if keys are compared under the lock.
+    #[inline]
+    pub(crate) fn only<Q: ?Sized>(&self, shard: &Locked<'_, K, V, E>, hash: u64) -> Only<K> {
+        if are_plain::<K, Q>() {
+            return None;
+        }
+        let table = &shard.store.table;
+        table.only(hash).map(|at| (table.row(at).key.clone(), at))
+    }
+
+    /// Returns what was found in a row if its key is this one; else what was found is dropped, with no lock held. If the equality
+    /// or a drop panics, the panic is passed on once all is dropped.
+    pub(crate) fn is_of<T, Q>(&self, row: Arc<K>, key: &Q, found: T) -> Option<T>
+    where
+        K: Borrow<Q>,
+        Q: Eq + ?Sized,
+    {
+        let mut panics = Panics::default();
+        let is_same = panics.of(|| (*row).borrow() == key);
+        panics.of(|| drop(row));
+        if is_same == Some(true) {
+            return Some(panics.checked(found));
+        }
+        panics.of(|| drop(found));
+        panics.pass_on();
+        None
+    }
+
+    /// The key's row if it is in use. Keys are compared while the lock is given back, until the rows of the hash are those that
+    /// were compared.
+    #[inline]
+    pub(crate) fn found<'a, Q>(
+        &'a self,
+        shard: Locked<'a, K, V, E>,
+        hash: u64,
+        key: &Q,
+    ) -> (Locked<'a, K, V, E>, Option<u32>)
+    where
+        K: Borrow<Q>,
+        Q: Eq + ?Sized,
+    {
+        if are_plain::<K, Q>() {
+            let at = shard.store.table.rows(hash).find(|(_, row)| (*row.key).borrow() == key).map(|row| row.0);
+            return (shard, at);
+        }
+        self.compared(shard, hash, key)
+    }
+
+    fn compared<'a, Q>(
+        &'a self,
+        mut shard: Locked<'a, K, V, E>,
+        hash: u64,
+        key: &Q,
+    ) -> (Locked<'a, K, V, E>, Option<u32>)
+    where
+        K: Borrow<Q>,
+        Q: Eq + ?Sized,
+    {
+        let (mut seen, mut at): (Several<(u32, Arc<K>)>, _) = (Several::none(), None);
+        loop {
+            let rows = shard.store.table.rows(hash).map(|(at, row)| (at, Arc::as_ptr(&row.key)));
+            if rows.eq(seen.iter().map(|(at, key)| (*at, Arc::as_ptr(key)))) {
+                // The rows keep their keys alive: none of these is the last share.
+                return (shard, at);
+            }
+            let rows = shard.store.table.rows(hash).map(|(at, row)| (at, row.key.clone())).collect();
+            drop(shard);
+            drop_keys(std::mem::replace(&mut seen, rows));
+            at = seen.iter().find(|(_, other)| (**other).borrow() == key).map(|row| row.0);
+            shard = self.shard(hash).take();
+        }
+    }
+
+    /// The key's place, for a call that stores or loads.
+    #[inline]
+    pub(crate) fn place<'a, Q>(&'a self, shard: Locked<'a, K, V, E>, hash: u64, key: &Q) -> Placed<'a, K, V, E>
+    where
+        K: Borrow<Q>,
+        Q: Eq + ToOwned<Owned = K> + ?Sized,
+    {
+        let (shard, at) = self.found(shard, hash, key);
+        if let Some(at) = at {
+            return (shard, Place::At(at), None);
+        }
+        if are_plain::<K, Q>() {
+            let place = shard.store.table.new_place(hash, Arc::new(key.to_owned()));
+            return (shard, place, None);
+        }
+        drop(shard);
+        let owned = Arc::new(key.to_owned());
+        let (shard, at) = self.found(self.shard(hash).take(), hash, key);
+        let place = at.map_or_else(|| shard.store.table.new_place(hash, owned.clone()), Place::At);
+        (shard, place, Some(owned))
+    }
+}
+
+// Some may have left since they were compared, so each may be the last share.
+fn drop_keys<K>(keys: Several<(u32, Arc<K>)>) {
+    let mut panics = Panics::default();
+    for key in keys {
+        panics.of(|| drop(key));
+    }
+    panics.pass_on();
+}

@@ -1,0 +1,74 @@
+//! Mostly nothing or one thing, and then nothing is allocated.
+
+/// Some things in their order.
+pub(crate) struct Several<T> {
+    first: Option<T>,
+    more: Vec<T>,
+}
+
+impl<T> Several<T> {
+    pub(crate) const fn none() -> Several<T> {
+        Several { first: None, more: Vec::new() }
+    }
+
+    #[inline]
+    pub(crate) fn push(&mut self, one: T) {
+        if self.first.is_none() {
+            self.first = Some(one);
+        } else {
+            self.more.push(one);
+        }
+    }
+
+    #[inline]
+    pub(crate) fn is_empty(&self) -> bool {
+        self.first.is_none()
+    }
+
+    /// Makes the call with each of them.
+    #[inline]
+    pub(crate) fn for_each(self, mut call: impl FnMut(T)) {
+        if let Some(first) = self.first {
+            call(first);
+            self.more.into_iter().for_each(call);
+        }
+    }
+
+    pub(crate) fn iter(&self) -> impl Iterator<Item = &T> {
+        self.first.iter().chain(&self.more)
+    }
+
+    pub(crate) fn into_vec(self) -> Vec<T> {
+        let Some(first) = self.first else { return Vec::new() };
+        let mut all = Vec::with_capacity(1 + self.more.len());
+        all.push(first);
+        all.extend(self.more);
+        all
+    }
+}
+
+impl<T> Extend<T> for Several<T> {
+    #[inline]
+    fn extend<I: IntoIterator<Item = T>>(&mut self, more: I) {
+        for one in more {
+            self.push(one);
+        }
+    }
+}
+
+impl<T> FromIterator<T> for Several<T> {
+    fn from_iter<I: IntoIterator<Item = T>>(all: I) -> Several<T> {
+        let mut several = Several::none();
+        several.extend(all);
+        several
+    }
+}
+
+impl<T> IntoIterator for Several<T> {
+    type Item = T;
+    type IntoIter = std::iter::Chain<std::option::IntoIter<T>, std::vec::IntoIter<T>>;
+
+    fn into_iter(self) -> Self::IntoIter {
+        self.first.into_iter().chain(self.more)
+    }
+}
