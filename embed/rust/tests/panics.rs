@@ -1,0 +1,194 @@
+//! Drops and clones that panic, alone, beside each other, and beside a loader's panic: the process goes on, and nothing is kept for
+//! good.
+use rookdresser::{Cache, Cause, Found, Landed, Loading, Setup};
+use std::hash::{Hash, Hasher};
+use std::panic::{catch_unwind, AssertUnwindSafe};
+use std::sync::atomic::{AtomicBool, AtomicU64, Ordering::SeqCst};
+use std::sync::Arc;
+
+// How many things there are, and whether they panic as they are cloned or dropped.
+#[derive(Default)]
+struct Fuse {
+    live: AtomicU64,
+    clones_panic: AtomicBool,
+    drops_panic: AtomicBool,
+}
+
+impl Fuse {
+    fn thing(self: &Arc<Fuse>, number: u64) -> Thing {
+        self.live.fetch_add(1, SeqCst);
+        Thing { number, fuse: self.clone() }
+    }
+
+    fn light(&self) {
+        self.drops_panic.store(true, SeqCst);
+    }
+}
+
+struct Thing {
+    number: u64,
+    fuse: Arc<Fuse>,
+}
+
+impl Drop for Thing {
+    fn drop(&mut self) {
+        self.fuse.live.fetch_sub(1, SeqCst);
+        assert!(!self.fuse.drops_panic.load(SeqCst), "of a drop");
+    }
+}
+
+impl Clone for Thing {
+    fn clone(&self) -> Thing {
+        assert!(!self.fuse.clones_panic.load(SeqCst), "of a clone");
+        self.fuse.thing(self.number)
+    }
+}
+
+impl Hash for Thing {
+    fn hash<H: Hasher>(&self, state: &mut H) {
+        self.number.hash(state);
+    }
+}
+
+impl PartialEq for Thing {
+    fn eq(&self, other: &Thing) -> bool {
+        self.number == other.number
+    }
+}
+
+impl Eq for Thing {}
+
+// The text of a panic of the work.
+fn panic_of<T>(work: impl FnOnce() -> T) -> Option<&'static str> {
+    let panic = catch_unwind(AssertUnwindSafe(|| drop(work()))).err()?;
+    Some(panic.downcast_ref::<&str>().expect("a panic has a text"))
+}
+
+#[test]
+fn nothing_is_cloned_as_an_entry_leaves_during_a_load() {
+    let (keys, values) = (Arc::new(Fuse::default()), Arc::new(Fuse::default()));
+    let mut cache = Cache::<Thing, Thing>::open(&Setup { refresh: 10, ..Setup::of(8) }).unwrap();
+    for number in 0..5 {
+        cache.put(&keys.thing(number), values.thing(number), 1, 0).unwrap();
+    }
+    let due = keys.thing(0);
+    let Found::HitLead(_, id) = cache.seek(&due, 20).unwrap().0 else { panic!("it is due") };
+    keys.clones_panic.store(true, SeqCst);
+    let left = cache.clear(20).unwrap();
+    assert_eq!((left.len(), cache.numbers().entries, values.live.load(SeqCst)), (5, 0, 5));
+    assert!(left.iter().all(|left| left.key.number == left.value.number && left.cause == Cause::Explicit));
+    drop(left);
+    // The load still uses its key.
+    assert_eq!((cache.kept(), values.live.load(SeqCst)), ((0, 1), 0));
+    assert_eq!(cache.fail(id, &due, 20).0, Landed::Failed(1));
+    assert_eq!((cache.kept(), keys.live.load(SeqCst)), ((0, 0), 1));
+}
+
+#[test]
+fn a_loaded_value_isn_t_kept_for_good_if_the_old_one_panics_as_it_is_dropped() {
+    let values = Arc::new(Fuse::default());
+    let cache = Loading::<u64, Thing, ()>::open(&Setup { refresh: 10, ..Setup::of(10) }).unwrap();
+    cache.put(&1, Arc::new(values.thing(0)), 1, 0).unwrap();
+    for now in [20, 40, 60] {
+        values.light();
+        assert_eq!(panic_of(|| cache.get(&1, now, || Ok((values.thing(now), 1)))), Some("of a drop"));
+        values.drops_panic.store(false, SeqCst);
+        assert_eq!((values.live.load(SeqCst), cache.look(&1, now).unwrap().map(|value| value.number)), (1, Some(now)));
+    }
+    drop(cache.clear(60).unwrap());
+    assert_eq!(values.live.load(SeqCst), 0);
+}
+
+#[test]
+fn a_key_and_a_value_of_one_entry_may_both_panic_as_they_are_dropped() {
+    let fuse = Arc::new(Fuse::default());
+    let cache = Loading::<Thing, Thing, ()>::open(&Setup { window: 1, ..Setup::of(2) }).unwrap();
+    let keys: Vec<_> = (0..5).map(|number| fuse.thing(number)).collect();
+    fuse.light();
+    let panicked = |key: &Thing| panic_of(|| cache.get(key, 0, || Ok((fuse.thing(key.number), 1)))).is_some();
+    // Two entries are held, so three of five were evicted.
+    assert_eq!(keys.iter().filter(|key| panicked(key)).count(), 3);
+    assert_eq!((cache.kept(), cache.numbers().entries, fuse.live.load(SeqCst)), ((2, 2), 2, 5 + 2 * 2));
+    // So may all four that the cache holds as it is dropped.
+    assert_eq!(panic_of(|| drop(cache)), Some("of a drop"));
+    assert_eq!(fuse.live.load(SeqCst), 5);
+    let mut owned = Cache::<Thing, Thing>::open(&Setup::of(2)).unwrap();
+    fuse.drops_panic.store(false, SeqCst);
+    owned.put(&keys[0], fuse.thing(0), 1, 0).unwrap();
+    owned.put(&keys[1], fuse.thing(1), 1, 0).unwrap();
+    fuse.light();
+    assert_eq!(panic_of(|| drop(owned)), Some("of a drop"));
+    assert_eq!(fuse.live.load(SeqCst), 5);
+    fuse.drops_panic.store(false, SeqCst);
+}
+
+#[test]
+fn a_loader_and_the_drop_of_its_key_may_both_panic() {
+    let keys = Arc::new(Fuse::default());
+    let cache = Loading::<Thing, u64, ()>::open(&Setup::of(2)).unwrap();
+    let key = keys.thing(1);
+    let got = panic_of(|| {
+        cache.get(&key, 0, || {
+            keys.light();
+            panic!("of the loader")
+        })
+    });
+    keys.drops_panic.store(false, SeqCst);
+    assert_eq!(
+        (got, cache.kept(), cache.numbers().flights, keys.live.load(SeqCst)),
+        (Some("of the loader"), (0, 0), 0, 1)
+    );
+    // If the loader fails alone, the call panics for the key.
+    let got = panic_of(|| {
+        cache.get(&key, 0, || {
+            keys.light();
+            Err(())
+        })
+    });
+    keys.drops_panic.store(false, SeqCst);
+    assert_eq!((got, cache.kept(), cache.numbers().flights, keys.live.load(SeqCst)), (Some("of a drop"), (0, 0), 0, 1));
+}
+
+#[test]
+fn a_loader_and_the_drop_of_the_old_value_may_both_panic() {
+    let values = Arc::new(Fuse::default());
+    let cache = Loading::<u64, Thing, ()>::open(&Setup { refresh: 10, ..Setup::of(4) }).unwrap();
+    cache.put(&1, Arc::new(values.thing(1)), 1, 0).unwrap();
+    let got = panic_of(|| {
+        cache.get(&1, 20, || {
+            // The load itself has the last share of the old value now.
+            drop(cache.put(&1, Arc::new(values.thing(2)), 1, 20).unwrap());
+            assert_eq!(values.live.load(SeqCst), 2);
+            values.light();
+            panic!("of the loader")
+        })
+    });
+    values.drops_panic.store(false, SeqCst);
+    assert_eq!(
+        (got, values.live.load(SeqCst), cache.kept(), cache.numbers().flights),
+        (Some("of the loader"), 1, (1, 1), 0)
+    );
+    assert_eq!(cache.look(&1, 20).unwrap().map(|value| value.number), Some(2));
+}
+
+#[test]
+fn a_call_that_is_made_during_a_panic_lets_that_one_go_on() {
+    struct Puts<'a>(&'a Loading<u64, u64, ()>);
+    impl Drop for Puts<'_> {
+        fn drop(&mut self) {
+            assert_eq!(self.0.put(&1, Arc::new(2), 1, 0).map(|left| left.len()), Ok(0));
+            assert_eq!(*self.0.get(&2, 0, || Ok((3, 1))).unwrap(), 3);
+        }
+    }
+    let cache = Loading::open(&Setup::of(4)).unwrap().with_listener(|_| panic!("of the listener"));
+    cache.put(&1, Arc::new(1), 1, 0).unwrap();
+    let got = panic_of(|| {
+        let _puts = Puts(&cache);
+        panic!("of the caller")
+    });
+    assert_eq!(
+        (got, cache.look(&1, 0).unwrap(), cache.look(&2, 0).unwrap()),
+        (Some("of the caller"), Some(Arc::new(2)), Some(Arc::new(3)))
+    );
+    assert_eq!(panic_of(|| drop(cache)), Some("of the listener"));
+}
