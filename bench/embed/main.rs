@@ -2,6 +2,7 @@
 //! for each, with the least nanoseconds an operation of some rounds, all threads together, and the misses of the read-through.
 use rookdresser::{Found, Loading, Setup, Token, Tokens};
 use std::cell::RefCell;
+use std::hash::{BuildHasher, Hasher, RandomState};
 use std::sync::Mutex;
 use std::time::Instant;
 
@@ -77,12 +78,38 @@ impl Work for Locked {
     }
 }
 
-impl Work for Loading<u64, u64, ()> {
+// A hasher that is cheaper than SipHash: the halves of a product, put together. Strangers who can time calls at length may find keys
+// that collide.
+#[derive(Clone, Default)]
+struct Folded(u64);
+
+impl Hasher for Folded {
+    fn finish(&self) -> u64 {
+        self.0
+    }
+    fn write(&mut self, _: &[u8]) {
+        unreachable!("the keys are numbers")
+    }
+    fn write_u64(&mut self, number: u64) {
+        let product = u128::from(self.0 ^ number) * 0x9E37_79B9_7F4A_7C15;
+        self.0 = product as u64 ^ (product >> 64) as u64;
+    }
+}
+
+impl BuildHasher for Folded {
+    type Hasher = Folded;
+
+    fn build_hasher(&self) -> Folded {
+        self.clone()
+    }
+}
+
+impl<S: BuildHasher> Work for Loading<u64, u64, (), S> {
     fn look(&self, key: u64, now: u64) -> bool {
-        Loading::look(self, &key, now).expect("memory is there").is_some()
+        self.look_at(&key, now).expect("memory is there").is_some()
     }
     fn put(&self, key: u64, now: u64) {
-        Loading::put(self, &key, key.into(), 1, now).expect("memory is there");
+        self.store_at(&key, key.into(), 1, now).expect("memory is there");
     }
     fn read_through(&self, key: u64, now: u64) -> bool {
         let mut there = true;
@@ -90,7 +117,7 @@ impl Work for Loading<u64, u64, ()> {
             there = false;
             Ok((key, 1))
         };
-        self.get(&key, now, load).expect("loads land at once");
+        self.get_at(&key, now, load).expect("loads land at once");
         there
     }
 }
@@ -119,7 +146,11 @@ fn made(cache: &str) -> Box<dyn Work + Sync> {
         "alone" => Box::new(Alone(RefCell::new(open(&SETUP)))),
         "mutex" => Box::new(Locked(vec![Mutex::new(open(&SETUP))])),
         "sharded" => Box::new(Locked((0..8).map(|_| Mutex::new(open(&EIGHTH))).collect())),
-        "loading" => Box::new(Loading::<u64, u64, ()>::open(&SETUP).expect("the setup is within its ranges")),
+        "loading" => Box::new(Loading::<u64, u64, ()>::sharded(1, &SETUP).expect("the setup is within its ranges")),
+        "loading-folded" => {
+            let seed = Folded(RandomState::new().hash_one(0));
+            Box::new(Loading::<u64, u64, (), _>::sharded_with_hasher(1, &SETUP, seed).expect("the setup is within its ranges"))
+        }
         "loading-sharded" => {
             Box::new(Loading::<u64, u64, ()>::sharded(8, &EIGHTH).expect("the setup is within its ranges"))
         }

@@ -12,10 +12,10 @@ fn main() {
         for _ in 0..64 {
             threads.spawn(|| {
                 gate.wait();
-                let page = cache.get("a page", 0, || {
+                let page = cache.get_with("a page", || {
                     loads.fetch_add(1, Ordering::SeqCst);
                     std::thread::sleep(Duration::from_millis(50));
-                    Ok(("its text".into(), 1))
+                    "its text".into()
                 });
                 if page.is_ok_and(|page| *page == "its text") {
                     same.fetch_add(1, Ordering::SeqCst);

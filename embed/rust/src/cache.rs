@@ -12,19 +12,26 @@ use std::sync::Arc;
 /// What left a cache by one call. The cache shares a key with a load of it that is open.
 type AllLeft<K, V> = Vec<Left<Arc<K>, V>>;
 
-/// A cache for one owner. Each call that changes it also returns what left.
+/// A cache for one owner. Each call is given the moment, in milliseconds, and also returns what left if it changes the cache.
 ///
-/// The library gets a number for each key: its hash under a random seed of this cache's own, so that nobody who chooses keys can
-/// aim at the library's tables.
-pub struct Cache<K, V> {
+/// The library gets a number for each key: its hash by `S`, whose random seed keeps strangers who choose keys from aiming at the
+/// cache's tables.
+pub struct Cache<K, V, S = RandomState> {
     store: Store<K, V>,
-    hasher: RandomState,
+    hasher: S,
 }
 
 impl<K: Hash + Eq + Clone, V> Cache<K, V> {
-    /// Opens an empty cache.
+    /// Opens an empty cache. `BadSetup`, then `OutOfMemory`.
     pub fn open(setup: &Setup) -> Result<Self, Fault> {
-        Ok(Cache { store: Store::open(setup)?, hasher: RandomState::new() })
+        Self::with_hasher(setup, RandomState::new())
+    }
+}
+
+impl<K: Hash + Eq + Clone, V, S: BuildHasher> Cache<K, V, S> {
+    /// As `open`, with a hasher of the caller's. It has to spread keys over all 64 bits, or nearly so.
+    pub fn with_hasher(setup: &Setup, hasher: S) -> Result<Self, Fault> {
+        Ok(Cache { store: Store::open(setup)?, hasher })
     }
 
     /// The key's value, if it is there, with what left.
@@ -45,7 +52,10 @@ impl<K: Hash + Eq + Clone, V> Cache<K, V> {
     /// Looks the key up, and joins or opens a load, with what left. Whoever leads the load calls `land` or `fail`.
     pub fn seek(&mut self, key: &K, now: u64) -> Result<(Found, AllLeft<K, V>), Fault> {
         let place = self.place(key);
-        let (found, _) = self.store.seek(place, now)?;
+        let found = self.store.tokens.seek(self.store.table.number(&place), now)?;
+        if matches!(found, Found::Lead(_) | Found::HitLead(..)) {
+            self.store.table.open(place);
+        }
         Ok((found, self.store.left().into_vec()))
     }
 
@@ -57,13 +67,19 @@ impl<K: Hash + Eq + Clone, V> Cache<K, V> {
     /// Stores the value under the key.
     pub fn put(&mut self, key: &K, value: V, weight: u32, now: u64) -> Result<AllLeft<K, V>, Fault> {
         let place = self.place(key);
-        self.store.put(place, value, weight, now).map(Several::into_vec).map_err(|(fault, _)| fault)
+        let mut left = Several::none();
+        self.store.put(place, value, weight, now, &mut left).map_err(|(fault, _)| fault)?;
+        Ok(left.into_vec())
     }
 
     /// Closes a load that this caller leads with a value. If memory is refused, the load is closed without storing.
     pub fn land(&mut self, id: u64, key: &K, value: V, weight: u32, now: u64) -> (Landed, AllLeft<K, V>) {
         match self.found(self.hasher.hash_one(key), key) {
-            Some(at) => ended(self.store.land(id, at, value, weight, now)),
+            Some(at) => {
+                let mut left = Several::none();
+                let load = self.store.land((id, at), (value, weight), now, &mut left);
+                ended(load, left)
+            }
             None => {
                 drop(value);
                 self.land_nothing(id, key, now)
@@ -74,7 +90,11 @@ impl<K: Hash + Eq + Clone, V> Cache<K, V> {
     /// Closes a load that this caller leads and that failed. The key's entry leaves if it has expired meanwhile.
     pub fn fail(&mut self, id: u64, key: &K, now: u64) -> (Landed, AllLeft<K, V>) {
         match self.found(self.hasher.hash_one(key), key) {
-            Some(at) => ended(self.store.fail(id, at, now)),
+            Some(at) => {
+                let mut left = Several::none();
+                let load = self.store.fail((id, at), now, &mut left);
+                ended(load, left)
+            }
             None => self.land_nothing(id, key, now),
         }
     }
@@ -93,7 +113,9 @@ impl<K: Hash + Eq + Clone, V> Cache<K, V> {
         Q: Hash + Eq + ?Sized,
     {
         let number = self.number(key);
-        self.store.drop_key(number, now).map(Several::into_vec)
+        let mut left = Several::none();
+        self.store.drop_key(number, now, &mut left)?;
+        Ok(left.into_vec())
     }
 
     /// Lets nobody further join a load of the key that is open, which will store nothing. Tells whether there was one.
@@ -103,17 +125,23 @@ impl<K: Hash + Eq + Clone, V> Cache<K, V> {
         Q: Hash + Eq + ?Sized,
     {
         let number = self.number(key);
-        self.store.forget(number, now).map(|(forgot, left)| (forgot, left.into_vec()))
+        let mut left = Several::none();
+        let forgot = self.store.forget(number, now, &mut left)?;
+        Ok((forgot, left.into_vec()))
     }
 
     /// Takes every entry out.
     pub fn clear(&mut self, now: u64) -> Result<AllLeft<K, V>, Fault> {
-        self.store.clear(now).map(Several::into_vec)
+        let mut left = Several::none();
+        self.store.clear(now, &mut left)?;
+        Ok(left.into_vec())
     }
 
     /// Takes every expired entry out.
     pub fn clean(&mut self, now: u64) -> Result<AllLeft<K, V>, Fault> {
-        self.store.clean(now).map(Several::into_vec)
+        let mut left = Several::none();
+        self.store.clean(now, &mut left)?;
+        Ok(left.into_vec())
     }
 
     /// The numbers of the cache.
@@ -151,8 +179,8 @@ impl<K: Hash + Eq + Clone, V> Cache<K, V> {
 }
 
 // How a load landed, and what left by it. What isn't stored is dropped.
-fn ended<K, V>(ended: Ended<K, V>) -> (Landed, AllLeft<K, V>) {
-    let Ended { landed, value, key, left } = ended;
+fn ended<K, V>(load: Ended<K, V>, left: Several<Left<Arc<K>, V>>) -> (Landed, AllLeft<K, V>) {
+    let Ended { landed, value, key } = load;
     let mut panics = Panics::default();
     panics.of(|| drop(value));
     panics.of(|| drop(key));

@@ -1,27 +1,39 @@
 //! The calls on a key that load nothing.
 use crate::loading::{Loading, Locked};
 use crate::panics::Panics;
+use crate::plain::are_plain;
 use crate::shard::{AllGone, Gone};
 use crate::Fault;
 use std::borrow::Borrow;
 use std::hash::{BuildHasher, Hash};
 use std::sync::Arc;
 
-impl<K: Hash + Eq, V, E> Loading<K, V, E> {
+impl<K: Hash + Eq, V, E, S: BuildHasher> Loading<K, V, E, S> {
     /// The key's value, if it is there, with no load.
-    pub fn look<Q>(&self, key: &Q, now: u64) -> Result<Option<Arc<V>>, Fault>
+    pub fn look<Q>(&self, key: &Q) -> Result<Option<Arc<V>>, Fault>
     where
         K: Borrow<Q>,
         Q: Hash + Eq + ?Sized,
     {
-        let hash = self.hasher.hash_one(key);
+        self.look_at(key, self.clock.now())
+    }
+
+    /// As `look`, at a moment of the caller's clock, in milliseconds.
+    pub fn look_at<Q>(&self, key: &Q, now: u64) -> Result<Option<Arc<V>>, Fault>
+    where
+        K: Borrow<Q>,
+        Q: Hash + Eq + ?Sized,
+    {
+        let hash = self.hash(key);
         let mut shard = self.shard(hash).take();
-        if let Some((row, at)) = self.only::<Q>(&shard, hash) {
-            let found = self.looked(shard, Some(at), hash, now);
-            if let Some(found) = self.is_of(row, key, found) {
-                return found;
+        if !are_plain::<K, Q>() {
+            if let Some((row, at)) = self.only(&shard, hash) {
+                let found = self.looked(shard, Some(at), hash, now);
+                if let Some(found) = self.is_of(row, key, found) {
+                    return found;
+                }
+                shard = self.shard(hash).take();
             }
-            shard = self.shard(hash).take();
         }
         let (shard, at) = self.found(shard, hash, key);
         self.looked(shard, at, hash, now)
@@ -41,73 +53,127 @@ impl<K: Hash + Eq, V, E> Loading<K, V, E> {
     }
 
     /// Takes the key's entry out, and returns what left. A load of the key that is open will store nothing.
-    pub fn drop_key<Q>(&self, key: &Q, now: u64) -> Result<Vec<Gone<K, V>>, Fault>
+    pub fn drop_key<Q>(&self, key: &Q) -> Result<Vec<Gone<K, V>>, Fault>
     where
         K: Borrow<Q>,
         Q: Hash + Eq + ?Sized,
     {
-        let hash = self.hasher.hash_one(key);
+        self.drop_key_at(key, self.clock.now())
+    }
+
+    /// As `drop_key`, at a moment of the caller's clock, in milliseconds.
+    pub fn drop_key_at<Q>(&self, key: &Q, now: u64) -> Result<Vec<Gone<K, V>>, Fault>
+    where
+        K: Borrow<Q>,
+        Q: Hash + Eq + ?Sized,
+    {
+        let hash = self.hash(key);
         let (mut shard, at) = self.found(self.shard(hash).take(), hash, key);
         let number = shard.store.number(at, hash);
-        let dropped = shard.store.drop_key(number, now);
-        let left = shard.count(dropped, |left| left);
+        let mut left = AllGone::none();
+        let dropped = shard.store.drop_key(number, now, &mut left);
+        shard.counted(dropped)?;
         drop(shard);
-        Ok(self.listener.told(left?, Panics::default()))
+        Ok(self.listener.told(left, Panics::default()))
     }
 
     /// Lets nobody further join a load of the key that is open, which will store nothing. Tells whether there was one.
-    pub fn forget<Q>(&self, key: &Q, now: u64) -> Result<bool, Fault>
+    pub fn forget<Q>(&self, key: &Q) -> Result<bool, Fault>
     where
         K: Borrow<Q>,
         Q: Hash + Eq + ?Sized,
     {
-        let hash = self.hasher.hash_one(key);
+        self.forget_at(key, self.clock.now())
+    }
+
+    /// As `forget`, at a moment of the caller's clock, in milliseconds.
+    pub fn forget_at<Q>(&self, key: &Q, now: u64) -> Result<bool, Fault>
+    where
+        K: Borrow<Q>,
+        Q: Hash + Eq + ?Sized,
+    {
+        let hash = self.hash(key);
         let (mut shard, at) = self.found(self.shard(hash).take(), hash, key);
         let number = shard.store.number(at, hash);
-        let forgot = shard.store.forget(number, now);
-        let forgot = shard.count(forgot, |(_, left)| left);
+        let mut left = AllGone::none();
+        let forgot = shard.store.forget(number, now, &mut left);
+        let forgot = shard.counted(forgot)?;
         drop(shard);
-        let (forgot, left) = forgot?;
         self.listener.release(left);
         Ok(forgot)
     }
 
-    /// Stores the value under the key, and returns what left.
-    pub fn put<Q>(&self, key: &Q, value: Arc<V>, weight: u32, now: u64) -> Result<Vec<Gone<K, V>>, Fault>
+    /// Stores the value under the key. What left is dropped, once the listener was told.
+    pub fn store<Q>(&self, key: &Q, value: Arc<V>, weight: u32) -> Result<(), Fault>
     where
         K: Borrow<Q>,
         Q: Hash + Eq + ToOwned<Owned = K> + ?Sized,
     {
-        let (left, panics) = self.stored(key, value, weight, now)?;
+        self.store_at(key, value, weight, self.clock.now())
+    }
+
+    /// As `store`, at a moment of the caller's clock, in milliseconds.
+    pub fn store_at<Q>(&self, key: &Q, value: Arc<V>, weight: u32, now: u64) -> Result<(), Fault>
+    where
+        K: Borrow<Q>,
+        Q: Hash + Eq + ToOwned<Owned = K> + ?Sized,
+    {
+        let (mut left, mut panics) = (AllGone::none(), Panics::default());
+        self.stored(key, value, weight, now, &mut left, &mut panics)?;
+        self.listener.release_into(left, &mut panics);
+        panics.pass_on();
+        Ok(())
+    }
+
+    /// Stores the value under the key, and returns what left. `store` doesn't, and takes less time.
+    pub fn put<Q>(&self, key: &Q, value: Arc<V>, weight: u32) -> Result<Vec<Gone<K, V>>, Fault>
+    where
+        K: Borrow<Q>,
+        Q: Hash + Eq + ToOwned<Owned = K> + ?Sized,
+    {
+        self.put_at(key, value, weight, self.clock.now())
+    }
+
+    /// As `put`, at a moment of the caller's clock, in milliseconds.
+    pub fn put_at<Q>(&self, key: &Q, value: Arc<V>, weight: u32, now: u64) -> Result<Vec<Gone<K, V>>, Fault>
+    where
+        K: Borrow<Q>,
+        Q: Hash + Eq + ToOwned<Owned = K> + ?Sized,
+    {
+        let (mut left, mut panics) = (AllGone::none(), Panics::default());
+        self.stored(key, value, weight, now, &mut left, &mut panics)?;
         Ok(self.listener.told(left, panics))
     }
 
-    // What left by a value that was stored, and the panic of the drop of a key that was cloned and isn't needed.
+    // Stores the value. What left and a panic of the drop of what isn't needed are handed out. If the call is refused, nothing left,
+    // and such a panic is passed on.
     #[inline]
-    fn stored<Q>(&self, key: &Q, value: Arc<V>, weight: u32, now: u64) -> Result<(AllGone<K, V>, Panics), Fault>
+    fn stored<Q>(
+        &self,
+        key: &Q,
+        value: Arc<V>,
+        weight: u32,
+        now: u64,
+        left: &mut AllGone<K, V>,
+        panics: &mut Panics,
+    ) -> Result<(), Fault>
     where
         K: Borrow<Q>,
         Q: Hash + Eq + ToOwned<Owned = K> + ?Sized,
     {
-        let hash = self.hasher.hash_one(key);
+        let hash = self.hash(key);
         let (mut shard, place, cloned) = self.place(self.shard(hash).take(), hash, key);
-        let (put, refused) = match shard.store.put(place, value, weight, now) {
-            Ok(left) => (Ok(left), None),
-            Err((fault, value)) => (Err(fault), Some(value)),
+        let put = shard.store.put(place, value, weight, now, left);
+        let refused = match put {
+            Ok(()) if cloned.is_none() => return Ok(()),
+            Ok(()) => None,
+            Err((fault, value)) => Some((shard.stats.refuse(fault), value)),
         };
-        let left = shard.count(put, |left| left);
         drop(shard);
-        let mut panics = Panics::default();
-        if cloned.is_some() || refused.is_some() {
-            panics.of(|| drop(refused));
-            panics.of(|| drop(cloned));
-        }
-        match left {
-            Ok(left) => Ok((left, panics)),
-            Err(fault) => {
-                panics.pass_on();
-                Err(fault)
-            }
-        }
+        panics.of(|| drop(cloned));
+        let Some((fault, value)) = refused else { return Ok(()) };
+        panics.of(|| drop(value));
+        std::mem::take(panics).pass_on();
+        Err(fault)
     }
 }

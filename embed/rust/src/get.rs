@@ -3,11 +3,13 @@ use crate::flight::{own_thread, Flight, Outcome};
 use crate::lead::Lead;
 use crate::loading::{Loading, Locked};
 use crate::panics::Panics;
+use crate::plain::are_plain;
 use crate::table::Place;
 use crate::{Fault, Found, GetError};
 use std::borrow::Borrow;
 use std::hash::{BuildHasher, Hash};
 use std::sync::Arc;
+use std::time::Instant;
 
 // What a seek found.
 enum Sought<'a, K, V, E> {
@@ -16,19 +18,50 @@ enum Sought<'a, K, V, E> {
     Lead(Lead<'a, K, V, E>),
 }
 
-impl<K: Hash + Eq, V, E> Loading<K, V, E> {
+impl<K: Hash + Eq, V, E, S: BuildHasher> Loading<K, V, E, S> {
     /// The key's value; if there is none, that of one load, which all who ask meanwhile share.
     ///
-    /// `load` returns the value and its weight. The value's age counts from `now`, the moment of this call, not from the end of
-    /// the load. A due entry is loaded again by the first who asks, in its own thread: it is given the new value, or the old one
-    /// if that load fails; the others get the old value meanwhile. If the loader panics, its caller gets the panic, and those who
-    /// shared the load ask again.
-    pub fn get<Q>(&self, key: &Q, now: u64, load: impl FnOnce() -> Result<(V, u32), E>) -> Result<Arc<V>, GetError<E>>
+    /// `load` returns the value and its weight. The value's age counts from this call, not from the end of the load. A due entry is
+    /// loaded again by the first who asks, in its own thread: it is given the new value, or the old one if that load fails; the
+    /// others get the old value meanwhile. If the loader panics, its caller gets the panic, and those who shared the load ask again.
+    pub fn get<Q>(&self, key: &Q, load: impl FnOnce() -> Result<(V, u32), E>) -> Result<Arc<V>, GetError<E>>
     where
         K: Borrow<Q>,
         Q: Hash + Eq + ToOwned<Owned = K> + ?Sized,
     {
-        let hash = self.hasher.hash_one(key);
+        self.get_at(key, self.clock.now(), load)
+    }
+
+    /// As `get`, with a loader that returns the value alone, which then weighs 1.
+    pub fn try_get_with<Q>(&self, key: &Q, load: impl FnOnce() -> Result<V, E>) -> Result<Arc<V>, GetError<E>>
+    where
+        K: Borrow<Q>,
+        Q: Hash + Eq + ToOwned<Owned = K> + ?Sized,
+    {
+        self.get(key, || Ok((load()?, 1)))
+    }
+
+    /// As `try_get_with`, with a loader that doesn't fail. A load by another call, which this one joins, may fail all the same.
+    pub fn get_with<Q>(&self, key: &Q, load: impl FnOnce() -> V) -> Result<Arc<V>, GetError<E>>
+    where
+        K: Borrow<Q>,
+        Q: Hash + Eq + ToOwned<Owned = K> + ?Sized,
+    {
+        self.get(key, || Ok((load(), 1)))
+    }
+
+    /// As `get`, at a moment of the caller's clock, in milliseconds.
+    pub fn get_at<Q>(
+        &self,
+        key: &Q,
+        now: u64,
+        load: impl FnOnce() -> Result<(V, u32), E>,
+    ) -> Result<Arc<V>, GetError<E>>
+    where
+        K: Borrow<Q>,
+        Q: Hash + Eq + ToOwned<Owned = K> + ?Sized,
+    {
+        let hash = self.hash(key);
         let got = loop {
             match self.seek(hash, key, now).map_err(GetError::Refused)? {
                 Sought::Value(value) => break Ok(value),
@@ -46,14 +79,33 @@ impl<K: Hash + Eq, V, E> Loading<K, V, E> {
         got
     }
 
-    #[inline]
+    #[inline(always)]
     fn seek<Q>(&self, hash: u64, key: &Q, now: u64) -> Result<Sought<'_, K, V, E>, Fault>
     where
         K: Borrow<Q>,
         Q: Hash + Eq + ToOwned<Owned = K> + ?Sized,
     {
-        let mut shard = self.shard(hash).take();
-        if let Some((row, at)) = self.only::<Q>(&shard, hash) {
+        let shard = self.shard(hash).take();
+        if are_plain::<K, Q>() {
+            let (shard, place, _) = self.place(shard, hash, key);
+            return self.sought(shard, hash, place, now);
+        }
+        self.seek_unlocked(shard, hash, key, now)
+    }
+
+    // The same of a key that is compared and cloned while the lock is given back.
+    fn seek_unlocked<'a, Q>(
+        &'a self,
+        mut shard: Locked<'a, K, V, E>,
+        hash: u64,
+        key: &Q,
+        now: u64,
+    ) -> Result<Sought<'a, K, V, E>, Fault>
+    where
+        K: Borrow<Q>,
+        Q: Hash + Eq + ToOwned<Owned = K> + ?Sized,
+    {
+        if let Some((row, at)) = self.only(&shard, hash) {
             let sought = self.sought(shard, hash, Place::At(at), now);
             // A load that was opened for another key lands as failed as it is dropped.
             if let Some(sought) = self.is_of(row, key, sought) {
@@ -68,7 +120,7 @@ impl<K: Hash + Eq, V, E> Loading<K, V, E> {
         panics.checked(sought)
     }
 
-    #[inline]
+    #[inline(always)]
     fn sought<'a>(
         &'a self,
         mut shard: Locked<'a, K, V, E>,
@@ -76,50 +128,50 @@ impl<K: Hash + Eq, V, E> Loading<K, V, E> {
         place: Place<K>,
         now: u64,
     ) -> Result<Sought<'a, K, V, E>, Fault> {
-        let (found, at) = match shard.store.seek(place, now) {
-            Ok(found) => found,
-            Err(fault) => return Err(shard.stats.refuse(fault)),
-        };
-        let at = at.expect("a key that is there or is loaded has a row");
-        let (id, old) = match found {
-            Found::Hit(token) => {
+        match shard.store.seek(&place, now) {
+            Ok(Ok(value)) => {
+                let value = value.clone();
                 shard.stats.hits += 1;
-                let value = shard.store.value(token).clone();
                 self.give_back(shard);
-                return Ok(Sought::Value(value));
+                Ok(Sought::Value(value))
             }
-            Found::Join(_) => {
+            Ok(Err(found)) => Ok(self.joined_or_led(shard, hash, place, now, found)),
+            Err(fault) => Err(shard.stats.refuse(fault)),
+        }
+    }
+
+    #[inline(never)]
+    fn joined_or_led<'a>(
+        &'a self,
+        mut shard: Locked<'a, K, V, E>,
+        hash: u64,
+        place: Place<K>,
+        now: u64,
+        found: Found,
+    ) -> Sought<'a, K, V, E> {
+        let (id, old) = match found {
+            Found::Lead(id) => {
                 shard.stats.misses += 1;
-                shard.stats.joins += 1;
-                let flight = shard.joined(at);
-                self.give_back(shard);
-                return Ok(Sought::Join(flight));
+                (id, None)
             }
             Found::HitLead(token, id) => {
                 shard.stats.hits += 1;
                 shard.stats.refreshes += 1;
                 (id, Some(shard.store.value(token).clone()))
             }
-            Found::Lead(id) => {
+            _ => {
                 shard.stats.misses += 1;
-                (id, None)
+                shard.stats.joins += 1;
+                let flight = shard.joined(&place);
+                self.give_back(shard);
+                return Sought::Join(flight);
             }
-            Found::Absent => unreachable!("a seek hits, joins or leads"),
         };
+        let at = shard.store.table.open(place);
         let load = shard.led(at, own_thread());
-        let left = shard.left();
+        let left = if shard.store.has_left() { Some(Box::new(shard.store.left())) } else { None };
         drop(shard);
-        Ok(Sought::Lead(Lead {
-            of: self,
-            shard: self.shard(hash),
-            id,
-            load,
-            at,
-            now,
-            old,
-            left,
-            begun: None,
-            has_landed: false,
-        }))
+        let (listener, shard, begun) = (&self.listener, self.shard(hash), Instant::now());
+        Sought::Lead(Lead { listener, shard, id, load, at, now, old, left, begun })
     }
 }

@@ -1,16 +1,17 @@
 //! A load that this thread makes.
 use crate::flight::Outcome;
+use crate::listener::Listener;
 use crate::lock::Lock;
 use crate::panics::Panics;
 use crate::shard::{AllGone, Shard};
 use crate::store::Ended;
-use crate::{GetError, Landed, Loading};
+use crate::{GetError, Landed};
 use std::sync::Arc;
-use std::time::{Duration, Instant};
+use std::time::Instant;
 
 /// A load that this thread makes. If it is dropped before it lands, it lands as failed and those who joined ask again.
 pub(crate) struct Lead<'a, K, V, E> {
-    pub(crate) of: &'a Loading<K, V, E>,
+    pub(crate) listener: &'a Listener<K, V>,
     pub(crate) shard: &'a Lock<Shard<K, V, E>>,
     pub(crate) id: u64,
     /// The place of the load among those of the shard.
@@ -22,24 +23,25 @@ pub(crate) struct Lead<'a, K, V, E> {
     /// What a refresh is to replace.
     pub(crate) old: Option<Arc<V>>,
     /// What left by the seek. It is told once the load has landed, so that a listener may ask for the key.
-    pub(crate) left: AllGone<K, V>,
+    pub(crate) left: Option<Box<AllGone<K, V>>>,
     /// When the load began.
-    pub(crate) begun: Option<Instant>,
-    pub(crate) has_landed: bool,
+    pub(crate) begun: Instant,
 }
 
 impl<K, V, E> Lead<'_, K, V, E> {
     pub(crate) fn make(mut self, load: impl FnOnce() -> Result<(V, u32), E>) -> Result<Arc<V>, GetError<E>> {
-        self.begun = Some(Instant::now());
         match load() {
             Ok((value, weight)) => {
                 let (value, old) = (Arc::new(value), self.old.take());
                 let panics = self.land(Some((value.clone(), weight)), old, || Outcome::Value(value.clone()));
+                // It owns nothing more, and has landed.
+                std::mem::forget(self);
                 panics.checked(Ok(value))
             }
             Err(error) => {
                 let (error, old) = (Arc::new(error), self.old.take());
                 let mut panics = self.land(None, None, || Outcome::Failed(error.clone()));
+                std::mem::forget(self);
                 let Some(old) = old else { return panics.checked(Err(GetError::Load(error))) };
                 panics.of(|| drop(error));
                 panics.checked(Ok(old))
@@ -54,16 +56,16 @@ impl<K, V, E> Lead<'_, K, V, E> {
         old: Option<Arc<V>>,
         outcome: impl FnOnce() -> Outcome<V, E>,
     ) -> Panics {
-        self.has_landed = true;
-        let took = self.begun.map_or(Duration::ZERO, |begun| begun.elapsed());
+        let took = self.begun.elapsed();
         let has_value = value.is_some();
         let mut shard = self.shard.take();
         let load = shard.loads.remove(self.load);
-        let Ended { landed, value, key, left } = match value {
-            Some((value, weight)) => shard.store.land(self.id, self.at, value, weight, self.now),
-            None => shard.store.fail(self.id, self.at, self.now),
+        let mut left = self.left.take().map_or_else(AllGone::none, |left| *left);
+        let load_of = (self.id, self.at);
+        let Ended { landed, value, key } = match value {
+            Some(value) => shard.store.land(load_of, value, self.now, &mut left),
+            None => shard.store.fail(load_of, self.now, &mut left),
         };
-        shard.stats.tell(&left);
         shard.stats.load_time += took;
         shard.stats.loads += u64::from(has_value);
         shard.stats.failed += u64::from(!has_value);
@@ -73,8 +75,7 @@ impl<K, V, E> Lead<'_, K, V, E> {
             flight.tell(outcome());
         }
         let mut panics = Panics::default();
-        self.of.listener.release_into(std::mem::replace(&mut self.left, AllGone::none()), &mut panics);
-        self.of.listener.release_into(left, &mut panics);
+        self.listener.release_into(left, &mut panics);
         panics.of(|| drop(value));
         panics.of(|| drop(key));
         panics.of(|| drop(old));
@@ -82,11 +83,10 @@ impl<K, V, E> Lead<'_, K, V, E> {
     }
 }
 
+// The loader panicked, or the load was opened for another key.
 impl<K, V, E> Drop for Lead<'_, K, V, E> {
     fn drop(&mut self) {
-        if !self.has_landed {
-            let old = self.old.take();
-            self.land(None, old, || Outcome::Again).pass_on();
-        }
+        let old = self.old.take();
+        self.land(None, old, || Outcome::Again).pass_on();
     }
 }

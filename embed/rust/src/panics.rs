@@ -26,10 +26,15 @@ impl Panics {
     /// Returns the thing if no call panicked; else drops it, and passes the first panic on. If another panic is under way, that one
     /// goes on, so the thing is returned and the calls' panics are lost.
     #[inline]
-    pub(crate) fn checked<T>(mut self, thing: T) -> T {
+    pub(crate) fn checked<T>(self, thing: T) -> T {
         if self.0.is_none() || std::thread::panicking() {
             return thing;
         }
+        self.passed_on(thing)
+    }
+
+    #[cold]
+    fn passed_on<T>(mut self, thing: T) -> ! {
         self.of(|| drop(thing));
         resume_unwind(self.0.expect("there is one"))
     }

@@ -30,6 +30,8 @@ impl<T> Several<T> {
     pub(crate) fn for_each(self, mut call: impl FnMut(T)) {
         if let Some(first) = self.first {
             call(first);
+        }
+        if !self.more.is_empty() {
             self.more.into_iter().for_each(call);
         }
     }

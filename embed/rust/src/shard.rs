@@ -2,6 +2,7 @@
 use crate::flight::Flight;
 use crate::slab::Slab;
 use crate::store::{AllLeft, Store};
+use crate::table::Place;
 use crate::{Fault, Left, Setup, Stats};
 use std::sync::Arc;
 use std::thread::ThreadId;
@@ -55,31 +56,20 @@ impl<K, V, E> Shard<K, V, E> {
         load
     }
 
-    /// The newest load of the row, which one more joins.
-    pub(crate) fn joined(&mut self, at: u32) -> Arc<Flight<V, E>> {
-        let load = &mut self.loads[self.store.table.row(at).newest];
+    /// The newest load of the place, which one more joins.
+    pub(crate) fn joined(&mut self, place: &Place<K>) -> Arc<Flight<V, E>> {
+        let Place::At(at) = place else { unreachable!("a key that is loaded has a row") };
+        let load = &mut self.loads[self.store.table.row(*at).newest];
         load.flight.get_or_insert_with(|| Arc::new(Flight::of(load.leader))).clone()
     }
 
-    /// What left by the latest call, which wasn't refused.
+    /// Counts a call that was refused.
     #[inline]
-    pub(crate) fn left(&mut self) -> AllGone<K, V> {
-        let left = self.store.left();
-        self.stats.tell(&left);
-        left
+    pub(crate) fn counted<T>(&mut self, made: Result<T, Fault>) -> Result<T, Fault> {
+        made.map_err(|fault| self.stats.refuse(fault))
     }
 
-    pub(crate) fn count<T>(
-        &mut self,
-        left: Result<T, Fault>,
-        tell: impl FnOnce(&T) -> &AllGone<K, V>,
-    ) -> Result<T, Fault> {
-        match left {
-            Ok(left) => {
-                self.stats.tell(tell(&left));
-                Ok(left)
-            }
-            Err(fault) => Err(self.stats.refuse(fault)),
-        }
+    pub(crate) fn stats(&self) -> Stats {
+        self.stats.with(self.store.causes)
     }
 }

@@ -19,16 +19,18 @@ impl<T> Slab<T> {
     }
 
     /// Keeps the thing, and returns its place.
+    #[inline]
     pub(crate) fn insert(&mut self, thing: T) -> u32 {
-        let at = self.next();
-        match self.free.pop() {
-            Some(_) => self.places[at as usize] = Some(thing),
-            None => self.places.push(Some(thing)),
+        if let Some(at) = self.free.pop() {
+            self.places[at as usize] = Some(thing);
+            return at;
         }
-        at
+        self.places.push(Some(thing));
+        self.places.len() as u32 - 1
     }
 
     /// Takes out what is at the place.
+    #[inline]
     pub(crate) fn remove(&mut self, at: u32) -> T {
         let thing = self.places[at as usize].take().expect("the place is taken");
         self.free.push(at);

@@ -1,6 +1,5 @@
 //! What an operator wants to know of a cache.
-use crate::store::AllLeft;
-use crate::{Cause, Fault};
+use crate::Fault;
 use std::ops::AddAssign;
 use std::time::Duration;
 
@@ -39,16 +38,10 @@ pub struct Stats {
 }
 
 impl Stats {
-    #[inline]
-    pub(crate) fn tell<K, V>(&mut self, left: &AllLeft<K, V>) {
-        for left in left.iter() {
-            *match left.cause {
-                Cause::Explicit => &mut self.explicit,
-                Cause::Replaced => &mut self.replaced,
-                Cause::Expired => &mut self.expired,
-                Cause::Size => &mut self.size,
-            } += 1;
-        }
+    /// These counts, with how many entries have left by their cause.
+    pub(crate) fn with(self, causes: [u64; 4]) -> Stats {
+        let [explicit, replaced, expired, size] = causes;
+        Stats { explicit, replaced, expired, size, ..self }
     }
 
     pub(crate) fn refuse(&mut self, fault: Fault) -> Fault {

@@ -29,18 +29,22 @@ pub struct Left<K, V> {
     pub cause: Cause,
 }
 
-/// What left by a call.
+/// What left by a call, or by several.
 pub(crate) type AllLeft<K, V> = Several<Left<Arc<K>, V>>;
 
 /// A cache of tokens, with a row for each key that is in use.
+///
+/// A call that makes entries leave adds them to what it is handed.
 pub(crate) struct Store<K, V> {
     pub(crate) tokens: Tokens,
     pub(crate) table: Table<K, V>,
+    /// How many entries have left, by their cause.
+    pub(crate) causes: [u64; 4],
 }
 
 impl<K, V> Store<K, V> {
     pub(crate) fn open(setup: &Setup) -> Result<Self, Fault> {
-        Ok(Store { tokens: Tokens::open(setup)?, table: Table::new() })
+        Ok(Store { tokens: Tokens::open(setup)?, table: Table::new(), causes: [0; 4] })
     }
 
     #[inline]
@@ -68,16 +72,17 @@ impl<K, V> Store<K, V> {
         }
     }
 
-    /// A seek, with the key's row if it has one. A load that it opened uses the row. `left` tells what left by it.
+    /// A seek. Returns the value if it is there, or else what was found. `left` tells what left by it.
     #[inline]
-    pub(crate) fn seek(&mut self, place: Place<K>, now: u64) -> Result<(Found, Option<u32>), Fault> {
-        let found = self.tokens.seek(self.table.number(&place), now)?;
-        let at = match (found, place) {
-            (Found::Lead(_) | Found::HitLead(..), place) => Some(self.table.open(place)),
-            (_, Place::At(at)) => Some(at),
-            (_, Place::New { .. }) => None,
+    pub(crate) fn seek(&mut self, place: &Place<K>, now: u64) -> Result<Result<&V, Found>, Fault> {
+        let (row, number) = match place {
+            Place::At(at) => (Some(self.table.row(*at)), self.table.row(*at).number),
+            Place::New { number, .. } => (None, *number),
         };
-        Ok((found, at))
+        match self.tokens.seek(number, now)? {
+            found @ Found::Hit(_) => Ok(row.and_then(|row| row.value.as_ref()).ok_or(found)),
+            found => Ok(Err(found)),
+        }
     }
 
     /// Stores the value. One that is refused is given back.
@@ -88,12 +93,14 @@ impl<K, V> Store<K, V> {
         value: V,
         weight: u32,
         now: u64,
-    ) -> Result<AllLeft<K, V>, (Fault, V)> {
+        left: &mut AllLeft<K, V>,
+    ) -> Result<(), (Fault, V)> {
         let (number, token) = (self.table.number(&place), self.table.next_token(&place));
         match self.tokens.put(number, Token { token, weight }, now) {
             Ok(()) => {
                 let old = self.table.store(place, value);
-                Ok(self.left_with(old))
+                self.take_out(old, left);
+                Ok(())
             }
             Err(fault) => {
                 drop(place);
@@ -103,54 +110,65 @@ impl<K, V> Store<K, V> {
     }
 
     /// Closes a load that used the row. If memory is refused it is closed without storing. A value that isn't stored is given back.
-    pub(crate) fn land(&mut self, id: u64, at: u32, value: V, weight: u32, now: u64) -> Ended<K, V> {
+    pub(crate) fn land(
+        &mut self,
+        (id, at): (u64, u32),
+        (value, weight): (V, u32),
+        now: u64,
+        left: &mut AllLeft<K, V>,
+    ) -> Ended<K, V> {
         let number = self.table.row(at).number;
         let token = self.table.next_token(&Place::At(at));
         match self.tokens.land_keep(id, number, Token { token, weight }, now) {
             Ok(landed @ Landed::Kept(_)) => {
                 let old = self.table.store(Place::At(at), value);
                 let key = self.table.close(at);
-                Ended { landed, value: None, key, left: self.left_with(old) }
+                self.take_out(old, left);
+                Ended { landed, value: None, key }
             }
-            Ok(landed) => self.ended(landed, at, Some(value)),
+            Ok(landed) => self.ended(landed, at, Some(value), left),
             Err(_) => {
                 let landed = self.tokens.land_loose(id, number, now).unwrap_or(Landed::Gone);
-                self.ended(landed, at, Some(value))
+                self.ended(landed, at, Some(value), left)
             }
         }
     }
 
     /// Closes a load that used the row and failed.
-    pub(crate) fn fail(&mut self, id: u64, at: u32, now: u64) -> Ended<K, V> {
+    pub(crate) fn fail(&mut self, (id, at): (u64, u32), now: u64, left: &mut AllLeft<K, V>) -> Ended<K, V> {
         let landed = self.tokens.land_failed(id, self.table.row(at).number, now).unwrap_or(Landed::Gone);
-        self.ended(landed, at, None)
+        self.ended(landed, at, None, left)
     }
 
     // A load of the row ended, and stored nothing.
-    fn ended(&mut self, landed: Landed, at: u32, value: Option<V>) -> Ended<K, V> {
-        let left = self.left();
+    fn ended(&mut self, landed: Landed, at: u32, value: Option<V>, left: &mut AllLeft<K, V>) -> Ended<K, V> {
+        self.take_out(None, left);
         let key = if landed == Landed::Gone { None } else { self.table.close(at) };
-        Ended { landed, value, key, left }
+        Ended { landed, value, key }
     }
 
-    pub(crate) fn drop_key(&mut self, number: u64, now: u64) -> Result<AllLeft<K, V>, Fault> {
+    pub(crate) fn drop_key(&mut self, number: u64, now: u64, left: &mut AllLeft<K, V>) -> Result<(), Fault> {
         self.tokens.drop_key(number, now)?;
-        Ok(self.left())
+        self.take_out(None, left);
+        Ok(())
     }
 
-    pub(crate) fn forget(&mut self, number: u64, now: u64) -> Result<(bool, AllLeft<K, V>), Fault> {
+    pub(crate) fn forget(&mut self, number: u64, now: u64, left: &mut AllLeft<K, V>) -> Result<bool, Fault> {
         let forgot = self.tokens.forget(number, now)?;
-        Ok((forgot, self.left()))
+        self.take_out(None, left);
+        Ok(forgot)
     }
 
-    pub(crate) fn clear(&mut self, now: u64) -> Result<AllLeft<K, V>, Fault> {
+    pub(crate) fn clear(&mut self, now: u64, left: &mut AllLeft<K, V>) -> Result<(), Fault> {
         self.tokens.clear(now)?;
-        Ok(self.left())
+        self.take_out(None, left);
+        Ok(())
     }
 
-    pub(crate) fn clean(&mut self, now: u64) -> Result<AllLeft<K, V>, Fault> {
+    pub(crate) fn clean(&mut self, now: u64, left: &mut AllLeft<K, V>) -> Result<(), Fault> {
         self.tokens.clean(now)?;
-        Ok(self.left())
+        self.take_out(None, left);
+        Ok(())
     }
 
     pub(crate) fn numbers(&mut self) -> Numbers {
@@ -161,29 +179,35 @@ impl<K, V> Store<K, V> {
         self.table.kept()
     }
 
-    /// What left by the latest call. It is asked for once: the rows are given up.
+    /// Whether something left by the latest call.
+    #[inline]
+    pub(crate) fn has_left(&self) -> bool {
+        self.tokens.has_notices()
+    }
+
+    /// Moves out what left by the latest look or seek.
     #[inline]
     pub(crate) fn left(&mut self) -> AllLeft<K, V> {
-        self.left_with(None)
-    }
-
-    // The same of a call that stored a value in place of an old one, which the library tells to have left.
-    #[inline]
-    fn left_with(&mut self, old: Option<V>) -> AllLeft<K, V> {
-        if self.tokens.has_notices() {
-            self.taken_out(old)
-        } else {
-            Several::none()
-        }
-    }
-
-    fn taken_out(&mut self, mut old: Option<V>) -> AllLeft<K, V> {
         let mut left = Several::none();
-        for notice in self.tokens.notices() {
-            let (key, value) = self.table.take(notice.token, &mut old);
-            left.push(Left { key, value, cause: cause(notice.cause) });
-        }
+        self.take_out(None, &mut left);
         left
+    }
+
+    // Moves out what left by the latest call. If that stored a value in place of an old one, the old one is among it.
+    #[inline]
+    fn take_out(&mut self, mut old: Option<V>, left: &mut AllLeft<K, V>) {
+        if self.tokens.has_notices() {
+            self.take_each_out(&mut old, left);
+        }
+    }
+
+    fn take_each_out(&mut self, old: &mut Option<V>, left: &mut AllLeft<K, V>) {
+        for notice in self.tokens.notices() {
+            let (key, value) = self.table.take(notice.token, old);
+            let cause = CAUSES[(notice.cause as usize).wrapping_sub(1) & 3];
+            self.causes[cause as usize] += 1;
+            left.push(Left { key, value, cause });
+        }
     }
 }
 
@@ -213,14 +237,7 @@ pub(crate) struct Ended<K, V> {
     pub(crate) landed: Landed,
     pub(crate) value: Option<V>,
     pub(crate) key: Option<Arc<K>>,
-    pub(crate) left: AllLeft<K, V>,
 }
 
-fn cause(number: u32) -> Cause {
-    match number {
-        1 => Cause::Explicit,
-        2 => Cause::Replaced,
-        3 => Cause::Expired,
-        _ => Cause::Size,
-    }
-}
+// By their numbers in `rookdresser.h`, which begin at 1.
+const CAUSES: [Cause; 4] = [Cause::Explicit, Cause::Replaced, Cause::Expired, Cause::Size];

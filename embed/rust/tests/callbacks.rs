@@ -36,9 +36,9 @@ fn a_loader_that_fails_fails_for_all_and_its_error_need_not_be_clone() {
     std::thread::scope(|s| {
         let joins = s.spawn(|| {
             gate.wait();
-            cache.get(&1, 0, || Ok((2, 1)))
+            cache.get_at(&1, 0, || Ok((2, 1)))
         });
-        let leads = cache.get(&1, 0, || {
+        let leads = cache.get_at(&1, 0, || {
             gate.wait();
             while cache.stats().joins == 0 {
                 std::thread::yield_now();
@@ -54,7 +54,7 @@ fn a_loader_that_fails_fails_for_all_and_its_error_need_not_be_clone() {
 #[test]
 fn the_question_mark_passes_a_get_s_error_on() {
     fn ask(cache: &Loading<u64, u64, Down>) -> Result<u64, Box<dyn std::error::Error>> {
-        Ok(*cache.get(&1, 0, || Err(Down))?)
+        Ok(*cache.get_at(&1, 0, || Err(Down))?)
     }
     let cache = Loading::open(&SETUP).unwrap();
     assert_eq!(ask(&cache).unwrap_err().to_string(), "the load failed: the source is down");
@@ -67,10 +67,10 @@ fn a_loader_that_panics_is_asked_again_by_those_who_joined() {
     std::thread::scope(|s| {
         let joins = s.spawn(|| {
             gate.wait();
-            cache.get(&1, 0, || Ok((2, 1)))
+            cache.get_at(&1, 0, || Ok((2, 1)))
         });
         assert!(panics(|| {
-            let _ = cache.get(&1, 0, || {
+            let _ = cache.get_at(&1, 0, || {
                 gate.wait();
                 while cache.stats().joins == 0 {
                     std::thread::yield_now();
@@ -87,12 +87,12 @@ fn a_loader_that_panics_is_asked_again_by_those_who_joined() {
 #[test]
 fn a_loader_may_use_the_cache_for_other_keys_and_change_its_own() {
     let cache = Loading::<u64, u64, Down>::open(&SETUP).unwrap();
-    let got = cache.get(&1, 0, || {
-        cache.put(&1, Arc::new(7), 1, 0).unwrap();
-        Ok((*cache.get(&2, 0, || Ok((20, 1))).unwrap() + 1, 1))
+    let got = cache.get_at(&1, 0, || {
+        cache.put_at(&1, Arc::new(7), 1, 0).unwrap();
+        Ok((*cache.get_at(&2, 0, || Ok((20, 1))).unwrap() + 1, 1))
     });
     assert_eq!(
-        (got, cache.look(&1, 0), cache.look(&2, 0)),
+        (got, cache.look_at(&1, 0), cache.look_at(&2, 0)),
         (Ok(Arc::new(21)), Ok(Some(Arc::new(7))), Ok(Some(Arc::new(20))))
     );
     assert_eq!(cache.stats().stale, 1);
@@ -104,8 +104,8 @@ fn a_loader_that_asks_for_its_own_key_is_told() {
     within_a_minute(|| {
         let cache = Loading::<u64, u64, GetError<Down>>::open(&SETUP).unwrap();
         let mut inner = Ok(Arc::new(0));
-        let got = cache.get(&1, 0, || {
-            inner = cache.get(&1, 0, || Ok((1, 1)));
+        let got = cache.get_at(&1, 0, || {
+            inner = cache.get_at(&1, 0, || Ok((1, 1)));
             Ok((2, 1))
         });
         assert_eq!((inner, got), (Err(GetError::WaitsForItself), Ok(Arc::new(2))));
@@ -120,9 +120,9 @@ fn loaders_of_two_threads_that_wait_for_each_other_are_told() {
         let (gate, told) = (Barrier::new(2), AtomicU64::new(0));
         // Each loads its key and then asks for the other's.
         let ask = |own: u64, other: u64| {
-            cache.get(&own, 0, || {
+            cache.get_at(&own, 0, || {
                 gate.wait();
-                match cache.get(&other, 0, || Ok((other, 1))) {
+                match cache.get_at(&other, 0, || Ok((other, 1))) {
                     Ok(_) => {}
                     Err(error) => {
                         assert_eq!(error, GetError::WaitsForItself);
@@ -145,9 +145,9 @@ fn loaders_of_two_threads_that_wait_for_each_other_are_told() {
 #[test]
 fn a_weight_out_of_range_stores_nothing_and_is_no_error_of_a_get() {
     let cache = Loading::<u64, u64, Down>::open(&SETUP).unwrap();
-    assert_eq!(cache.get(&1, 0, || Ok((7, u32::MAX))), Ok(Arc::new(7)));
-    assert_eq!(cache.put(&1, Arc::new(7), u32::MAX, 0), Err(Fault::TooHeavy));
-    assert_eq!((cache.look(&1, 0), cache.stats().stale), (Ok(None), 1));
+    assert_eq!(cache.get_at(&1, 0, || Ok((7, u32::MAX))), Ok(Arc::new(7)));
+    assert_eq!(cache.put_at(&1, Arc::new(7), u32::MAX, 0), Err(Fault::TooHeavy));
+    assert_eq!((cache.look_at(&1, 0), cache.stats().stale), (Ok(None), 1));
     assert_eq!(cache.stats().refused[Fault::TooHeavy.place()], 1);
     holds_exactly(&cache);
 }
@@ -155,9 +155,9 @@ fn a_weight_out_of_range_stores_nothing_and_is_no_error_of_a_get() {
 #[test]
 fn a_refresh_that_fails_returns_the_old_value() {
     let cache = Loading::<u64, u64, Down>::open(&Setup { refresh: 50, ..SETUP }).unwrap();
-    cache.put(&1, Arc::new(7), 1, 0).unwrap();
-    assert_eq!(cache.get(&1, 60, || Err(Down)), Ok(Arc::new(7)));
-    assert_eq!(cache.get(&1, 60, || Ok((8, 1))), Ok(Arc::new(8)));
+    cache.put_at(&1, Arc::new(7), 1, 0).unwrap();
+    assert_eq!(cache.get_at(&1, 60, || Err(Down)), Ok(Arc::new(7)));
+    assert_eq!(cache.get_at(&1, 60, || Ok((8, 1))), Ok(Arc::new(8)));
     let Stats { hits, misses, refreshes, loads, failed, replaced, .. } = cache.stats();
     assert_eq!((hits, misses, refreshes, loads, failed, replaced), (2, 0, 2, 1, 1, 1));
 }
@@ -174,9 +174,9 @@ fn an_entry_that_expires_while_its_refresh_fails_is_let_go() {
 
     let cache = Loading::<u64, u64, Down>::open(&setup).unwrap();
     for now in (0..200_000).step_by(200) {
-        cache.put(&1, Arc::new(7), 1, now).unwrap();
-        let got = cache.get(&1, now + 60, || {
-            cache.look(&2, now + 150).unwrap();
+        cache.put_at(&1, Arc::new(7), 1, now).unwrap();
+        let got = cache.get_at(&1, now + 60, || {
+            cache.look_at(&2, now + 150).unwrap();
             Err(Down)
         });
         assert_eq!(got, Ok(Arc::new(7)));
@@ -187,16 +187,16 @@ fn an_entry_that_expires_while_its_refresh_fails_is_let_go() {
 #[test]
 fn the_age_of_a_loaded_value_counts_from_the_get() {
     let cache = Loading::<u64, u64, Down>::open(&Setup { after_write: 100, ..SETUP }).unwrap();
-    assert_eq!(cache.get(&1, 1000, || Ok((7, 1))), Ok(Arc::new(7)));
-    assert_eq!(cache.look(&1, 1099), Ok(Some(Arc::new(7))));
-    assert_eq!(cache.look(&1, 1100), Ok(None));
+    assert_eq!(cache.get_at(&1, 1000, || Ok((7, 1))), Ok(Arc::new(7)));
+    assert_eq!(cache.look_at(&1, 1099), Ok(Some(Arc::new(7))));
+    assert_eq!(cache.look_at(&1, 1100), Ok(None));
     // While the load is made, the clock of the cache moves on: a moment before the latest one counts as the latest.
-    let got = cache.get(&2, 2000, || {
-        cache.look(&3, 2090).unwrap();
+    let got = cache.get_at(&2, 2000, || {
+        cache.look_at(&3, 2090).unwrap();
         Ok((8, 1))
     });
-    assert_eq!((got, cache.look(&2, 2189)), (Ok(Arc::new(8)), Ok(Some(Arc::new(8)))));
-    assert_eq!(cache.look(&2, 2190), Ok(None));
+    assert_eq!((got, cache.look_at(&2, 2189)), (Ok(Arc::new(8)), Ok(Some(Arc::new(8)))));
+    assert_eq!(cache.look_at(&2, 2190), Ok(None));
 }
 
 // A value whose drop uses the cache that it was in.
@@ -207,10 +207,10 @@ static ASKED: OnceLock<Loading<u64, Asks, Down>> = OnceLock::new();
 impl Drop for Asks {
     fn drop(&mut self) {
         let cache = ASKED.get().expect("it is open");
-        cache.drop_key(&(self.0 + 1000), 0).unwrap();
+        cache.drop_key_at(&(self.0 + 1000), 0).unwrap();
         // Its own key, too: a value that drops whenever it is stored would never end.
         if self.0 < 3 {
-            let _ = cache.get(&self.0, 0, || Ok((Asks(self.0 + 3), 1)));
+            let _ = cache.get_at(&self.0, 0, || Ok((Asks(self.0 + 3), 1)));
         }
     }
 }
@@ -220,9 +220,9 @@ fn a_value_s_drop_may_use_the_cache() {
     within_a_minute(|| {
         let cache = ASKED.get_or_init(|| Loading::open(&Setup { entries: 2, ..SETUP }).unwrap());
         for key in 0..20 {
-            assert!(cache.get(&key, 0, || Ok((Asks(key), 1))).is_ok());
+            assert!(cache.get_at(&key, 0, || Ok((Asks(key), 1))).is_ok());
         }
-        drop(cache.clear(0).unwrap());
+        drop(cache.clear_at(0).unwrap());
         holds_exactly(cache);
     });
 }
@@ -254,7 +254,7 @@ fn a_value_s_drop_that_panics_spoils_nothing() {
         let cache = Loading::<u64, Counted, Down>::open(&Setup { entries: 2, ..SETUP }).unwrap();
         // With no AssertUnwindSafe: a panic leaves the cache whole.
         let get = |key, weight| {
-            catch_unwind(|| drop(cache.get(&key, 0, || Ok((Counted::new(&count, true), weight))))).is_err()
+            catch_unwind(|| drop(cache.get_at(&key, 0, || Ok((Counted::new(&count, true), weight))))).is_err()
         };
         // Two are held, so three of five were evicted.
         assert_eq!((0..5).filter(|&key| get(key, 1)).count(), 3);
@@ -277,12 +277,12 @@ fn a_listener_is_told_what_left_in_a_get_and_may_use_the_cache() {
         let cache = CACHE.get_or_init(|| {
             let cache = Loading::open(&Setup { after_write: 100, ..SETUP }).unwrap();
             cache.with_listener(|left| {
-                let again = CACHE.get().unwrap().get(&left.key, 200, || Ok((9, 1)));
+                let again = CACHE.get().unwrap().get_at(&left.key, 200, || Ok((9, 1)));
                 TOLD.lock().unwrap().push((*left.key, *again.unwrap()));
             })
         });
-        cache.put(&1, Arc::new(7), 1, 0).unwrap();
-        assert_eq!(cache.get(&1, 200, || Ok((8, 1))), Ok(Arc::new(8)));
+        cache.put_at(&1, Arc::new(7), 1, 0).unwrap();
+        assert_eq!(cache.get_at(&1, 200, || Ok((8, 1))), Ok(Arc::new(8)));
         // The value that the get loaded was there by the time that the listener was called.
         assert_eq!(*TOLD.lock().unwrap(), [(1, 8)]);
         holds_exactly(cache);
@@ -303,14 +303,14 @@ fn a_loader_or_a_listener_that_blocks_stops_no_other_call() {
         // What the rest of the test does while one thread stands still within a callback.
         let meanwhile = || {
             begun.wait();
-            assert_eq!(cache.get(&2, 0, || Ok((20, 1))), Ok(Arc::new(20)));
-            cache.put(&3, Arc::new(30), 1, 0).unwrap();
-            assert_eq!(cache.look(&3, 0), Ok(Some(Arc::new(30))));
+            assert_eq!(cache.get_at(&2, 0, || Ok((20, 1))), Ok(Arc::new(20)));
+            cache.put_at(&3, Arc::new(30), 1, 0).unwrap();
+            assert_eq!(cache.look_at(&3, 0), Ok(Some(Arc::new(30))));
             end.wait();
         };
         std::thread::scope(|s| {
             let blocked = s.spawn(|| {
-                cache.get(&1, 0, || {
+                cache.get_at(&1, 0, || {
                     begun.wait();
                     end.wait();
                     Ok((10, 1))
@@ -318,9 +318,9 @@ fn a_loader_or_a_listener_that_blocks_stops_no_other_call() {
             });
             meanwhile();
             assert_eq!(blocked.join().unwrap(), Ok(Arc::new(10)));
-            let blocked = s.spawn(|| cache.drop_key(&1, 0).unwrap().len());
+            let blocked = s.spawn(|| cache.drop_key_at(&1, 0).unwrap().len());
             begun.wait();
-            assert_eq!((cache.look(&1, 0), cache.get(&2, 0, || Err(Down))), (Ok(None), Ok(Arc::new(20))));
+            assert_eq!((cache.look_at(&1, 0), cache.get_at(&2, 0, || Err(Down))), (Ok(None), Ok(Arc::new(20))));
             end.wait();
             assert_eq!(blocked.join().unwrap(), 1);
         });
@@ -337,9 +337,9 @@ fn a_listener_that_panics_keeps_nothing_from_being_told() {
         panic!("of the listener")
     });
     for key in 0..3 {
-        cache.put(&key, Arc::new(key), 1, 0).unwrap();
+        cache.put_at(&key, Arc::new(key), 1, 0).unwrap();
     }
-    assert!(panics(|| drop(cache.clear(0))));
+    assert!(panics(|| drop(cache.clear_at(0))));
     assert_eq!((told.load(Ordering::SeqCst), cache.numbers().entries), (3, 0));
     drop(cache);
     assert_eq!(told.load(Ordering::SeqCst), 3);
@@ -347,9 +347,9 @@ fn a_listener_that_panics_keeps_nothing_from_being_told() {
     let cache = Loading::<u64, u64, Down>::open(&Setup { entries: 1, ..SETUP })
         .unwrap()
         .with_listener(|_| panic!("of the listener"));
-    cache.put(&1, Arc::new(1), 1, 0).unwrap();
-    assert!(panics(|| drop(cache.put(&1, Arc::new(2), 1, 0))));
-    assert_eq!(cache.look(&1, 0), Ok(Some(Arc::new(2))));
+    cache.put_at(&1, Arc::new(1), 1, 0).unwrap();
+    assert!(panics(|| drop(cache.put_at(&1, Arc::new(2), 1, 0))));
+    assert_eq!(cache.look_at(&1, 0), Ok(Some(Arc::new(2))));
     holds_exactly(&cache);
     assert!(panics(|| drop(cache)));
 }
@@ -364,7 +364,7 @@ fn dropping_the_cache_tells_the_listener_what_was_there() {
             assert_ne!(*left.key, 2, "of the listener");
         });
         for key in 1..4 {
-            assert_eq!(cache.get(&key, 0, || Ok((key * 10, 1))), Ok(Arc::new(key * 10)));
+            assert_eq!(cache.get_at(&key, 0, || Ok((key * 10, 1))), Ok(Arc::new(key * 10)));
         }
         assert!(panics(|| drop(cache)));
         let mut told = told.lock().unwrap();
@@ -392,8 +392,8 @@ impl PartialEq for Odd {
         assert!(self.0 != 98 && other.0 != 98, "of the equality");
         // An equality that asks the cache for its own key, once.
         if IN_EQ.swap(0, Ordering::SeqCst) == 1 {
-            ODD.get().unwrap().look(self, 0).unwrap();
-            ODD.get().unwrap().put(&Odd(50), Arc::new(50), 1, 0).unwrap();
+            ODD.get().unwrap().look_at(self, 0).unwrap();
+            ODD.get().unwrap().put_at(&Odd(50), Arc::new(50), 1, 0).unwrap();
         }
         self.0 == other.0
     }
@@ -404,7 +404,7 @@ impl Eq for Odd {}
 impl Clone for Odd {
     fn clone(&self) -> Odd {
         // A clone that asks the cache.
-        ODD.get().unwrap().look(&Odd(1), 0).unwrap();
+        ODD.get().unwrap().look_at(&Odd(1), 0).unwrap();
         assert_ne!(self.0, 97, "of the clone");
         Odd(self.0)
     }
@@ -415,21 +415,21 @@ fn a_key_s_hash_equality_and_clone_may_panic_and_use_the_cache() {
     within_a_minute(|| {
         let cache = ODD.get_or_init(|| Loading::open(&SETUP).unwrap());
         for key in 0..4 {
-            assert_eq!(cache.get(&Odd(key), 0, || Ok((key, 1))), Ok(Arc::new(key)));
+            assert_eq!(cache.get_at(&Odd(key), 0, || Ok((key, 1))), Ok(Arc::new(key)));
         }
         for bad in [99, 98, 97] {
-            assert!(panics(|| drop(cache.get(&Odd(bad), 0, || Ok((bad, 1))))));
-            assert!(panics(|| drop(cache.put(&Odd(bad), Arc::new(bad), 1, 0))));
+            assert!(panics(|| drop(cache.get_at(&Odd(bad), 0, || Ok((bad, 1))))));
+            assert!(panics(|| drop(cache.put_at(&Odd(bad), Arc::new(bad), 1, 0))));
             holds_exactly(cache);
         }
         for key in 0..4 {
             IN_EQ.store(1, Ordering::SeqCst);
-            assert_eq!(cache.get(&Odd(key), 0, || Ok((100, 1))), Ok(Arc::new(key)));
-            assert_eq!(cache.look(&Odd(key), 0), Ok(Some(Arc::new(key))));
+            assert_eq!(cache.get_at(&Odd(key), 0, || Ok((100, 1))), Ok(Arc::new(key)));
+            assert_eq!(cache.look_at(&Odd(key), 0), Ok(Some(Arc::new(key))));
         }
-        assert_eq!(cache.drop_key(&Odd(2), 0).unwrap().len(), 1);
-        assert_eq!((cache.look(&Odd(2), 0), cache.look(&Odd(3), 0)), (Ok(None), Ok(Some(Arc::new(3)))));
-        assert_eq!(cache.look(&Odd(50), 0), Ok(Some(Arc::new(50))));
+        assert_eq!(cache.drop_key_at(&Odd(2), 0).unwrap().len(), 1);
+        assert_eq!((cache.look_at(&Odd(2), 0), cache.look_at(&Odd(3), 0)), (Ok(None), Ok(Some(Arc::new(3)))));
+        assert_eq!(cache.look_at(&Odd(50), 0), Ok(Some(Arc::new(50))));
         holds_exactly(cache);
     });
 }
@@ -438,11 +438,14 @@ fn a_key_s_hash_equality_and_clone_may_panic_and_use_the_cache() {
 fn a_key_alone_of_its_hash_is_not_taken_for_another() {
     ODD.get_or_init(|| Loading::open(&SETUP).unwrap());
     let cache = Loading::<Odd, u64, Down>::open(&Setup { refresh: 10, ..SETUP }).unwrap();
-    cache.put(&Odd(1), Arc::new(1), 1, 0).unwrap();
+    cache.put_at(&Odd(1), Arc::new(1), 1, 0).unwrap();
     // The one row of the hash is tried first, and another key's due entry then stays as it is.
-    assert_eq!(cache.get(&Odd(2), 20, || Ok((2, 1))), Ok(Arc::new(2)));
-    assert_eq!((cache.look(&Odd(1), 20), cache.look(&Odd(2), 20)), (Ok(Some(Arc::new(1))), Ok(Some(Arc::new(2)))));
-    assert_eq!(cache.look(&Odd(3), 20), Ok(None));
+    assert_eq!(cache.get_at(&Odd(2), 20, || Ok((2, 1))), Ok(Arc::new(2)));
+    assert_eq!(
+        (cache.look_at(&Odd(1), 20), cache.look_at(&Odd(2), 20)),
+        (Ok(Some(Arc::new(1))), Ok(Some(Arc::new(2))))
+    );
+    assert_eq!(cache.look_at(&Odd(3), 20), Ok(None));
     holds_exactly(&cache);
 }
 
@@ -497,13 +500,13 @@ fn a_key_s_hash_equality_and_clone_that_block_stop_no_other_call() {
         for at in ["hash", "equality", "clone"] {
             let cache = Loading::<Blocks, u64, Down>::open(&SETUP).unwrap();
             let key = |number, at| Blocks { number, at };
-            cache.put(&key(1, ""), Arc::new(1), 1, 0).unwrap();
+            cache.put_at(&key(1, ""), Arc::new(1), 1, 0).unwrap();
             IS_ARMED.store(1, Ordering::SeqCst);
             std::thread::scope(|s| {
-                let blocked = s.spawn(|| cache.get(&key(2, at), 0, || Ok((2, 1))));
+                let blocked = s.spawn(|| cache.get_at(&key(2, at), 0, || Ok((2, 1))));
                 begun.wait();
-                assert_eq!(cache.look(&key(1, ""), 0), Ok(Some(Arc::new(1))));
-                assert_eq!(cache.get(&key(3, ""), 0, || Ok((3, 1))), Ok(Arc::new(3)));
+                assert_eq!(cache.look_at(&key(1, ""), 0), Ok(Some(Arc::new(1))));
+                assert_eq!(cache.get_at(&key(3, ""), 0, || Ok((3, 1))), Ok(Arc::new(3)));
                 end.wait();
                 assert_eq!(blocked.join().unwrap(), Ok(Arc::new(2)));
             });
@@ -530,7 +533,7 @@ impl std::borrow::Borrow<u64> for Held {
 
 impl Drop for Held {
     fn drop(&mut self) {
-        HELD.get().unwrap().look(&(self.0 + 1000), 0).unwrap();
+        HELD.get().unwrap().look_at(&(self.0 + 1000), 0).unwrap();
         DROPPED.fetch_add(1, Ordering::SeqCst);
         if self.0 == 7 && HOLD_NEXT.swap(0, Ordering::SeqCst) == 1 {
             let (begun, end) = HOLDS.get().unwrap();
@@ -546,23 +549,23 @@ fn drops_of_a_key_and_a_value_may_use_the_cache_and_block() {
         let cache = HELD.get_or_init(|| Loading::open(&Setup { entries: 4, ..SETUP }).unwrap());
         let (begun, end) = HOLDS.get_or_init(|| (Barrier::new(2), Barrier::new(2)));
         for number in 0..20 {
-            assert!(cache.get(&Held(number % 9), 0, || Ok((Held(number), 1))).is_ok());
-            assert!(cache.get(&Held(number + 100), 0, || Err(Down)).is_err());
-            drop(cache.put(&Held(number % 5), Arc::new(Held(number)), 1, 0).unwrap());
-            drop(cache.drop_key(&(number % 3), 0).unwrap());
-            assert_eq!(cache.put(&Held(number), Arc::new(Held(number)), 2000, 0), Err(Fault::TooHeavy));
+            assert!(cache.get_at(&Held(number % 9), 0, || Ok((Held(number), 1))).is_ok());
+            assert!(cache.get_at(&Held(number + 100), 0, || Err(Down)).is_err());
+            drop(cache.put_at(&Held(number % 5), Arc::new(Held(number)), 1, 0).unwrap());
+            drop(cache.drop_key_at(&(number % 3), 0).unwrap());
+            assert_eq!(cache.put_at(&Held(number), Arc::new(Held(number)), 2000, 0), Err(Fault::TooHeavy));
         }
-        drop(cache.clear(0).unwrap());
+        drop(cache.clear_at(0).unwrap());
         holds_exactly(cache);
         // One of the key, one of the value.
         for key in [7, 8] {
-            cache.put(&Held(key), Arc::new(Held(15 - key)), 1, 0).unwrap();
+            cache.put_at(&Held(key), Arc::new(Held(15 - key)), 1, 0).unwrap();
             HOLD_NEXT.store(1, Ordering::SeqCst);
             std::thread::scope(|s| {
-                let blocked = s.spawn(|| drop(cache.clear(0).unwrap()));
+                let blocked = s.spawn(|| drop(cache.clear_at(0).unwrap()));
                 begun.wait();
-                assert!(cache.get(&Held(1), 0, || Ok((Held(1), 1))).is_ok());
-                assert_eq!(cache.look(&1, 0).unwrap().map(|held| held.0), Some(1));
+                assert!(cache.get_at(&Held(1), 0, || Ok((Held(1), 1))).is_ok());
+                assert_eq!(cache.look_at(&1, 0).unwrap().map(|held| held.0), Some(1));
                 end.wait();
                 blocked.join().unwrap();
             });
@@ -589,7 +592,7 @@ impl Hash for Takes {
 impl PartialEq for Takes {
     fn eq(&self, other: &Takes) -> bool {
         if TAKES.swap(0, Ordering::SeqCst) == 1 {
-            assert_eq!(TAKEN.get().unwrap().drop_key(&Takes(1), 0).unwrap().len(), 1);
+            assert_eq!(TAKEN.get().unwrap().drop_key_at(&Takes(1), 0).unwrap().len(), 1);
         }
         self.0 == other.0
     }
@@ -602,7 +605,7 @@ struct Looks;
 
 impl Drop for Looks {
     fn drop(&mut self) {
-        assert!(TAKEN.get().unwrap().look(&Takes(1), 0).unwrap().is_none());
+        assert!(TAKEN.get().unwrap().look_at(&Takes(1), 0).unwrap().is_none());
         LOOKED.fetch_add(1, Ordering::SeqCst);
     }
 }
@@ -612,12 +615,12 @@ fn what_was_looked_up_of_another_key_of_the_hash_is_dropped_with_no_lock_held() 
     within_a_minute(|| {
         let cache = TAKEN.get_or_init(|| Loading::open(&SETUP).unwrap());
         // The row of the hash is the first key's. Its last share is the one that the call itself was given.
-        cache.put(&Takes(1), Arc::new(Looks), 1, 0).unwrap();
+        cache.put_at(&Takes(1), Arc::new(Looks), 1, 0).unwrap();
         TAKES.store(1, Ordering::SeqCst);
-        assert!(cache.look(&Takes(2), 0).unwrap().is_none());
-        cache.put(&Takes(1), Arc::new(Looks), 1, 0).unwrap();
+        assert!(cache.look_at(&Takes(2), 0).unwrap().is_none());
+        cache.put_at(&Takes(1), Arc::new(Looks), 1, 0).unwrap();
         TAKES.store(1, Ordering::SeqCst);
-        assert!(cache.get(&Takes(2), 0, || Err(Down)).is_err());
+        assert!(cache.get_at(&Takes(2), 0, || Err(Down)).is_err());
         assert_eq!(LOOKED.load(Ordering::SeqCst), 2);
         holds_exactly(cache);
     });
@@ -655,11 +658,11 @@ fn a_key_s_hash_and_equality_that_contradict_themselves_leak_nothing() {
         for now in 0..3000 {
             let key = Fickle;
             match now % 5 {
-                0 => drop(cache.put(&key, Arc::new(Counted::new(&count, false)), 1, now).unwrap()),
-                1 => drop(cache.look(&key, now).unwrap()),
-                2 => drop(cache.drop_key(&key, now).unwrap()),
-                3 => drop(cache.get(&key, now, || Err(Down))),
-                _ => assert!(cache.get(&key, now, || Ok((Counted::new(&count, false), 1))).is_ok()),
+                0 => drop(cache.put_at(&key, Arc::new(Counted::new(&count, false)), 1, now).unwrap()),
+                1 => drop(cache.look_at(&key, now).unwrap()),
+                2 => drop(cache.drop_key_at(&key, now).unwrap()),
+                3 => drop(cache.get_at(&key, now, || Err(Down))),
+                _ => assert!(cache.get_at(&key, now, || Ok((Counted::new(&count, false), 1))).is_ok()),
             }
             holds_exactly(&cache);
             assert_eq!(count.load(Ordering::SeqCst), cache.numbers().entries);

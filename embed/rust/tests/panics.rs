@@ -88,14 +88,17 @@ fn nothing_is_cloned_as_an_entry_leaves_during_a_load() {
 fn a_loaded_value_isn_t_kept_for_good_if_the_old_one_panics_as_it_is_dropped() {
     let values = Arc::new(Fuse::default());
     let cache = Loading::<u64, Thing, ()>::open(&Setup { refresh: 10, ..Setup::of(10) }).unwrap();
-    cache.put(&1, Arc::new(values.thing(0)), 1, 0).unwrap();
+    cache.put_at(&1, Arc::new(values.thing(0)), 1, 0).unwrap();
     for now in [20, 40, 60] {
         values.light();
-        assert_eq!(panic_of(|| cache.get(&1, now, || Ok((values.thing(now), 1)))), Some("of a drop"));
+        assert_eq!(panic_of(|| cache.get_at(&1, now, || Ok((values.thing(now), 1)))), Some("of a drop"));
         values.drops_panic.store(false, SeqCst);
-        assert_eq!((values.live.load(SeqCst), cache.look(&1, now).unwrap().map(|value| value.number)), (1, Some(now)));
+        assert_eq!(
+            (values.live.load(SeqCst), cache.look_at(&1, now).unwrap().map(|value| value.number)),
+            (1, Some(now))
+        );
     }
-    drop(cache.clear(60).unwrap());
+    drop(cache.clear_at(60).unwrap());
     assert_eq!(values.live.load(SeqCst), 0);
 }
 
@@ -105,7 +108,7 @@ fn a_key_and_a_value_of_one_entry_may_both_panic_as_they_are_dropped() {
     let cache = Loading::<Thing, Thing, ()>::open(&Setup { window: 1, ..Setup::of(2) }).unwrap();
     let keys: Vec<_> = (0..5).map(|number| fuse.thing(number)).collect();
     fuse.light();
-    let panicked = |key: &Thing| panic_of(|| cache.get(key, 0, || Ok((fuse.thing(key.number), 1)))).is_some();
+    let panicked = |key: &Thing| panic_of(|| cache.get_at(key, 0, || Ok((fuse.thing(key.number), 1)))).is_some();
     // Two entries are held, so three of five were evicted.
     assert_eq!(keys.iter().filter(|key| panicked(key)).count(), 3);
     assert_eq!((cache.kept(), cache.numbers().entries, fuse.live.load(SeqCst)), ((2, 2), 2, 5 + 2 * 2));
@@ -128,7 +131,7 @@ fn a_loader_and_the_drop_of_its_key_may_both_panic() {
     let cache = Loading::<Thing, u64, ()>::open(&Setup::of(2)).unwrap();
     let key = keys.thing(1);
     let got = panic_of(|| {
-        cache.get(&key, 0, || {
+        cache.get_at(&key, 0, || {
             keys.light();
             panic!("of the loader")
         })
@@ -140,7 +143,7 @@ fn a_loader_and_the_drop_of_its_key_may_both_panic() {
     );
     // If the loader fails alone, the call panics for the key.
     let got = panic_of(|| {
-        cache.get(&key, 0, || {
+        cache.get_at(&key, 0, || {
             keys.light();
             Err(())
         })
@@ -153,11 +156,11 @@ fn a_loader_and_the_drop_of_its_key_may_both_panic() {
 fn a_loader_and_the_drop_of_the_old_value_may_both_panic() {
     let values = Arc::new(Fuse::default());
     let cache = Loading::<u64, Thing, ()>::open(&Setup { refresh: 10, ..Setup::of(4) }).unwrap();
-    cache.put(&1, Arc::new(values.thing(1)), 1, 0).unwrap();
+    cache.put_at(&1, Arc::new(values.thing(1)), 1, 0).unwrap();
     let got = panic_of(|| {
-        cache.get(&1, 20, || {
+        cache.get_at(&1, 20, || {
             // The load itself has the last share of the old value now.
-            drop(cache.put(&1, Arc::new(values.thing(2)), 1, 20).unwrap());
+            drop(cache.put_at(&1, Arc::new(values.thing(2)), 1, 20).unwrap());
             assert_eq!(values.live.load(SeqCst), 2);
             values.light();
             panic!("of the loader")
@@ -168,7 +171,7 @@ fn a_loader_and_the_drop_of_the_old_value_may_both_panic() {
         (got, values.live.load(SeqCst), cache.kept(), cache.numbers().flights),
         (Some("of the loader"), 1, (1, 1), 0)
     );
-    assert_eq!(cache.look(&1, 20).unwrap().map(|value| value.number), Some(2));
+    assert_eq!(cache.look_at(&1, 20).unwrap().map(|value| value.number), Some(2));
 }
 
 #[test]
@@ -176,18 +179,18 @@ fn a_call_that_is_made_during_a_panic_lets_that_one_go_on() {
     struct Puts<'a>(&'a Loading<u64, u64, ()>);
     impl Drop for Puts<'_> {
         fn drop(&mut self) {
-            assert_eq!(self.0.put(&1, Arc::new(2), 1, 0).map(|left| left.len()), Ok(0));
-            assert_eq!(*self.0.get(&2, 0, || Ok((3, 1))).unwrap(), 3);
+            assert_eq!(self.0.put_at(&1, Arc::new(2), 1, 0).map(|left| left.len()), Ok(0));
+            assert_eq!(*self.0.get_at(&2, 0, || Ok((3, 1))).unwrap(), 3);
         }
     }
     let cache = Loading::open(&Setup::of(4)).unwrap().with_listener(|_| panic!("of the listener"));
-    cache.put(&1, Arc::new(1), 1, 0).unwrap();
+    cache.put_at(&1, Arc::new(1), 1, 0).unwrap();
     let got = panic_of(|| {
         let _puts = Puts(&cache);
         panic!("of the caller")
     });
     assert_eq!(
-        (got, cache.look(&1, 0).unwrap(), cache.look(&2, 0).unwrap()),
+        (got, cache.look_at(&1, 0).unwrap(), cache.look_at(&2, 0).unwrap()),
         (Some("of the caller"), Some(Arc::new(2)), Some(Arc::new(3)))
     );
     assert_eq!(panic_of(|| drop(cache)), Some("of the listener"));

@@ -65,13 +65,13 @@ fn landing_is_refused(entries: u64) -> bool {
         .unwrap()
         .with_listener(move |left| telling.lock().unwrap().push((*left.key, *left.value, left.cause)));
     for key in 1..=entries {
-        cache.put(&key, Arc::new(key), 1, 0).unwrap();
+        cache.put_at(&key, Arc::new(key), 1, 0).unwrap();
     }
     // A window with a free place asks for memory, and a full one doesn't.
-    cache.drop_key(&entries, 0).unwrap();
+    cache.drop_key_at(&entries, 0).unwrap();
     let before = REFUSED.load(Ordering::SeqCst);
-    let got = cache.get(&1, 60, || {
-        cache.look(&100, 150).unwrap();
+    let got = cache.get_at(&1, 60, || {
+        cache.look_at(&100, 150).unwrap();
         REFUSES.store(true, Ordering::SeqCst);
         Ok((200, 1))
     });
@@ -83,7 +83,7 @@ fn landing_is_refused(entries: u64) -> bool {
     assert_eq!(of_the_key, [(1, 1, Cause::Expired)]);
     let numbers = cache.numbers();
     assert_eq!((cache.kept(), numbers.flights), ((numbers.entries as usize, numbers.entries as usize), 0));
-    assert_eq!(cache.clear(150).unwrap().len() as u64, numbers.entries);
+    assert_eq!(cache.clear_at(150).unwrap().len() as u64, numbers.entries);
     assert_eq!(cache.kept(), (0, 0));
     refused
 }

@@ -40,19 +40,19 @@ fn requests(cache: &Loading<u64, Value, u64>, clock: &AtomicU64, seed: u64) {
         let now = clock.fetch_add(u64::from(random.below(4) == 0), Ordering::SeqCst);
         let key = random.below(2000).min(random.below(2000));
         match random.below(100) {
-            0 => drop(cache.drop_key(&key, now).unwrap()),
-            1 => drop(cache.forget(&key, now).unwrap()),
-            2..=9 => drop(cache.put(&key, Arc::new(Value::new(key)), 1, now).unwrap()),
-            10 => drop(cache.clean(now).unwrap()),
-            11 if random.below(50) == 0 => drop(cache.clear(now).unwrap()),
-            12..=30 => assert!(cache.look(&key, now).unwrap().is_none_or(|value| value.0 == key)),
+            0 => drop(cache.drop_key_at(&key, now).unwrap()),
+            1 => drop(cache.forget_at(&key, now).unwrap()),
+            2..=9 => drop(cache.put_at(&key, Arc::new(Value::new(key)), 1, now).unwrap()),
+            10 => drop(cache.clean_at(now).unwrap()),
+            11 if random.below(50) == 0 => drop(cache.clear_at(now).unwrap()),
+            12..=30 => assert!(cache.look_at(&key, now).unwrap().is_none_or(|value| value.0 == key)),
             what => {
-                let got = cache.get(&key, now, || {
+                let got = cache.get_at(&key, now, || {
                     if what > 95 {
                         return Err(key);
                     }
                     if what > 90 {
-                        cache.drop_key(&key, now).unwrap();
+                        cache.drop_key_at(&key, now).unwrap();
                     } else if what > 85 {
                         std::thread::yield_now();
                     }

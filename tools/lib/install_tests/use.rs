@@ -1,25 +1,16 @@
 //! The lines of embed/rust/README.md, and a load of eight threads.
 use rookdresser::{Loading, Setup};
-use std::sync::Arc;
 
 type Error = Box<dyn std::error::Error + Send + Sync>;
 
-struct Page {
-    text: String,
-}
-
-fn fetch(url: &str) -> Result<Page, Error> {
-    Ok(Page { text: format!("the text of {url}") })
-}
-
-fn lines(url: String, now_ms: u64) -> Result<Arc<Page>, Error> {
+fn lines() -> Result<(), Box<dyn std::error::Error>> {
     // README
-    cache.get(&url, now_ms, || Err("it is there".into())).map_err(|error| error.to_string().into())
+    main()
 }
 
 fn eight_threads() -> Result<(), Error> {
     let cache = Loading::<u64, u64, Error>::open(&Setup::of(1000))?;
-    let work = || (0..10_000).filter(|n| !cache.get(&(n % 100), 0, || Ok((n % 100 + 1, 1))).is_ok_and(|got| *got == n % 100 + 1)).count();
+    let work = || (0..10_000).filter(|n| !cache.try_get_with(&(n % 100), || Ok(n % 100 + 1)).is_ok_and(|got| *got == n % 100 + 1)).count();
     let wrong: usize = std::thread::scope(|threads| {
         let all: Vec<_> = (0..8).map(|_| threads.spawn(work)).collect();
         all.into_iter().map(|thread| thread.join().expect("it doesn't panic")).sum()
@@ -30,6 +21,6 @@ fn eight_threads() -> Result<(), Error> {
 }
 
 fn main() -> Result<(), Error> {
-    println!("{}", lines("a page".into(), 0)?.text);
+    lines().map_err(|error| error.to_string())?;
     eight_threads()
 }
