@@ -20,7 +20,7 @@ pub struct Token {
 #[repr(C)]
 #[derive(Clone, Copy, Debug, PartialEq, Eq)]
 pub struct Setup {
-    /// How many entries the cache may hold: 1 to 65,536.
+    /// How many entries the cache may hold: 1 to 65,536, and more where [`Loading::open`](crate::Loading::open) divides them.
     pub entries: u32,
     /// How many of them the window may hold: 1 to `entries`. A hundredth is a good choice.
     pub window: u32,
