@@ -2,21 +2,31 @@
 //! divided among shards.
 mod common;
 use common::within_a_minute;
-use rookdresser::{Cache, Cause, Fault, GetError, Loading, Setup};
+use rookdresser::{Cache, Cause, Fault, Found, GetError, Landed, Loading, Setup};
 use std::hash::{BuildHasher, Hasher};
 use std::sync::atomic::{AtomicU64, Ordering::SeqCst};
 use std::sync::{Arc, Mutex};
 
 #[test]
-fn an_entry_expires_by_the_cache_s_own_clock() {
+fn entries_expire_and_get_due_by_the_cache_s_own_clock() {
     within_a_minute(|| {
-        let cache = Loading::<u64, u64, ()>::open(&Setup { after_write: 1, ..Setup::of(10) }).unwrap();
-        cache.store(&1, Arc::new(7), 1).unwrap();
-        while cache.look(&1).unwrap().is_some() {
+        let open = |setup| {
+            let cache = Loading::<u64, u64, ()>::open(&setup).unwrap();
+            cache.store(&1, Arc::new(7), 1).unwrap();
+            cache
+        };
+        for setup in [Setup { after_write: 1, ..Setup::of(10) }, Setup { after_access: 1, ..Setup::of(10) }] {
+            let cache = open(setup);
+            while cache.clean().unwrap().is_empty() {
+                std::thread::yield_now();
+            }
+            assert_eq!((cache.look(&1), cache.stats().expired, cache.kept()), (Ok(None), 1, (0, 0)));
+        }
+        let cache = open(Setup { refresh: 1, ..Setup::of(10) });
+        while *cache.get_with(&1, || 8).unwrap() == 7 {
             std::thread::yield_now();
         }
-        assert_eq!((cache.stats().expired, cache.kept()), (1, (0, 0)));
-        assert!(cache.numbers().latest > 0);
+        assert!(cache.stats().refreshes == 1 && cache.numbers().latest > 0);
     });
 }
 
@@ -133,6 +143,23 @@ fn keys_are_hashed_by_the_caller_s_hasher_and_told_apart_if_all_hashes_are_equal
     assert_eq!(cache.look(&1, 0).unwrap().0, Some(&10));
     assert_eq!(cache.look(&2, 0).unwrap().0, Some(&20));
     assert_eq!(made.load(SeqCst), 4);
+}
+
+#[test]
+fn a_landing_of_a_load_that_isn_t_open_changes_nothing() {
+    let mut cache = Cache::<String, u64>::open(&Setup::of(10)).unwrap();
+    let (key, other) = (String::from("a"), String::from("b"));
+    let Found::Lead(id) = cache.seek(&key, 0).unwrap().0 else { panic!("nothing is there") };
+    assert_eq!(cache.land(id + 1, &key, 1, 1, 0), (Landed::Gone, vec![]));
+    assert_eq!(cache.fail(id + 1, &key, 0), (Landed::Gone, vec![]));
+    assert_eq!(
+        (cache.land(id, &other, 1, 1, 0), cache.fail(id, &other, 0)),
+        ((Landed::Gone, vec![]), (Landed::Gone, vec![]))
+    );
+    assert_eq!((cache.numbers().flights, cache.kept()), (1, (0, 1)));
+    assert_eq!(cache.land(id, &key, 2, 1, 0), (Landed::Kept(1), vec![]));
+    assert_eq!(cache.look(&key, 0).unwrap().0, Some(&2));
+    assert_eq!(cache.kept(), (1, 1));
 }
 
 #[test]

@@ -1,10 +1,10 @@
 //! Drops and clones that panic, alone, beside each other, and beside a loader's panic: the process goes on, and nothing is kept for
 //! good.
-use rookdresser::{Cache, Cause, Found, Landed, Loading, Setup};
+use rookdresser::{Cache, Cause, Fault, Found, Landed, Loading, Setup};
 use std::hash::{Hash, Hasher};
 use std::panic::{catch_unwind, AssertUnwindSafe};
 use std::sync::atomic::{AtomicBool, AtomicU64, Ordering::SeqCst};
-use std::sync::Arc;
+use std::sync::{Arc, OnceLock};
 
 // How many things there are, and whether they panic as they are cloned or dropped.
 #[derive(Default)]
@@ -172,6 +172,93 @@ fn a_loader_and_the_drop_of_the_old_value_may_both_panic() {
         (Some("of the loader"), 1, (1, 1), 0)
     );
     assert_eq!(cache.look_at(&1, 20).unwrap().map(|value| value.number), Some(2));
+}
+
+#[test]
+fn a_refused_value_and_its_key_may_both_panic_as_they_are_dropped() {
+    let fuse = Arc::new(Fuse::default());
+    let cache = Loading::<Thing, Thing, ()>::open(&Setup { bound: 10, ..Setup::of(4) }).unwrap();
+    let (key, value) = (fuse.thing(1), Arc::new(fuse.thing(2)));
+    fuse.light();
+    assert_eq!(panic_of(|| cache.put_at(&key, value, 11, 0)), Some("of a drop"));
+    fuse.drops_panic.store(false, SeqCst);
+    assert_eq!((fuse.live.load(SeqCst), cache.kept(), cache.stats().refused[Fault::TooHeavy.place()]), (1, (0, 0), 1));
+}
+
+#[test]
+fn what_a_loader_owns_may_panic_as_it_is_dropped() {
+    let owned = Arc::new(Fuse::default());
+    let value = Arc::new(7);
+    let cache = Loading::<u64, u64, ()>::open(&Setup::of(4)).unwrap();
+    cache.store_at(&1, value.clone(), 1, 0).unwrap();
+    let thing = owned.thing(1);
+    owned.light();
+    let load = move || {
+        let thing = thing;
+        Ok((thing.number, 1))
+    };
+    let got = panic_of(|| cache.get_at(&1, 0, load));
+    // This test has a share of the value, and the cache has one.
+    assert_eq!((got, owned.live.load(SeqCst), Arc::strong_count(&value)), (Some("of a drop"), 0, 2));
+}
+
+#[test]
+fn a_listener_and_the_drop_of_the_key_may_both_panic() {
+    let keys = Arc::new(Fuse::default());
+    let setup = Setup { window: 1, ..Setup::of(2) };
+    let cache = Loading::<Thing, u64, ()>::open(&setup).unwrap().with_listener(|_| panic!("of the listener"));
+    let all: Vec<_> = (0..6).map(|number| keys.thing(number)).collect();
+    keys.light();
+    let panics = all.iter().filter_map(|key| panic_of(|| cache.store_at(key, Arc::new(1), 1, 0)));
+    assert_eq!(panics.collect::<Vec<_>>(), ["of the listener"; 4]);
+    assert_eq!((keys.live.load(SeqCst), cache.kept()), (6 + 2, (2, 2)));
+    assert_eq!(panic_of(|| drop(cache)), Some("of the listener"));
+    assert_eq!(keys.live.load(SeqCst), 6);
+    keys.drops_panic.store(false, SeqCst);
+}
+
+// A key of one hash with all others. Its equality takes the first key out, once, and has all drops panic from then on.
+#[derive(Clone)]
+struct Taking(Thing);
+
+static TAKEN: OnceLock<Loading<Taking, Thing, ()>> = OnceLock::new();
+static TAKES: AtomicBool = AtomicBool::new(false);
+
+impl Hash for Taking {
+    fn hash<H: Hasher>(&self, state: &mut H) {
+        state.write_u8(5);
+    }
+}
+
+impl PartialEq for Taking {
+    fn eq(&self, other: &Taking) -> bool {
+        if TAKES.swap(false, SeqCst) {
+            let first = if self.0.number == 1 { self } else { other };
+            assert_eq!(TAKEN.get().unwrap().drop_key_at(first, 0).unwrap().len(), 1);
+            self.0.fuse.light();
+        }
+        self.0.number == other.0.number
+    }
+}
+
+impl Eq for Taking {}
+
+#[test]
+fn what_was_found_of_another_key_and_that_key_may_both_panic_as_they_are_dropped() {
+    let fuse = Arc::new(Fuse::default());
+    let cache = TAKEN.get_or_init(|| Loading::open(&Setup::of(4)).unwrap());
+    let (first, second) = (Taking(fuse.thing(1)), Taking(fuse.thing(2)));
+    for asks in [
+        |second: &Taking| panic_of(|| TAKEN.get().unwrap().look_at(second, 0)),
+        |second: &Taking| panic_of(|| TAKEN.get().unwrap().get_at(second, 0, || Err(()))),
+    ] {
+        cache.store_at(&first, Arc::new(fuse.thing(1)), 1, 0).unwrap();
+        // The call itself has the last shares of the first key and its value.
+        TAKES.store(true, SeqCst);
+        assert_eq!(asks(&second), Some("of a drop"));
+        fuse.drops_panic.store(false, SeqCst);
+        assert_eq!((fuse.live.load(SeqCst), cache.kept(), cache.numbers().flights), (2, (0, 0), 0));
+    }
 }
 
 #[test]

@@ -1,21 +1,12 @@
 //! Eight threads, with expiry, refresh, failing loads, invalidations during loads: what is kept is what the library holds.
 mod common;
+#[path = "common/random.rs"]
+mod random;
 use common::within_a_minute;
+use random::Random;
 use rookdresser::{Fault, GetError, Loading, Setup};
 use std::sync::atomic::{AtomicU64, Ordering};
 use std::sync::Arc;
-
-// Random numbers, the same for the same seed.
-struct Random(u64);
-
-impl Random {
-    fn below(&mut self, limit: u64) -> u64 {
-        self.0 ^= self.0 << 13;
-        self.0 ^= self.0 >> 7;
-        self.0 ^= self.0 << 17;
-        (self.0 >> 16) % limit
-    }
-}
 
 static LIVE: AtomicU64 = AtomicU64::new(0);
 
@@ -35,7 +26,7 @@ impl Drop for Value {
 }
 
 fn requests(cache: &Loading<u64, Value, u64>, clock: &AtomicU64, seed: u64) {
-    let mut random = Random(seed * 104_729 + 3);
+    let mut random = Random::of(seed);
     for _ in 0..12_500 {
         let now = clock.fetch_add(u64::from(random.below(4) == 0), Ordering::SeqCst);
         let key = random.below(2000).min(random.below(2000));

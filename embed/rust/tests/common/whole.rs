@@ -1,0 +1,25 @@
+//! A small setup, an error, and what has to hold of a cache in which nothing goes on.
+use rookdresser::{Loading, Setup};
+use std::panic::{catch_unwind, AssertUnwindSafe};
+
+pub const SETUP: Setup =
+    Setup { entries: 16, window: 1, flights: 8, bound: 1000, after_write: 0, after_access: 0, refresh: 0 };
+
+// An error of which there is one, as those of input and output are.
+#[derive(Debug, PartialEq)]
+pub struct Down;
+
+impl std::fmt::Display for Down {
+    fn fmt(&self, f: &mut std::fmt::Formatter<'_>) -> std::fmt::Result {
+        f.write_str("the source is down")
+    }
+}
+
+pub fn panics(work: impl FnOnce()) -> bool {
+    catch_unwind(AssertUnwindSafe(work)).is_err()
+}
+
+pub fn holds_exactly<K, V, E>(cache: &Loading<K, V, E>) {
+    let n = cache.numbers();
+    assert_eq!((cache.kept(), n.flights), ((n.entries as usize, n.entries as usize), 0));
+}
