@@ -1,32 +1,17 @@
 #!/usr/bin/env python3
-"""What a loader, weigh, on_leave, clock, a finalizer and a key may do. embed/CALLBACKS.md names these tests."""
-import gc
-import itertools
+"""What a loader, weigh, on_leave and clock may do. embed/CALLBACKS.md names these tests."""
 import logging
-import os
 import re
-import signal
 import threading
 import time
 import unittest
 from pathlib import Path
 
-from rookdresser import Cache, Reentered, Refused, WaitsForItself
-from threads import together, within_a_minute
+from rookdresser import Cache, Refused, WaitsForItself
+from threads import CacheTest, together, wait_for_joins, within_a_minute
 
 
-def wait_for_joins(cache, joins):
-    while cache.stats().joins < joins:
-        time.sleep(0.001)
-
-
-class Callbacks(unittest.TestCase):
-    def holds_exactly(self, cache, entries=None):
-        numbers = cache.numbers()
-        self.assertEqual((cache.kept(), numbers["flights"]), ((numbers["entries"],) * 2, 0))
-        if entries is not None:
-            self.assertEqual(numbers["entries"], entries)
-
+class Callbacks(CacheTest):
     # The loader.
 
     def test_a_loader_that_raises_raises_in_all_who_joined(self):
@@ -152,22 +137,6 @@ class Callbacks(unittest.TestCase):
         self.assertEqual(cache.look("a"), 7)
         now[0] = 1100
         self.assertIsNone(cache.look("a"))
-
-    def test_a_landing_that_is_refused_memory_lets_go_of_what_expired(self):
-        now, told = [0], []
-        cache = Cache(entries=10, after_write=100, refresh=50, clock=lambda: now[0], on_leave=lambda *of: told.append(of))
-        # The library answers so if memory is refused: nothing has moved.
-        cache._library.land_keep = lambda *of: 1
-        cache.put("a", 7)
-        now[0] = 60
-
-        def load(key):
-            now[0] = 150
-            cache.look("b")
-            return 8
-
-        self.assertEqual((cache.get("a", load), told, cache.stats().stale), (8, [("a", 7, "expired")], 1))
-        self.holds_exactly(cache, 0)
 
     # weigh and clock.
 
@@ -388,182 +357,11 @@ class Callbacks(unittest.TestCase):
         cache.close()
         self.assertEqual((told, cache.kept()), ([("a", 1, "explicit")], (0, 0)))
 
-    # Finalizers and signal handlers.
-
-    def test_a_finalizer_that_gc_runs_in_the_midst_of_a_call_may_use_the_cache(self):
-        cache, dropped, refused = Cache(entries=10), [], []
-
-        class Value:
-            def __init__(self, key):
-                self.me, self.key = self, key
-
-            def __del__(self):
-                dropped.append(cache.drop("x"))
-                try:
-                    cache.look("x")
-                except Reentered:
-                    refused.append(1)
-
-        def work():
-            for i in range(20000):
-                cache.put(i % 50, Value(i))
-            cache.clear()
-            gc.collect()
-
-        within_a_minute(work)
-        self.assertEqual(len(dropped), 20000)
-        # Some ran in the midst of a call. These drops were made right after it, and these looks were refused.
-        self.assertEqual(dropped.count(None), len(refused))
-        self.holds_exactly(cache, 0)
-
-    def test_a_finalizer_in_the_midst_of_a_call_has_its_changes_made_right_after(self):
-        cache = Cache(entries=10)
-        cache.put("b", 1)
-        self.assertTrue(cache._enter())
-        self.assertIsNone(cache.drop("b"))
-        self.assertIsNone(cache.put("a", 7))
-        for call in (lambda: cache.get("a", lambda key: 1), lambda: cache.look("a"), cache.numbers, cache.stats):
-            with self.assertRaises(Reentered):
-                call()
-        cache._busy = False
-        cache._give_back()
-        cache.kept()
-        self.assertEqual((cache.look("a"), cache.look("b")), (7, None))
-        self.holds_exactly(cache, 1)
-
-    def test_a_finalizer_may_use_the_cache_as_it_closes(self):
-        cache, told = Cache(entries=10), []
-
-        class Value:
-            def __del__(self):
-                try:
-                    cache.look("x")
-                except Refused as error:
-                    told.append(error.fault)
-
-        cache.put("a", Value())
-        within_a_minute(cache.close)
-        gc.collect()
-        self.assertEqual(told, [100])
-
-    # Keys.
-
-    def test_a_key_that_cannot_be_hashed_or_compared_moves_nothing(self):
-        class Odd:
-            def __init__(self, name, bad):
-                self.name, self.bad = name, bad
-
-            def __hash__(self):
-                if self.bad == "hash":
-                    raise ValueError("of the hash")
-                return 5
-
-            def __eq__(self, other):
-                if "eq" in (self.bad, other.bad):
-                    raise ValueError("of the equality")
-                return self.name == other.name
-
-        cache = Cache(entries=10)
-        cache.put(Odd("a", ""), 1)
-        cache.put(Odd("b", ""), 2)
-        for bad in ("hash", "eq"):
-            for call in (lambda: cache.get(Odd("c", bad), lambda key: 3), lambda: cache.put(Odd("c", bad), 3), lambda: cache.drop(Odd("c", bad))):
-                with self.assertRaises(ValueError):
-                    within_a_minute(call)
-            self.holds_exactly(cache, 2)
-        with self.assertRaises(TypeError):
-            cache.get([], lambda key: 1)
-        self.assertEqual((cache.look(Odd("a", "")), cache.look(Odd("b", "")), cache.look(Odd("c", ""))), (1, 2, None))
-        self.holds_exactly(cache, 2)
-
-    def test_a_key_s_hash_and_equality_may_use_the_cache(self):
-        class Asks:
-            def __init__(self, name):
-                self.name = name
-
-            def __hash__(self):
-                cache.look("x")
-                return 5
-
-            def __eq__(self, other):
-                cache.put("x", 1)
-                cache.drop("x")
-                return self.name == other.name
-
-        cache = Cache(entries=10)
-
-        def work():
-            for name in "abab":
-                self.assertEqual(cache.get(Asks(name), lambda key: key.name), name)
-
-        within_a_minute(work)
-        self.assertEqual(cache.stats().loads, 2)
-        self.holds_exactly(cache, 2)
-
-    def test_a_key_s_hash_and_equality_that_contradict_themselves_leak_nothing(self):
-        asked = itertools.count(1)
-
-        class Fickle:
-            def __hash__(self):
-                return next(asked) * 0x9E3779B97F4A7C15 % 2 ** 64 >> 33 & 3
-
-            def __eq__(self, other):
-                return (next(asked) * 0x9E3779B97F4A7C15 % 2 ** 64 >> 33) % 3 == 0
-
-        now = [0]
-        cache = Cache(entries=16, after_write=40, refresh=15, clock=lambda: now[0])
-
-        def fails(key):
-            raise KeyError
-
-        def work():
-            for now[0] in range(3000):
-                key = Fickle()
-                if now[0] % 5 == 0:
-                    cache.put(key, 1)
-                elif now[0] % 5 == 1:
-                    cache.look(key)
-                elif now[0] % 5 == 2:
-                    cache.drop(key)
-                elif now[0] % 5 == 3:
-                    try:
-                        cache.get(key, fails)
-                    except KeyError:
-                        pass
-                else:
-                    cache.get(key, lambda key: 2)
-                self.holds_exactly(cache)
-
-        within_a_minute(work)
-        self.assertGreater(cache.stats().hits, 0)
-        self.assertGreater(cache.stats().misses, 0)
-
-    def test_numbers_that_python_hashes_alike_are_spread(self):
-        cache, alike = Cache(entries=200), [i * (2 ** 61 - 1) for i in range(100)]
-        self.assertEqual({hash(number) for number in alike}, {0})
-        for number in alike:
-            cache.put(number, number)
-        self.assertEqual([cache.look(number) for number in alike], alike)
-        self.assertEqual(max(len(rows) for rows in cache._rows.values()), 1)
-        # -1 and -2 are of one hash.
-        cache.put(-1, "one")
-        cache.put(-2, "two")
-        self.assertEqual((cache.look(-1), cache.look(-2)), ("one", "two"))
-        cache.put(1, "whole")
-        self.assertEqual(cache.look(1.0), "whole")
-
-    def test_the_numbers_of_keys_are_under_a_seed_of_each_cache_s_own(self):
-        first, second, plain = Cache(entries=10), Cache(entries=10), Cache(entries=10, seeded=False)
-        for cache in (first, second, plain):
-            cache.put(7, 1)
-            cache.put("seven", 1)
-        self.assertTrue(set(first._numbers).isdisjoint(second._numbers))
-        self.assertEqual(set(plain._numbers), {7, hash("seven") % 2 ** 64})
-
-    # Settings, and what is not there.
+    # Settings.
 
     def test_settings_out_of_range_are_named(self):
-        for settings, word in (({"entries": 0}, "entries"), ({"entries": 70000}, "entries"), ({"entries": 10, "window": 20}, "window"), ({"entries": 10, "bound": 0}, "bound")):
+        for settings, word in (({"entries": 0}, "entries"), ({"entries": 70000}, "entries"), ({"entries": 10, "window": 20}, "window"), ({"entries": 10, "bound": 0}, "bound"), ({"entries": 10, "shards": 0}, "shards"),
+                               ({"entries": 131_073, "shards": 2}, "entries")):
             with self.assertRaises(Refused) as caught:
                 Cache(**settings)
             self.assertEqual((caught.exception.fault, str(caught.exception)), (2, word + " is out of its range"))
@@ -572,68 +370,6 @@ class Callbacks(unittest.TestCase):
                 Cache(**settings)
         with self.assertRaises(TypeError):
             Cache(entries=10.0)
-        with self.assertRaisesRegex(OSError, "tools/embed"):
-            Cache(entries=10, library="/nowhere")
-
-    def test_a_cache_is_no_mapping_but_tells_what_is_in_it(self):
-        cache = Cache(entries=10)
-        cache.put("a", 1)
-        self.assertTrue("a" in cache and "b" not in cache)
-        with self.assertRaises(TypeError):
-            cache["a"]
-        with self.assertRaises(TypeError):
-            list(cache)
-
-    # Threads and processes.
-
-    @unittest.skipUnless(hasattr(os, "fork"), "there is no fork here")
-    def test_a_child_that_is_forked_beside_busy_threads_has_a_whole_cache(self):
-        cache, stop = Cache(entries=4096), threading.Event()
-
-        def work():
-            i = 0
-            while not stop.is_set():
-                i += 1
-                cache.get(i % 3000, lambda key: key)
-
-        busy = [threading.Thread(target=work, daemon=True) for _ in range(3)]
-        for thread in busy:
-            thread.start()
-        ended = []
-        for _ in range(30):
-            child = os.fork()
-            if child == 0:
-                signal.alarm(60)
-                values = [cache.get(key, lambda key: key) for key in range(3000)]
-                numbers = cache.numbers()
-                whole = cache.kept() == (numbers["entries"],) * 2 and numbers["flights"] == 0
-                os._exit(0 if values == list(range(3000)) and whole else 1)
-            ended.append(os.waitpid(child, 0)[1])
-        stop.set()
-        for thread in busy:
-            thread.join()
-        self.assertEqual(ended, [0] * 30)
-        self.holds_exactly(cache)
-
-    def test_a_child_asks_for_a_key_that_a_thread_of_its_parent_was_loading(self):
-        cache, begun, may_end = Cache(entries=10), threading.Event(), threading.Event()
-
-        def load(key):
-            begun.set()
-            may_end.wait()
-            return 7
-
-        leader = threading.Thread(target=lambda: cache.get("a", load))
-        leader.start()
-        begun.wait()
-        child = os.fork()
-        if child == 0:
-            signal.alarm(60)
-            os._exit(cache.get("a", lambda key: 8))
-        status = os.waitpid(child, 0)[1]
-        may_end.set()
-        leader.join()
-        self.assertEqual((os.WEXITSTATUS(status), cache.look("a")), (8, 7))
 
     # The page.
 

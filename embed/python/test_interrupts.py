@@ -1,12 +1,13 @@
 #!/usr/bin/env python3
 """A signal handler raises, as Ctrl-C does, at each point of a call: nothing hangs, and what is kept is what the library holds."""
+import asyncio
 import dis
 import gc
-import os
 import sys
 import threading
 import time
 import unittest
+import warnings
 import weakref
 from pathlib import Path
 
@@ -18,7 +19,7 @@ FILES = {str(path) for path in Path(rookdresser.__file__).resolve().parent.glob(
 
 
 class Interrupt:
-    """Raises KeyboardInterrupt at a point of the package's code in this thread, counted from 0.
+    """Raises KeyboardInterrupt at a point of the package's code, or of a callback, in this thread, counted from 0.
 
     The points are those at which CPython lets a signal handler run: as a function begins, and right after a call of a function
     of C. Python lets one run in the midst of other code, too, as in a loop; there are no long ones here.
@@ -41,7 +42,7 @@ class Interrupt:
 
     def called(self, frame, event, argument):
         self.calls += 1
-        if frame.f_code.co_filename not in FILES:
+        if frame.f_code.co_filename not in FILES and frame.f_code not in CALLBACKS:
             return None
         frame.f_trace_opcodes, frame.f_trace_lines = True, False
         self.point()
@@ -59,8 +60,32 @@ class Interrupt:
         return self.stepped
 
 
+CALLBACKS = set()
+
+
+def callback(function):
+    """A function in which interrupts strike, too."""
+    CALLBACKS.add(function.__code__)
+    return function
+
+
 class Value:
     pass
+
+
+class Key:
+    """A key with a hash and an equality of Python's own."""
+
+    def __init__(self, number):
+        self.number = number
+
+    @callback
+    def __hash__(self):
+        return len((self.number, 2))
+
+    @callback
+    def __eq__(self, other):
+        return [self.number] == [other.number]
 
 
 @unittest.skipUnless(sys.implementation.name == "cpython" and sys.version_info < (3, 12),
@@ -86,45 +111,63 @@ class Interrupts(unittest.TestCase):
     def test_a_call_that_is_interrupted_leaves_a_whole_cache(self):
         now, live = [0], weakref.WeakSet()
 
+        @callback
         def value(_=None):
             made = Value()
             live.add(made)
             return made
 
+        @callback
         def fails(_):
             raise KeyError
 
+        @callback
         def drops(key):
             cache[0].drop(key)
             return value()
 
+        @callback
+        def clock():
+            return int(now[0])
+
+        @callback
+        def on_leave(*of):
+            told.append(of)
+
+        @callback
+        def weigh(key, value):
+            return len("1")
+
         def begin():
             now[0] = 0
-            cache[0] = Cache(entries=3, window=1, after_write=100, refresh=50, clock=lambda: now[0], on_leave=lambda *of: told.append(of))
-            cache[0].put(0, value())
-            cache[0].put(1, value())
+            cache[0] = Cache(entries=3, window=1, after_write=100, refresh=50, clock=clock, weigh=weigh, on_leave=on_leave)
+            cache[0].put(keys[0], value())
+            cache[0].put(keys[1], value())
             told.clear()
             return cache[0]
 
         def work(cache):
-            cache.put(1, value())
-            cache.get(1, None)
-            cache.get(2, value)
-            cache.get(3, drops)
+            cache.put(Key(1), value())
+            cache.get(Key(1), None)
+            cache.get(keys[2], value)
+            cache.get(keys[3], drops)
             now[0] = 60
-            cache.get(0, value)
+            cache.get(Key(0), value)
             try:
-                cache.get(1, fails)
-                cache.get(4, fails)
+                cache.get(keys[1], fails)
+                cache.get(keys[4], fails)
             except KeyError:
                 pass
-            cache.look(5)
+            cache.look(keys[5])
             now[0] = 120
-            cache.look(1)
-            cache.forget(1)
+            cache.look(keys[1])
+            cache.forget(keys[1])
             cache.clean()
-            cache.put(6, value())
-            cache.drop(6)
+            cache.put(keys[6], value())
+            cache.drop(Key(6))
+            cache.put_many({keys[1]: value()})
+            cache.get_many(keys[:3], lambda asked: {key: value() for key in asked})
+            cache.pop(keys[1])
             cache.clear()
             cache.stats()
 
@@ -137,7 +180,7 @@ class Interrupts(unittest.TestCase):
 
         def check(cache, was_interrupted):
             def ask():
-                return [type(cache.get(key, value)) for key in range(7)]
+                return [type(cache.get(key, value)) for key in keys]
 
             self.assertEqual(len(told), len({id(value) for _, value, _ in told}))
             # Another thread waits for no lock and no load that the interrupt left.
@@ -148,36 +191,10 @@ class Interrupts(unittest.TestCase):
             cache.close()
             self.assertEqual((cache.kept(), alive()), ((0, 0), 0))
 
-        cache, told = [None], []
+        cache, told, keys = [None], [], [Key(number) for number in range(7)]
         points = self.interrupted(begin, work, check)
         print("%d points of calls" % points)
-        self.assertGreater(points, 300)
-
-    def test_the_call_after_an_interrupted_one_empties_the_cache_and_tells_of_it(self):
-        for name in ("put", "look", "drop"):
-            told = []
-            cache = Cache(entries=10, on_leave=lambda *of: told.append(of))
-            cache.put("a", 1)
-            cache.put("b", 2)
-            call = getattr(cache._library, name)
-
-            def interrupted(*arguments):
-                call(*arguments)
-                raise KeyboardInterrupt
-
-            setattr(cache._library, name, interrupted)
-            with self.assertRaises(KeyboardInterrupt):
-                cache.put("c", 3) if name == "put" else getattr(cache, name)("a")
-            setattr(cache._library, name, call)
-            self.assertEqual(told, [])
-            child = os.fork()
-            if child == 0:
-                os._exit(0 if cache.kept() == (0, 0) and cache.numbers()["entries"] == 0 else 1)
-            self.assertEqual(os.waitpid(child, 0)[1], 0)
-            self.assertIsNone(cache.look("b"))
-            # What the interrupted call took out is told to nobody.
-            self.assertEqual(sorted(told), [("a", 1, "explicit"), ("b", 2, "explicit")][name == "drop":])
-            self.assertEqual((cache.kept(), cache.numbers()["entries"]), ((0, 0), 0))
+        self.assertGreater(points, 150)
 
     def test_who_waits_for_a_load_that_is_interrupted_asks_again(self):
         def begin():
@@ -187,11 +204,12 @@ class Interrupts(unittest.TestCase):
             cache, joiners = of
             got = []
 
+            @callback
             def load(key):
                 joiner = threading.Thread(target=lambda: got.append(cache.get("a", lambda key: 7)), daemon=True)
-                joiners.append((joiner, got))
                 joiner.start()
-                while cache._counts["joins"] < 1:
+                joiners.append((joiner, got))
+                while cache._counts()[2] < 1:
                     time.sleep(0)
                 return 7
 
@@ -207,7 +225,7 @@ class Interrupts(unittest.TestCase):
 
         points = self.interrupted(begin, work, check)
         print("%d points of a load" % points)
-        self.assertGreater(points, 30)
+        self.assertGreater(points, 2)
 
     def test_a_wait_that_is_interrupted_keeps_nobody_else_from_waiting(self):
         def begin():
@@ -216,7 +234,7 @@ class Interrupts(unittest.TestCase):
 
             def load(key):
                 begun.set()
-                while not may_end.is_set() and cache._counts["joins"] < 1:
+                while not may_end.is_set() and cache._counts()[2] < 1:
                     time.sleep(0)
                 return 7
 
@@ -233,13 +251,52 @@ class Interrupts(unittest.TestCase):
             may_end.set()
             leader.join(60)
             self.assertFalse(leader.is_alive())
-            self.assertEqual((rookdresser._loads._waiting, rookdresser._loads._walking), ({}, []))
+            self.assertEqual(rookdresser._waits.waits.behind((leader.ident, None), 1 << 63), [])
             self.assertEqual(within_a_minute(lambda: cache.get("a", lambda key: 7)), 7)
             self.assertEqual((cache.kept(), cache.numbers()["flights"]), ((1, 1), 0))
 
         points = self.interrupted(begin, work, check)
         print("%d points of a wait" % points)
-        self.assertGreater(points, 30)
+        self.assertGreater(points, 8)
+
+    def test_a_task_that_is_interrupted_leaves_a_whole_cache(self):
+        def begin():
+            now[0] = 0
+            cache = Cache(entries=10, refresh=50, clock=lambda: now[0])
+            cache.put("due", 1)
+            now[0] = 60
+            return cache
+
+        @callback
+        async def load(key):
+            await asyncio.sleep(0)
+            if key == "fails":
+                raise KeyError
+            return len((key,))
+
+        @callback
+        def load_at_once(key):
+            return len((key,))
+
+        async def ask(cache):
+            await asyncio.gather(*(cache.aget(key, load) for key in ("a", "a", "b", "fails", "fails", "due")), return_exceptions=True)
+            return await cache.aget("a", None), await cache.aget("c", load_at_once)
+
+        def work(cache):
+            asyncio.run(ask(cache))
+
+        def check(cache, was_interrupted):
+            gc.collect()
+            self.assertEqual(within_a_minute(lambda: [cache.get(key, lambda key: 1) for key in ("a", "b", "c", "fails", "due")]), [1] * 5)
+            numbers = cache.numbers()
+            self.assertEqual((cache.kept(), numbers["flights"]), ((numbers["entries"],) * 2, 0))
+
+        now = [0]
+        with warnings.catch_warnings():
+            warnings.filterwarnings("ignore", "coroutine .* was never awaited")
+            points = self.interrupted(begin, work, check)
+        print("%d points of tasks" % points)
+        self.assertGreater(points, 100)
 
 
 if __name__ == "__main__":

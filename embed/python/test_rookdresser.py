@@ -1,14 +1,14 @@
 #!/usr/bin/env python3
-"""The rules of embed/python, with 4 threads. ROOKDRESSER_LIB names the folder of librookdresser.so."""
+"""The rules of embed/python, with 4 threads."""
 import random
 import time
 import unittest
 
 from rookdresser import Cache, Refused
-from threads import together
+from threads import CacheTest, together
 
 
-class Rules(unittest.TestCase):
+class Rules(CacheTest):
     def test_what_is_put_is_found(self):
         with Cache(entries=10) as cache:
             cache.put("a", 1)
@@ -89,9 +89,8 @@ class Rules(unittest.TestCase):
             together(4, work)
             numbers = cache.numbers()
             self.assertEqual(cache.kept(), (numbers["entries"],) * 2)
-            self.assertEqual((numbers["flights"], len(cache._loads)), (0, 0))
-            self.assertEqual(sum(row.uses for row in cache._numbers.values()), numbers["entries"])
-            self.assertEqual(sum(len(rows) for rows in cache._rows.values()), numbers["entries"])
+            self.assertEqual(numbers["flights"], 0)
+            self.assertEqual(len({number for _, number, load in cache._uses()}), numbers["entries"])
             self.assertLessEqual(numbers["entries"], 100)
             self.assertLessEqual(numbers["weight"], 1500)
 

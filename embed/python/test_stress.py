@@ -1,14 +1,16 @@
 #!/usr/bin/env python3
 """Eight threads, with expiry, refresh, failing loads, invalidations during loads: what is kept is what the library holds."""
+import asyncio
 import collections
 import gc
+import itertools
 import random
 import threading
 import unittest
 import weakref
 
 from rookdresser import Cache, Refused
-from threads import together
+from threads import CacheTest, together, within_a_minute
 
 
 class Value:
@@ -16,7 +18,7 @@ class Value:
         self.key = key
 
 
-class Stress(unittest.TestCase):
+class Stress(CacheTest):
     def requests(self, cache, now, live, seed, each):
         rng = random.Random(seed)
 
@@ -89,14 +91,76 @@ class Stress(unittest.TestCase):
                 cache.close()
                 return
             try:
-                self.requests(cache, now, live, seed, 5000)
+                while True:
+                    self.requests(cache, now, live, seed, 100)
             except Refused as error:
                 refused.append(error.fault)
 
         cache.put(0, Value(0))
         together(8, work)
         gc.collect()
-        self.assertEqual((set(refused), cache.kept(), len(cache._loads), len(live)), ({100}, (0, 0), 0, 0))
+        self.assertEqual((refused, cache.kept(), len(live)), ([100] * 7, (0, 0), 0))
+
+    def test_eight_threads_and_three_loops_see_each_change_once_it_was_made(self):
+        """Each key's values are numbers that only grow. Whoever asks gets one that is no older than what was current as it began."""
+        cache, keys, lock = Cache(entries=4, shards=2, refresh=1, clock=lambda: next(clock) // 50), 6, threading.Lock()
+        clock, newest, wrong, asked = itertools.count(), [0] * keys, [], collections.Counter()
+
+        def change(key):
+            # A put and a drop take back loads that have begun, so nothing older is stored after them.
+            with lock:
+                newest[key] += 1
+                value = newest[key]
+                cache.put(key, value) if value % 3 else cache.drop(key)
+
+        def current(key):
+            with lock:
+                return newest[key]
+
+        def load(key):
+            return newest[key]
+
+        async def load_in_loop(key):
+            value = newest[key]
+            await asyncio.sleep(0)
+            return value
+
+        def check(call, key, least, value):
+            asked[call] += 1
+            if value is not None and not least <= value <= newest[key]:
+                wrong.append((call, key, least, value, newest[key]))
+
+        def thread(rng):
+            for _ in range(3000):
+                key, what = rng.randrange(keys), rng.random()
+                least = current(key)
+                if what < 0.2:
+                    change(key)
+                elif what < 0.6:
+                    check("get", key, least, cache.get(key, load))
+                elif what < 0.7:
+                    check("many", key, least, cache.get_many([key], lambda keys: {key: load(key) for key in keys})[key])
+                elif what < 0.75:
+                    check("pop", key, least, cache.pop(key, None))
+                else:
+                    check("look", key, least, cache.look(key))
+
+        async def tasks(rng):
+            async def task():
+                for _ in range(150):
+                    key = rng.randrange(keys)
+                    least = current(key)
+                    check("aget", key, least, await cache.aget(key, load_in_loop))
+
+            await asyncio.gather(*(task() for _ in range(10)))
+
+        def work(i):
+            rng = random.Random(i)
+            return asyncio.run(tasks(rng)) if i < 3 else thread(rng)
+
+        within_a_minute(lambda: together(11, work))
+        self.assertEqual((wrong, set(asked)), ([], {"get", "many", "pop", "look", "aget"}))
+        self.holds_exactly(cache)
 
 
 if __name__ == "__main__":

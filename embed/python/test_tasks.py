@@ -1,12 +1,13 @@
 #!/usr/bin/env python3
-"""aget and cached: tasks that share loads while their loop goes on."""
+"""aget: tasks that share loads while their loop goes on."""
 import asyncio
+import gc
 import threading
 import time
 import unittest
 
-from rookdresser import Cache, WaitsForItself, cached
-from threads import within_a_minute
+from rookdresser import Cache, WaitsForItself
+from threads import CacheTest, within_a_minute
 
 
 async def joins(cache, number):
@@ -14,13 +15,9 @@ async def joins(cache, number):
         await asyncio.sleep(0)
 
 
-class Tasks(unittest.TestCase):
+class Tasks(CacheTest):
     def run_in_loop(self, work):
         return within_a_minute(lambda: asyncio.run(work()))
-
-    def holds_exactly(self, cache, entries):
-        numbers = cache.numbers()
-        self.assertEqual((cache.kept(), numbers["entries"], numbers["flights"]), ((entries,) * 2, entries, 0))
 
     def test_a_key_is_loaded_once_for_64_tasks_while_the_loop_goes_on(self):
         cache, made = Cache(entries=10), []
@@ -97,45 +94,21 @@ class Tasks(unittest.TestCase):
         self.assertEqual(told, ["a task", "a task", "the thread"])
         self.holds_exactly(cache, 1)
 
-    def test_a_coroutine_that_gc_closes_in_the_midst_of_a_call_ends_its_load_right_after(self):
+    def test_a_coroutine_that_gc_closes_ends_its_load_at_once(self):
         cache = Cache(entries=10)
 
         async def work():
             coroutine = cache.aget("a", lambda key: asyncio.Event().wait())
             coroutine.send(None)
-            # What gc does, as if it ran within the steps of a call.
-            self.assertTrue(cache._enter())
-            coroutine.close()
-            self.assertTrue(cache._is_mine())
-            cache._busy = False
-            cache._give_back()
-            cache.kept()
+            self.assertEqual(cache.kept(), (0, 1))
+            del coroutine
+            gc.collect()
             self.assertEqual(cache.kept(), (0, 0))
             return await cache.aget("a", lambda key: 7)
 
         self.assertEqual(self.run_in_loop(work), 7)
         self.assertEqual((cache.stats().failed, cache.stats().loads), (1, 1))
         self.holds_exactly(cache, 1)
-
-    def test_two_loads_that_wait_for_each_other_are_told(self):
-        cache, told, begun = Cache(entries=10), [], []
-
-        async def load(key):
-            begun.append(key)
-            while len(begun) < 2:
-                await asyncio.sleep(0)
-            try:
-                await cache.aget(1 - key, load)
-            except WaitsForItself:
-                told.append(key)
-            return key
-
-        async def work():
-            return await asyncio.gather(cache.aget(0, load), cache.aget(1, load))
-
-        self.assertEqual(self.run_in_loop(work), [0, 1])
-        self.assertEqual(len(told), 1)
-        self.holds_exactly(cache, 2)
 
     def test_a_task_waits_for_a_thread_s_load_and_a_thread_for_a_task_s(self):
         cache, begun = Cache(entries=10), threading.Event()
@@ -164,33 +137,6 @@ class Tasks(unittest.TestCase):
         self.assertEqual(self.run_in_loop(work), ("by a thread", "by a task"))
         thread.join()
         self.holds_exactly(cache, 2)
-
-    def test_a_cached_function_runs_once_for_equal_arguments(self):
-        made = []
-
-        @cached(entries=10)
-        def add(a, b=0):
-            """Adds."""
-            made.append((a, b))
-            return a + b
-
-        self.assertEqual((add(1, b=2), add(1, b=2), add(2), add.__doc__, add.__name__), (3, 3, 2, "Adds.", "add"))
-        add.cache.clear()
-        self.assertEqual((add(2), made), (2, [(1, 2), (2, 0), (2, 0)]))
-
-    def test_a_cached_async_function_runs_once_for_equal_arguments(self):
-        made = []
-
-        @cached(entries=10)
-        async def double(a):
-            made.append(a)
-            await joins(double.cache, 2)
-            return 2 * a
-
-        async def work():
-            return await asyncio.gather(*(double(4) for _ in range(3)))
-
-        self.assertEqual((self.run_in_loop(work), made), ([8, 8, 8], [4]))
 
 
 if __name__ == "__main__":

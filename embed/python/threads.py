@@ -1,5 +1,22 @@
 """What the tests share."""
 import threading
+import time
+import unittest
+
+
+class CacheTest(unittest.TestCase):
+    def holds_exactly(self, cache, entries=None):
+        """This side keeps what the library holds, as many entries if that is given, and no load is open."""
+        numbers = cache.numbers()
+        self.assertEqual((cache.kept(), numbers["flights"]), ((numbers["entries"],) * 2, 0))
+        if entries is not None:
+            self.assertEqual(numbers["entries"], entries)
+
+
+def wait_for_joins(cache, joins):
+    """Waits until so many callers have joined a load."""
+    while cache.stats().joins < joins:
+        time.sleep(0.001)
 
 
 def together(threads, work):

@@ -1,8 +1,8 @@
 #!/usr/bin/env python3
 """A web server of pages that lie in an SQLite file, with the cache between.
 
-    ROOKDRESSER_LIB=FOLDER python3 pages.py serve [PORT]    serves /page/1 to /page/1000; /numbers shows the cache's numbers
-    ROOKDRESSER_LIB=FOLDER python3 pages.py stampede        64 threads ask for one cold page at once: prints how many queries ran
+    python3 pages.py serve [PORT]    serves /page/1 to /page/1000; /numbers shows the cache's numbers
+    python3 pages.py stampede        64 threads ask for one cold page at once: prints how many queries ran
 """
 import os
 import sqlite3

@@ -1,0 +1,149 @@
+"""Who waits for whom: loads that wait for each other in a circle are found here, among threads and the tasks of asyncio."""
+from __future__ import annotations
+
+import asyncio
+import functools
+from typing import Any, Iterator, List, Optional, Set, Tuple, Union
+
+from . import _native
+
+Loop = asyncio.AbstractEventLoop
+# A task, or of a thread its identifier with the loop that runs in it.
+Who = Union["asyncio.Future[Any]", Tuple[int, Optional[Loop]]]
+
+
+class WaitsForItself(RuntimeError):
+    """The wait would keep the load from ending, so it was not begun, or has ended.
+
+    A load asked for its own key, or loads wait for each other in a circle, or get() in the thread of a loop would wait for a task
+    of that loop.
+    """
+
+
+class Waits(_native.Waits):
+    """All waits for loads, and the question whether one of them may be."""
+
+    def running_loop(self) -> Optional[Loop]:
+        """Returns the loop that runs in this thread, or None."""
+        return asyncio._get_running_loop()
+
+    def check(self, load: _native.Load[Any], who: Who, serial: int) -> bool:
+        """Returns whether nobody will ever end the load; raises WaitsForItself if it waits for `who`.
+
+        Of several waits that make a circle the last to begin is told, so only those that began before `serial` are followed.
+        """
+        if _has_no_maker(load):
+            return True
+        seen: Set[int] = set()
+        left: List[Who] = [who]
+        while left:
+            at = left.pop()
+            if self.leads(load, at):
+                raise WaitsForItself("the load of the key waits for this very caller")
+            if isinstance(at, tuple):
+                left.extend(self._waiters(at, serial))
+            elif id(at) not in seen:
+                seen.add(id(at))
+                left.extend(self._waiters(at, serial))
+                left.extend(_awaited_by(at))
+        return False
+
+    def _waiters(self, who: Who, serial: int) -> Iterator[Who]:
+        """The tasks and threads that wait for a load that `who` makes."""
+        for waiter in self.behind(who, serial):
+            if isinstance(waiter, tuple):
+                yield waiter
+            elif waiter.is_waiting():
+                yield waiter.task
+
+
+class TaskWait(_native.TaskWait):
+    """A task's wait for a load."""
+
+    __slots__ = ("task", "loop", "future")
+
+    def __init__(self, task: asyncio.Future[Any], loop: Loop) -> None:
+        self.task, self.loop = task, loop
+        self.future: asyncio.Future[None] = loop.create_future()
+
+    def is_waiting(self) -> bool:
+        """Returns whether the task is suspended by this very wait, and by no other."""
+        return getattr(self.task, "_fut_waiter", self.future) is self.future
+
+    def ring(self) -> None:
+        """Wakes the task, from any thread."""
+        self.loop.call_soon_threadsafe(self.wake)
+
+    def wake(self) -> None:
+        """Wakes the task, from its loop."""
+        if not self.future.done():
+            self.future.set_result(None)
+
+    async def pause(self, seconds: float) -> None:
+        """Waits until somebody wakes the task, for at most so long."""
+        timer = self.loop.call_later(seconds, self.wake)
+        try:
+            await self.future
+        finally:
+            timer.cancel()
+            self.future = self.loop.create_future()
+
+
+waits = Waits()
+
+
+async def wait_in_loop(load: _native.Load[Any], task: asyncio.Future[Any]) -> bool:
+    """Waits in this task until the load ends, while the loop goes on. Returns True if nobody will ever end it.
+
+    The task looks again after one second, two, four, and so on up to a minute: a circle may close, or a loop be closed, later on.
+    """
+    wait = TaskWait(task, asyncio.get_running_loop())
+    try:
+        serial, seconds = wait.begin(load), 1.0
+        while not load.is_over:
+            if waits.check(load, task, serial):
+                return True
+            await wait.pause(seconds)
+            seconds = min(60.0, 2 * seconds)
+        return False
+    finally:
+        wait.end()
+
+
+def _has_no_maker(load: _native.Load[Any]) -> bool:
+    """Whether the task that made the load is done or gone, or its loop is closed."""
+    if load.task is None:
+        return False
+    task = load.task()
+    return task is None or task.done() or task.get_loop().is_closed()
+
+
+def _awaited_by(future: asyncio.Future[Any]) -> List[asyncio.Future[Any]]:
+    """The tasks and futures that asyncio goes on with only once this one is done, as far as it tells."""
+    known = getattr(future, "_asyncio_awaited_by", None)  # from Python 3.14 on
+    found = list(known) if known else []
+    for callback, *_ in getattr(future, "_callbacks", None) or ():
+        found.extend(_set_by(callback, future))
+    return found
+
+
+def _set_by(callback: Any, future: asyncio.Future[Any]) -> Iterator[asyncio.Future[Any]]:
+    """What a callback of asyncio's own wakes or sets as the future is done: of a task that awaits it, and of gather, shield, wait,
+    wait_for and TaskGroup."""
+    owner: Any = getattr(callback, "__self__", None)
+    if getattr(owner, "_fut_waiter", None) is future:
+        yield owner
+    elif isinstance(callback, functools.partial):
+        # wait_for, below Python 3.12.
+        yield from (given for given in callback.args if asyncio.isfuture(given))
+    elif _is_asyncio_s(type(owner)) and asyncio.isfuture(getattr(owner, "_parent_task", None)):
+        yield owner._parent_task
+    elif _is_asyncio_s(callback) and hasattr(callback, "__code__"):
+        # The names are those of asyncio.tasks. A wait for the first of several may end without this one.
+        cells = {name: cell.cell_contents for name, cell in zip(callback.__code__.co_freevars, callback.__closure__ or ())}
+        if cells.get("return_when", asyncio.ALL_COMPLETED) == asyncio.ALL_COMPLETED:
+            yield from (cells[name] for name in ("outer", "waiter") if asyncio.isfuture(cells.get(name)))
+
+
+def _is_asyncio_s(what: Any) -> bool:
+    return str(getattr(what, "__module__", None)).startswith("asyncio.")

@@ -1,0 +1,139 @@
+/* What a table holds, and what it has counted. */
+#include "native.h"
+
+Py_ssize_t table_length(Table *self) {
+    Py_ssize_t entries;
+    int is_open;
+    STEP
+    entries = self->entries, is_open = self->caches->is_open;
+    END_STEP
+    if (!is_open) refuse(self, RD_CLOSED);
+    return is_open ? entries : -1;
+}
+
+static PyObject *tuple_of(const uint64_t *numbers, Py_ssize_t count) {
+    PyObject *all = PyTuple_New(count);
+    for (Py_ssize_t i = 0; all && i < count; i++) {
+        PyObject *number = PyLong_FromUnsignedLongLong(numbers[i]);
+        if (!number || PyTuple_SetItem(all, i, number) < 0) Py_CLEAR(all);
+    }
+    return all;
+}
+
+/* Adds one shard's numbers; the latest moment is the latest of any. */
+static void add_numbers(rd_numbers *sum, const rd_numbers *of) {
+    uint64_t latest = sum->latest > of->latest ? sum->latest : of->latest, *to = &sum->lookups;
+    for (int i = 0; i < NUMBERS; i++) to[i] += (&of->lookups)[i];
+    sum->latest = latest;
+}
+
+static PyObject *table_numbers(Table *self, PyObject *none) {
+    (void)none;
+    rd_numbers sum = {0}, numbers;
+    uint64_t fault = 0;
+    STEP
+    for (uint64_t i = 0; i < self->shards && !fault; i++) {
+        fault = rd_get_numbers(&self->caches[i], &numbers);
+        if (!fault) add_numbers(&sum, &numbers);
+    }
+    END_STEP
+    if (fault) return refuse(self, fault), NULL;
+    return tuple_of(&sum.lookups, NUMBERS);
+}
+
+static PyObject *table_counts(Table *self, PyObject *none) {
+    (void)none;
+    Counts counts;
+    STEP
+    counts = self->counts;
+    END_STEP
+    return tuple_of(&counts.hits, sizeof counts / sizeof(uint64_t));
+}
+
+static PyObject *table_refused(Table *self, PyObject *none) {
+    (void)none;
+    PyObject *all = PyDict_New();
+    for (int i = 0; all && i < FAULTS; i++) {
+        if (!self->refused[i]) continue;
+        PyObject *fault = PyLong_FromLong(i < 8 ? i : 92 + i), *count = PyLong_FromUnsignedLongLong(self->refused[i]);
+        if (!fault || !count || PyDict_SetItem(all, fault, count) < 0) Py_CLEAR(all);
+        Py_XDECREF(fault);
+        Py_XDECREF(count);
+    }
+    return all;
+}
+
+static PyObject *table_kept(Table *self, PyObject *none) {
+    (void)none;
+    Py_ssize_t entries, loads;
+    STEP
+    entries = self->entries, loads = self->loads;
+    END_STEP
+    return Py_BuildValue("nn", entries, entries + loads);
+}
+
+/* Copies each use with references to its key and its load, as far as there is room. Returns how many there are. */
+static Py_ssize_t copied(Table *self, Use *all, Py_ssize_t room) {
+    Py_ssize_t count = 0;
+    STEP
+    for (uint64_t i = 0; i <= self->mask; i++)
+        for (Use *use = self->buckets[i]; use; use = use->next, count++) {
+            if (count >= room) continue;
+            all[count] = *use;
+            Py_INCREF(use->key);
+            Py_XINCREF((PyObject *)use->load);
+        }
+    END_STEP
+    return count;
+}
+
+static PyObject *key_of(const Use *use) {
+    Py_INCREF(use->key);
+    return use->key;
+}
+
+static PyObject *row_of(const Use *use) {
+    PyObject *load = use->load ? (PyObject *)use->load : Py_None;
+    return Py_BuildValue("KKO", use->hash, use->number, load);
+}
+
+/* A list of what `of` makes of each use at one moment: of all, or of entries alone. */
+static PyObject *list_of(Table *self, int with_loads, PyObject *of(const Use *use)) {
+    Py_ssize_t room = self->entries + self->loads;
+    Use *all = zeroed(((size_t)room + 1) * sizeof(Use));
+    if (!all) return PyErr_NoMemory();
+    Py_ssize_t count = copied(self, all, room);
+    PyObject *list = PyList_New(0);
+    for (Py_ssize_t i = 0; i < count && i < room; i++) {
+        PyObject *one = list && (with_loads || !all[i].load) ? of(&all[i]) : NULL;
+        if (one && PyList_Append(list, one) < 0) Py_CLEAR(list);
+        Py_XDECREF(one);
+        if (PyErr_Occurred()) Py_CLEAR(list);
+        Py_DECREF(all[i].key);
+        Py_XDECREF((PyObject *)all[i].load);
+    }
+    PyMem_Free(all);
+    return list;
+}
+
+static PyObject *table_uses(Table *self, PyObject *none) { return (void)none, list_of(self, 1, row_of); }
+
+PyObject *table_iter(Table *self) {
+    if (!self->caches->is_open) return refuse(self, RD_CLOSED), NULL;
+    PyObject *keys = list_of(self, 0, key_of), *iterator = keys ? PyObject_GetIter(keys) : NULL;
+    Py_XDECREF(keys);
+    return iterator;
+}
+
+PyMethodDef held_methods[] = {
+    {"kept", METHOD(table_kept), METH_NOARGS,
+     "kept($self)\n--\n\n"
+     "Returns how many values this side keeps, and how many keys, of entries and open loads."},
+    {"refused", METHOD(table_refused), METH_NOARGS,
+     "refused($self)\n--\n\n"
+     "Returns how many calls were refused, by the fault's number."},
+    {"_numbers", METHOD(table_numbers), METH_NOARGS, "The numbers of the library, of all shards together."},
+    {"_counts", METHOD(table_counts), METH_NOARGS, "What this side counted, in the order of Stats."},
+    {"_uses", METHOD(table_uses), METH_NOARGS, "(hash, number, load or None) of each key of an entry or an open load."},
+    {NULL, NULL, 0, NULL},
+};

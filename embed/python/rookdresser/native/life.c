@@ -1,0 +1,196 @@
+/* The life of a table: how it is opened, what gc sees of it, and its end. */
+#include "native.h"
+
+static const char *const SETTINGS[] = {"entries", "window", "flights", "bound", "after_write", "after_access", "refresh"};
+
+PyObject *table_new(PyTypeObject *type, PyObject *args, PyObject *names) {
+    (void)args, (void)names;
+    Table *self = (Table *)PyType_GenericAlloc(type, 0);
+    if (self) self->buckets = &self->one_bucket, self->caches = &self->one_cache, self->shards = 1;
+    return (PyObject *)self;
+}
+
+/* Raises Refused of a setting, and returns null. */
+static PyObject *out_of_range(PyObject *refusal, const char *setting) {
+    PyObject *why = PyUnicode_FromFormat("%s is out of its range", setting);
+    PyObject *error = why ? PyObject_CallFunction(refusal, "iO", RD_BAD_SETUP, why) : NULL;
+    if (error) PyErr_SetObject(refusal, error);
+    Py_XDECREF(why);
+    Py_XDECREF(error);
+    return NULL;
+}
+
+/* The setup of each shard. Entries, window and bound are of all shards together, and are shared out, rounding up. */
+static int setup_of(PyObject *given, uint64_t shards, rd_setup *setup) {
+    uint64_t number[7] = {0};
+    for (int i = 0; i < 7; i++) {
+        PyObject *setting = PyTuple_GetItem(given, i);
+        if (i == 1 && setting == Py_None) continue;
+        Py_INCREF(setting);
+        if (whole(setting, i < 3 ? 32 : 64, SETTINGS[i], &number[i]) < 0) return -1;
+    }
+    uint64_t entries = number[0] / shards + (number[0] % shards != 0), bound = number[3] / shards + (number[3] % shards != 0);
+    uint64_t window = number[1] / shards + (number[1] % shards != 0);
+    if (PyTuple_GetItem(given, 1) == Py_None) window = entries / 100 ? entries / 100 : 1;
+    *setup = (rd_setup){(uint32_t)entries, (uint32_t)window, (uint32_t)number[2], bound, number[4], number[5], number[6]};
+    return 0;
+}
+
+static int take_seed(Table *self, PyObject *seed) {
+    char *bytes;
+    Py_ssize_t length;
+    if (seed == Py_None) return 0;
+    if (PyBytes_AsStringAndSize(seed, &bytes, &length) < 0) return -1;
+    if (length != 24) {
+        PyErr_SetString(PyExc_ValueError, "a seed has 24 bytes");
+        return -1;
+    }
+    memcpy(self->seed, bytes, 16);
+    memcpy(&self->mark, bytes + 16, 8);
+    self->is_seeded = 1;
+    return 0;
+}
+
+/* The memory of the buckets and of the caches. */
+static int take_memory(Table *self, const rd_setup *setup, uint64_t shards) {
+    uint64_t buckets = 8;
+    while (buckets < ((uint64_t)setup->entries + setup->flights) * shards && buckets < UINT64_C(1) << 40) buckets *= 2;
+    Use **all = zeroed(buckets * sizeof *all);
+    rd_cache *caches = shards > 1 ? zeroed(shards * sizeof *caches) : &self->one_cache;
+    if (!all || !caches) {
+        PyMem_Free(all);
+        if (shards > 1) PyMem_Free(caches);
+        PyErr_NoMemory();
+        return -1;
+    }
+    self->buckets = all, self->mask = buckets - 1, self->caches = caches, self->shards = shards;
+    return 0;
+}
+
+static PyObject *given_or_null(PyObject *given) {
+    if (given == Py_None) return NULL;
+    Py_INCREF(given);
+    return given;
+}
+
+static PyObject *table_open(Table *self, PyObject *args) {
+    PyObject *given, *of_shards, *seed, *weigh, *clock, *on_leave, *log, *plain, *prime, *load_type, *refusal, *waits;
+    int hash_is_secret;
+    uint64_t shards;
+    rd_setup setup;
+    if (!PyArg_ParseTuple(args, "O!OOpOOOOOO!O!OO", &PyTuple_Type, &given, &of_shards, &seed, &hash_is_secret, &weigh, &clock, &on_leave,
+                          &log, &plain, &PyLong_Type, &prime, &PyType_Type, &load_type, &refusal, &waits))
+        return NULL;
+    if (self->load_type || PyTuple_Size(given) != 7 || PyType_GetSlot((PyTypeObject *)load_type, Py_tp_new) != (void *)load_new
+        || !is_of(waits, Py_tp_methods, waits_methods))
+        return PyErr_Format(PyExc_ValueError, "a cache is opened once, by Cache(..)");
+    Py_INCREF(of_shards);
+    if (whole(of_shards, 32, "shards", &shards) < 0) return NULL;
+    if (shards < 1 || shards > 4096) return out_of_range(refusal, "shards");
+    if (setup_of(given, shards, &setup) < 0 || take_seed(self, seed) < 0) return NULL;
+    uint64_t wrong = rd_check(&setup);
+    if (wrong) return out_of_range(refusal, SETTINGS[wrong - 1]);
+    if (take_memory(self, &setup, shards) < 0) return NULL;
+    self->hash_is_secret = (char)hash_is_secret;
+    self->load_type = given_or_null(load_type), self->refusal = given_or_null(refusal), self->waits = (Waits *)given_or_null(waits);
+    self->log = given_or_null(log), self->plain = given_or_null(plain), self->prime = given_or_null(prime);
+    self->weigh = given_or_null(weigh), self->clock = given_or_null(clock), self->on_leave = given_or_null(on_leave);
+    for (uint64_t i = 0; i < shards; i++) {
+        uint64_t fault = rd_open(&setup, &self->caches[i]);
+        if (!fault) continue;
+        while (i) rd_close(&self->caches[--i]);
+        return refuse(self, fault), NULL;
+    }
+    Py_RETURN_NONE;
+}
+
+static int table_traverse(Table *self, visitproc visit, void *arg) {
+    Py_VISIT(Py_TYPE(self));
+    Py_VISIT(self->weigh);
+    Py_VISIT(self->clock);
+    Py_VISIT(self->on_leave);
+    Py_VISIT(self->log);
+    Py_VISIT(self->plain);
+    Py_VISIT(self->load_type);
+    Py_VISIT(self->refusal);
+    Py_VISIT((PyObject *)self->waits);
+    Py_VISIT((PyObject *)self->spare);
+    for (uint64_t i = 0; i <= self->mask; i++)
+        for (Use *use = self->buckets[i]; use; use = use->next) {
+            Py_VISIT(use->key);
+            Py_VISIT(use->value);
+            Py_VISIT((PyObject *)use->load);
+        }
+    return 0;
+}
+
+/* What is there is reported to nobody. A finalizer may still call a table that gc has cleared, and is refused. */
+static int table_clear(Table *self) {
+    Use *left = take_all(self, 1);
+    Load *spare = self->spare;
+    self->spare = NULL;
+    free_uses(left);
+    Py_XDECREF((PyObject *)spare);
+    Py_CLEAR(self->weigh);
+    Py_CLEAR(self->clock);
+    Py_CLEAR(self->on_leave);
+    return 0;
+}
+
+static void table_dealloc(Table *self) {
+    PyTypeObject *type = Py_TYPE(self);
+    PyObject_GC_UnTrack(self);
+    table_clear(self);
+    Py_XDECREF((PyObject *)self->spare); /* a finalizer may have left one */
+    Py_CLEAR(self->log);
+    Py_CLEAR(self->plain);
+    Py_CLEAR(self->prime);
+    Py_CLEAR(self->load_type);
+    Py_CLEAR(self->refusal);
+    Py_XDECREF((PyObject *)self->waits);
+    if (self->buckets != &self->one_bucket) PyMem_Free(self->buckets);
+    if (self->caches != &self->one_cache) PyMem_Free(self->caches);
+    ((freefunc)PyType_GetSlot(type, Py_tp_free))(self);
+    Py_DECREF(type);
+}
+
+/* Table[K, V], as an annotation or a base. */
+static PyObject *itself(PyObject *type, PyObject *of) {
+    (void)of;
+    Py_INCREF(type);
+    return type;
+}
+
+static PyMethodDef life_methods[] = {
+    {"_open", METHOD(table_open), METH_VARARGS, "Opens the cache, once."},
+    {"__class_getitem__", itself, METH_O | METH_CLASS, "Returns the class, for annotations."},
+    {NULL, NULL, 0, NULL},
+};
+
+/* All methods, in one list: module.c joins them before it makes the type. */
+static PyMethodDef all_methods[40];
+
+static PyType_Slot table_slots[] = {
+    {Py_tp_doc, "What a cache keeps, and its calls."},
+    {Py_tp_new, (void *)table_new},
+    {Py_tp_dealloc, (void *)table_dealloc},
+    {Py_tp_traverse, (void *)table_traverse},
+    {Py_tp_clear, (void *)table_clear},
+    {Py_tp_methods, all_methods},
+    {Py_tp_iter, (void *)table_iter},
+    {Py_sq_contains, (void *)table_contains},
+    {Py_mp_length, (void *)table_length},
+    {Py_mp_subscript, (void *)table_item},
+    {Py_mp_ass_subscript, (void *)table_set_item},
+    {0, NULL},
+};
+
+PyType_Spec table_spec = {"rookdresser._native.Table", sizeof(Table), 0, BASE_WITH_GC, table_slots};
+
+void join_methods(void) {
+    PyMethodDef *to = all_methods;
+    for (PyMethodDef *from = call_methods; from->ml_name; from++) *to++ = *from;
+    for (PyMethodDef *from = held_methods; from->ml_name; from++) *to++ = *from;
+    for (PyMethodDef *from = life_methods; from->ml_name; from++) *to++ = *from;
+    *to = (PyMethodDef){NULL, NULL, 0, NULL};
+}

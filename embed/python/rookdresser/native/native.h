@@ -1,0 +1,156 @@
+/* What the files of the module share. module.c states the rule that all of them keep. */
+#ifndef ROOKDRESSER_NATIVE_H
+#define ROOKDRESSER_NATIVE_H
+#define PY_SSIZE_T_CLEAN
+#include <Python.h>
+#include <stdint.h>
+#include <string.h>
+#include "rookdresser.h"
+
+/* The marks of a step on the object `self`. tools/gate/check_native_steps reads what stands between them. */
+#ifdef Py_GIL_DISABLED
+#define STEP Py_BEGIN_CRITICAL_SECTION(self);
+#define END_STEP Py_END_CRITICAL_SECTION();
+#else
+#define STEP {
+#define END_STEP }
+#endif
+
+enum { FAULTS = 16, NUMBERS = sizeof(rd_numbers) / sizeof(uint64_t) };
+
+typedef struct Load Load;
+typedef struct Wait Wait;
+typedef struct Waits Waits;
+
+/* A key that is in use: one for its entry, and one for each open load of it. A token is the address of its entry's Use. */
+typedef struct Use {
+    struct Use *next; /* of its bucket, or of what left */
+    PyObject *key;
+    PyObject *value; /* null if it is a load's */
+    Load *load;      /* null if it is an entry's */
+    uint64_t hash;   /* made of the key */
+    uint64_t number; /* the library's key: hash, or one a little above it that no other key in use has */
+    uint32_t cause;  /* an rd_cause, once it has left */
+} Use;
+
+/* A load that one thread or task makes. */
+struct Load {
+    PyObject_HEAD
+    void *table;         /* whose it is; compared, never followed */
+    Use *use;            /* the table's while the load is open; before, the one that it brings along */
+    Use *left;           /* what left in its seek; reported once it has ended, so that on_leave may ask for the key */
+    uint64_t id, now;    /* the library's number of the load, and the moment of its seek in milliseconds */
+    long long begun;     /* nanoseconds, by a clock that doesn't go back */
+    unsigned long thread;
+    PyObject *task;      /* a weak reference, or null if a thread makes the load */
+    void *loop;          /* the task's; compared, never followed */
+    PyObject *old, *value, *error;
+    Waits *graph;
+    Wait *waits;         /* all who wait for it */
+    Load *next, *before; /* of the loads that somebody waits for */
+    char is_open, is_over, is_refresh;
+};
+
+/* A thread or task that waits for a load. */
+struct Wait {
+    Wait *next, *before; /* of the load */
+    Load *load;          /* who waits keeps it alive */
+    uint64_t serial;     /* waits are counted as they begin */
+    PyThread_type_lock lock; /* of a thread, released as the load ends; null for a task */
+    unsigned long thread;
+    PyObject *loop;      /* that runs in the thread, or null */
+    PyObject *task_wait; /* for a task, the object that this struct is part of; not a reference */
+    char is_linked;
+};
+
+/* All waits of the process. */
+struct Waits {
+    PyObject_HEAD
+    Load *first; /* the loads that somebody waits for */
+    uint64_t serial;
+};
+
+/* The fields of _stats.py, in their order. */
+typedef struct {
+    uint64_t hits, misses, joins, loads, failed, refreshes, load_ns, stale, left[4];
+} Counts;
+
+typedef struct {
+    PyObject_HEAD
+    rd_cache *caches, one_cache; /* one for each shard */
+    uint64_t shards;
+    Use **buckets, *one_bucket;
+    uint64_t mask;             /* how many buckets there are, less one */
+    uint64_t displaced, reach; /* how many uses have another number than their hash, and how far that is at most */
+    Py_ssize_t entries, loads; /* how many uses of each kind there are */
+    Load *spare;               /* for the next load, so that no memory is asked for after its seek */
+    uint64_t seed[2], mark;
+    char is_seeded, hash_is_secret;
+    PyObject *weigh, *clock, *on_leave; /* or null */
+    PyObject *log, *plain, *prime, *refusal, *load_type;
+    Waits *waits;
+    Counts counts;
+    uint64_t refused[FAULTS];
+} Table;
+
+/* What makes a value: function(key), or function(*args, **names) if there are args. */
+typedef struct {
+    PyObject *function, *args, *names;
+} Loader;
+
+/* table.c: the uses, by the numbers of their keys. */
+Use **bucket_of(Table *self, uint64_t number);
+rd_cache *shard_of(Table *self, uint64_t number);
+void link_use(Table *self, Use *use, uint64_t hash, uint64_t number);
+void unlink_use(Table *self, Use *use);
+void free_uses(Use *use);
+int find(Table *self, PyObject *key, uint64_t hash, uint64_t *number);
+Load *load_of(Table *self, uint64_t number, uint64_t id);
+void take_left(Table *self, rd_cache *cache, const rd_answer *answer, Use **left);
+Use *take_all(Table *self, int with_loads);
+
+/* ask.c: what runs code of the caller's. */
+void *zeroed(size_t size);
+int is_of(PyObject *object, int slot, const void *has);
+int arguments(PyObject *const *args, Py_ssize_t count, PyObject *names, int least, int most, const char *const *known, PyObject **given);
+int whole(PyObject *given, int bits, const char *what, uint64_t *number);
+int now_of(Table *self, uint64_t *now);
+long long nanoseconds(void);
+int weight_of(Table *self, PyObject *key, PyObject *value, uint64_t *weight);
+void refuse(Table *self, uint64_t fault);
+int tell(Table *self, Use *left);
+
+/* keys.c: the number that is made of a key. */
+int hash_of(Table *self, PyObject *key, uint64_t *hash);
+
+/* loads.c: how a load begins and ends. */
+int seek(Table *self, PyObject *key, Load *mine, PyObject **found);
+int land(Table *self, Load *load, PyObject *value);
+int fail(Table *self, Load *load, PyObject *error);
+PyObject *failed(Table *self, Load *load);
+PyObject *get(Table *self, PyObject *key, const Loader *loader, PyObject *timeout);
+
+/* waits.c: who waits for which load. */
+void link_wait(Waits *self, Load *load, Wait *wait);
+void unlink_wait(Wait *wait);
+int ring(Load *load);
+int wait_for(Table *self, Load *load, PyObject *timeout);
+
+/* The methods and types, for module.c. */
+PyObject *load_new(PyTypeObject *type, PyObject *args, PyObject *names);
+PyObject *table_new(PyTypeObject *type, PyObject *args, PyObject *names);
+extern PyMethodDef call_methods[], held_methods[], waits_methods[];
+extern PyType_Spec table_spec, load_spec, waits_spec, task_wait_spec, function_spec;
+PyObject *table_item(Table *self, PyObject *key);
+int table_set_item(Table *self, PyObject *key, PyObject *value);
+int table_contains(Table *self, PyObject *key);
+PyObject *table_iter(Table *self);
+Py_ssize_t table_length(Table *self);
+
+/* The flags of a type that may be a base, and whose objects gc visits. */
+#define BASE_WITH_GC (Py_TPFLAGS_DEFAULT | Py_TPFLAGS_BASETYPE | Py_TPFLAGS_HAVE_GC)
+
+/* How a method of C is written down in a PyMethodDef. */
+#define FAST METH_FASTCALL | METH_KEYWORDS
+#define METHOD(function) (PyCFunction)(void (*)(void))function
+#endif

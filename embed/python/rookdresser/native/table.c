@@ -1,0 +1,125 @@
+/* The uses of a table, chained in buckets by the numbers of their keys. */
+#include "native.h"
+
+Use **bucket_of(Table *self, uint64_t number) { return &self->buckets[(number ^ number >> 32) & self->mask]; }
+
+/* The cache of the key's shard: by the number's middle bits, spread for numbers that are small. */
+rd_cache *shard_of(Table *self, uint64_t number) {
+    if (self->shards == 1) return self->caches;
+    uint64_t spread = number * 0x9E3779B97F4A7C15u >> 32;
+    return &self->caches[spread * self->shards >> 32];
+}
+
+static int is_in_use(Table *self, uint64_t number) {
+    for (Use *use = *bucket_of(self, number); use; use = use->next)
+        if (use->number == number) return 1;
+    return 0;
+}
+
+void link_use(Table *self, Use *use, uint64_t hash, uint64_t number) {
+    Use **bucket = bucket_of(self, number);
+    use->hash = hash, use->number = number, use->next = *bucket, *bucket = use;
+    if (number != hash) {
+        self->displaced++;
+        if (number - hash > self->reach) self->reach = number - hash;
+    }
+    *(use->load ? &self->loads : &self->entries) += 1;
+}
+
+void unlink_use(Table *self, Use *use) {
+    Use **at = bucket_of(self, use->number);
+    while (*at != use) at = &(*at)->next;
+    *at = use->next, use->next = NULL;
+    if (use->number != use->hash && --self->displaced == 0) self->reach = 0;
+    *(use->load ? &self->loads : &self->entries) -= 1;
+}
+
+void free_uses(Use *use) {
+    while (use) {
+        Use *next = use->next;
+        Py_XDECREF(use->key);
+        Py_XDECREF(use->value);
+        Py_XDECREF((PyObject *)use->load);
+        PyMem_Free(use);
+        use = next;
+    }
+}
+
+/* The use of this number from which the search goes on after a comparison with its key, or null if that has gone. */
+static Use *found_again(Table *self, PyObject *key, uint64_t hash, uint64_t number) {
+    Use *use = *bucket_of(self, number);
+    while (use && !(use->key == key && use->number == number && use->hash == hash)) use = use->next;
+    return use;
+}
+
+/* Whether the key is in use under this number: 1 or 0, -1 if a comparison raised, -2 if it took out the key that it compared with. */
+static int is_under(Table *self, PyObject *key, uint64_t hash, uint64_t number) {
+    for (Use *use = *bucket_of(self, number); use; use = use->next) {
+        if (use->number != number || use->hash != hash) continue;
+        if (use->key == key) return 1;
+        PyObject *other = use->key;
+        Py_INCREF(other);
+        int is_equal = PyObject_RichCompareBool(other, key, Py_EQ);
+        use = found_again(self, other, hash, number);
+        Py_DECREF(other);
+        if (is_equal < 0) return -1;
+        if (!use) return -2;
+        if (is_equal) return 1;
+    }
+    return 0;
+}
+
+/* Finds the number that the key has, or the one that it is to have: its hash, or the next that is free, so that a key that comes again
+ * is counted with its earlier uses. 0, or -1 if a comparison raised or goes on changing the table.
+ *
+ * A comparison may change all that is here. It is over before this returns, and the table is read anew after it. A key that comes in
+ * meanwhile beyond the reach at the begin isn't compared with, so that one whose comparison always puts a further key comes to an end. */
+int find(Table *self, PyObject *key, uint64_t hash, uint64_t *number) {
+    for (int tries = 0; tries < 1000; tries++) {
+        uint64_t reach = self->reach;
+        int found = 0;
+        for (*number = hash; found == 0 && *number - hash <= reach; ++*number) found = is_under(self, key, hash, *number);
+        if (found == -1) return -1;
+        if (found == 1) return --*number, 0;
+        if (found == -2) continue;
+        for (*number = hash; is_in_use(self, *number);) ++*number;
+        return 0;
+    }
+    PyErr_SetString(PyExc_RuntimeError, "the comparison of a key takes out the keys that it is compared with, again and again");
+    return -1;
+}
+
+Load *load_of(Table *self, uint64_t number, uint64_t id) {
+    Use *use = *bucket_of(self, number);
+    while (use && !(use->load && use->load->id == id && use->number == number)) use = use->next;
+    return use ? use->load : NULL;
+}
+
+/* Takes what left in the call out of the table, and appends it to `left`. */
+void take_left(Table *self, rd_cache *cache, const rd_answer *answer, Use **left) {
+    rd_notice notice;
+    if (!answer->notices) return;
+    while (*left) left = &(*left)->next;
+    for (uint64_t i = 0; i < answer->notices && !rd_get_notice(cache, i, &notice); i++, left = &(*left)->next) {
+        Use *use = (Use *)(uintptr_t)notice.token;
+        unlink_use(self, use);
+        use->cause = notice.cause, *left = use;
+        self->counts.left[notice.cause - 1]++;
+    }
+}
+
+/* Closes the library's side. All entries have left, and the loads too if they are to. */
+Use *take_all(Table *self, int with_loads) {
+    Use *left = NULL, *use, *next;
+    for (uint64_t i = 0; i <= self->mask; i++)
+        for (use = self->buckets[i]; use; use = next) {
+            next = use->next;
+            if (use->load && !with_loads) continue;
+            unlink_use(self, use);
+            if (use->load) use->load->use = NULL, use->load->is_open = 0;
+            else self->counts.left[RD_EXPLICIT - 1]++;
+            use->cause = RD_EXPLICIT, use->next = left, left = use;
+        }
+    for (uint64_t i = 0; i < self->shards; i++) rd_close(&self->caches[i]);
+    return left;
+}

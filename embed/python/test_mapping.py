@@ -1,0 +1,171 @@
+#!/usr/bin/env python3
+"""A cache as a mapping, in shards, and what the package says of itself."""
+import copy
+import pickle
+import re
+import unittest
+from pathlib import Path
+
+import rookdresser
+from rookdresser import Cache, Refused
+from threads import CacheTest
+
+HERE = Path(__file__).resolve().parent
+
+
+class Mapping(CacheTest):
+    """What a mapping of Python does."""
+
+    def test_items_are_found_set_and_taken_out(self):
+        left = []
+        with Cache(entries=10, on_leave=lambda *of: left.append(of)) as cache:
+            cache["a"] = 1
+            self.assertEqual((cache["a"], "a" in cache, "b" in cache, len(cache), bool(cache)), (1, True, False, 1, True))
+            del cache["a"]
+            self.assertEqual((left, len(cache)), ([("a", 1, "explicit")], 0))
+            for wrong in (("a",), "a"):
+                with self.assertRaises(KeyError) as caught:
+                    cache[wrong]
+                self.assertEqual(caught.exception.args, (wrong,))
+                with self.assertRaises(KeyError):
+                    del cache[wrong]
+            self.assertEqual((cache.stats().hits, cache.stats().misses), (2, 3))
+
+    def test_pop_takes_out_and_returns(self):
+        now, left = [0], []
+        with Cache(entries=10, after_write=100, clock=lambda: now[0], on_leave=lambda *of: left.append(of)) as cache:
+            cache.put("a", 1)
+            cache.put("b", None)
+            self.assertEqual((cache.pop("a"), cache.pop("a", 7), cache.pop("a", default=None), cache.pop("b", 7)), (1, 7, None, None))
+            with self.assertRaises(KeyError) as caught:
+                cache.pop(("a", 1))
+            self.assertEqual(caught.exception.args, (("a", 1),))
+            cache.put("a", 2)
+            now[0] = 100
+            self.assertEqual(cache.pop("a", 7), 7)
+            self.assertEqual(left, [("a", 1, "explicit"), ("b", None, "explicit"), ("a", 2, "expired")])
+            self.assertEqual((cache.stats().hits, cache.numbers()["hits"]), (2, 2))
+            self.holds_exactly(cache, 0)
+
+    def test_a_pop_during_a_load_keeps_its_value_out(self):
+        with Cache(entries=10) as cache:
+            self.assertEqual(cache.get("a", lambda key: cache.pop(key, 5)), 5)
+            self.holds_exactly(cache, 0)
+
+    def test_iteration_is_over_the_keys_of_one_moment(self):
+        with Cache(entries=100) as cache:
+            cache.put_many((key, -key) for key in range(50))
+            seen = []
+            for key in cache:
+                seen.append(key)
+                cache.drop(key)
+                cache.put(key + 1000, 1)
+            self.assertEqual(sorted(seen), list(range(50)))
+            # An open load is no entry.
+            self.assertEqual(len(cache.get("a", lambda key: list(cache))), 50)
+
+    def test_a_cache_is_neither_copied_nor_pickled(self):
+        for call in (copy.copy, copy.deepcopy, pickle.dumps):
+            with self.assertRaises(TypeError):
+                call(Cache(entries=10))
+
+    def test_it_tells_what_it_is(self):
+        cache = Cache(entries=10)
+        cache.put("a", 1)
+        self.assertEqual(repr(cache), "<Cache of 10 entries, 1 held>")
+        cache.close()
+        self.assertEqual(repr(cache), "<Cache of 10 entries, closed>")
+
+    def test_the_version_is_the_package_s(self):
+        said = re.search(r'^version = "(.*)"$', (HERE / "pyproject.toml").read_text(), re.M).group(1)
+        self.assertEqual(rookdresser.__version__, said)
+
+    def test_everything_that_is_public_has_a_docstring(self):
+        for name in rookdresser.__all__:
+            of = getattr(rookdresser, name)
+            self.assertTrue(of.__doc__, name)
+            for base in getattr(of, "__mro__", ())[:2]:
+                for method in vars(base):
+                    if not method.startswith("_") and callable(getattr(base, method)):
+                        self.assertTrue(getattr(base, method).__doc__, "%s.%s" % (name, method))
+
+    def test_calls_that_are_given_wrong_arguments_name_the_right_ones(self):
+        cache = Cache(entries=10)
+        for call, text in ((lambda: cache.get("a"), "get(key, load, timeout=None)"), (lambda: cache.look(), "look(key, default=None)"),
+                           (lambda: cache.put("a", 1, 2), "put(key, value)"), (lambda: cache.look("a", key="b"), "look(key, default=None)"),
+                           (lambda: cache.pop(name="a"), "pop(key[, default])")):
+            with self.assertRaises(TypeError) as caught:
+                call()
+            self.assertIn(text, str(caught.exception))
+        self.assertEqual((cache.get(load=lambda key: 1, key="a"), cache.look(key="a", default=2), cache.put(value=3, key="b")), (1, 1, None))
+
+    def test_no_call_of_the_private_part_crashes(self):
+        native = rookdresser._native
+        cache, closed, other = Cache(entries=10), Cache(entries=10), Cache(entries=10)
+        closed.close()
+        used = native.Load()
+        cache._seek("a", used, None, None)
+        opened = (10, 1, 1, 1, 0, 0, 0), 1, None, True, None, None, None, None, None, 7, native.Load, Refused
+        calls = [
+            lambda: native.Table().get("a", None), lambda: native.Table().look("a"), lambda: native.Table().put("a", 1), lambda: native.Table().pop("a"),
+            lambda: native.Table().clear(), lambda: len(native.Table()), lambda: iter(native.Table()), lambda: iter(closed), lambda: native.Table()._numbers(), lambda: native.Table()._seek("a", used, None, None),
+            lambda: native.Table()._open(*opened, None), lambda: native.Table()._open(*opened, native), lambda: cache._open(*opened, rookdresser._waits.waits),
+            lambda: native.Table()._open(), lambda: native.Function(7, len, None, None, None), lambda: native.Function(native.Table(), 7, None, None, None),
+            lambda: native.Function(native.Table(), len, None, None, None)(1), lambda: native.Function(), lambda: rookdresser._waits.waits.leads(7, 8),
+            lambda: rookdresser._waits.waits.leads(used, ("a", None)), lambda: rookdresser._waits.waits.behind(("a",), 1), lambda: native.TaskWait().begin(7),
+            lambda: native.TaskWait().begin(native.Load()), lambda: cache._seek("b", used, None, None), lambda: cache._seek("b", 7, None, None),
+            lambda: cache._seek("b", native.Load(), 7, None), lambda: cache._land(7, 8), lambda: cache._fail(used), lambda: cache._fail_all(7, used),
+            lambda: cache._fail_all([7, native.Load()], KeyError()), lambda: cache._wait(native.Load(), None), lambda: closed._seek("a", native.Load(), None, None),
+        ]
+        for call in calls:
+            with self.assertRaises((TypeError, ValueError, Refused)):
+                call()
+        # Of another cache, or ended: nothing happens.
+        self.assertEqual((other._land(used, 1), other._fail(used, KeyError()), native.TaskWait().end(), native.Table().close()), (1, False, None, None))
+        self.assertEqual((cache._land(used, 7), cache._land(used, 8), cache._fail(used, KeyError()), cache.look("a")), (7, 8, False, 7))
+        self.holds_exactly(cache, 1)
+
+
+class Shards(CacheTest):
+    def test_shards_hold_more_than_65536_entries(self):
+        with Cache(entries=200_000, shards=4) as cache:
+            for key in range(150_000):
+                cache.put(key, key)
+            self.assertEqual((len(cache), cache.numbers()["entries"]), (150_000, 150_000))
+            self.assertEqual({cache.look(key) - key for key in range(150_000)}, {0})
+            for key in range(150_000, 400_000):
+                cache.put(key, key)
+            self.assertLessEqual(len(cache), 200_000)
+            self.assertGreater(len(cache), 190_000)
+            self.holds_exactly(cache)
+            cache.clear()
+            self.holds_exactly(cache, 0)
+
+    def test_shards_are_filled_evenly_whatever_the_keys(self):
+        for seeded in (True, False):
+            for keys in (range(8000), range(0, 8000 * 64, 64), range(2 ** 40, 2 ** 40 + 8000)):
+                with Cache(entries=10_000, shards=8, seeded=seeded) as cache:
+                    for key in keys:
+                        cache.put(key, key)
+                    self.assertGreater(len(cache), 7800)
+
+    def test_each_call_goes_to_the_key_s_shard(self):
+        now, left = [0], []
+        cache = Cache(entries=200, shards=5, bound=200, after_write=100, clock=lambda: now[0], weigh=lambda key, value: 1, on_leave=lambda *of: left.append(of))
+        for key in range(20):
+            self.assertEqual(cache.get(key, lambda key: -key), -key)
+        self.assertEqual(cache.get_many(range(10), None), {key: -key for key in range(10)})
+        self.assertTrue(all(cache.drop(key) for key in range(5)))
+        numbers = cache.numbers()
+        self.assertEqual((numbers["entries"], numbers["weight"], numbers["loads"], numbers["lookups"], numbers["hits"]), (15, 15, 20, 30, 10))
+        now[0] = 100
+        cache.clean()
+        self.assertEqual(sorted(left), sorted([(key, -key, "explicit") for key in range(5)] + [(key, -key, "expired") for key in range(5, 20)]))
+        self.holds_exactly(cache, 0)
+        cache.close()
+        with self.assertRaises(Refused):
+            len(cache)
+
+
+if __name__ == "__main__":
+    unittest.main()

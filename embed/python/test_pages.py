@@ -1,0 +1,56 @@
+#!/usr/bin/env python3
+"""What README.md shows: its lines of Python are run, its settings and calls are those of the package."""
+import inspect
+import re
+import subprocess
+import sys
+import unittest
+from pathlib import Path
+
+import rookdresser
+from rookdresser import Cache
+
+HERE = Path(__file__).resolve().parent
+README = (HERE / "README.md").read_text()
+BLOCKS = re.findall(r"^```python\n(.*?)^```$", README, re.M | re.S)
+
+# What the page takes for given.
+GIVEN = "url, load, read = 'a', lambda key: 'the page', lambda *of: 'read %s %s' % of\n"
+
+
+def run(text, python=sys.executable):
+    return subprocess.run([python, "-c", text], cwd=HERE, capture_output=True, text=True)
+
+
+class Pages(unittest.TestCase):
+    def test_the_lines_of_the_page_run(self):
+        first, of_cached, of_prometheus = BLOCKS
+        done = run(GIVEN + first + of_cached)
+        self.assertEqual((done.stdout.splitlines(), done.stderr, done.returncode),
+                         (["0", "read 7 en CacheInfo(hits=0, misses=1, maxsize=1000, currsize=1)"], "", 0))
+
+    def test_prometheus_gets_the_numbers(self):
+        has = [python for python in (sys.executable, "/usr/bin/python3")
+               if run("import sys, prometheus_client; raise SystemExit(sys.version_info < (3, 10))", python).returncode == 0]
+        if not has:
+            self.skipTest("prometheus_client isn't there")
+        done = run("from rookdresser import Cache\ncache = Cache(entries=10)\ncache.put('a', 1), cache.look('a'), cache.look('a'), cache.look('b')\n"
+                   + BLOCKS[2], has[0])
+        self.assertEqual((done.stderr, done.returncode), ("", 0))
+        told = dict(line.split() for line in done.stdout.splitlines() if line and not line.startswith("#"))
+        wanted = {"cache_%s_total{cache=\"pages\"}" % field: 0.0 for field in rookdresser.Stats._fields}
+        wanted.update({"cache_hits_total{cache=\"pages\"}": 2.0, "cache_misses_total{cache=\"pages\"}": 1.0})
+        self.assertEqual({name: float(number) for name, number in told.items()}, wanted)
+
+    def test_every_setting_and_every_call_stands_in_the_page(self):
+        settings = set(inspect.signature(Cache.__init__).parameters) - {"self"}
+        calls = {name for of in (Cache, rookdresser._native.Table) for name in vars(of) if not name.startswith("_")}
+        words = set(re.findall(r"`(\w+)", README))
+        self.assertEqual((settings - words, calls - words), (set(), set()))
+        self.assertEqual({field for field in rookdresser.Stats._fields if field not in set(re.findall(r"\w+", README))}, set())
+        named = {word for cell in re.findall(r"^\| `(.*?)\|", README.split("| Setting")[1].split("## cached")[0], re.M) for word in re.findall(r"\w+", cell)}
+        self.assertEqual(named, settings)
+
+
+if __name__ == "__main__":
+    unittest.main()
