@@ -76,11 +76,11 @@ def made_with():
     yield "made with: " + said_by("cc", "--version")
     yield "made with: " + said_by("ld", "--version")
     yield "made with: " + said_by("git", "--version")
-    yield "made with: Python %s, zlib %s" % (".".join(map(str, sys.version_info[:2])), zlib.ZLIB_RUNTIME_VERSION)
+    yield "made with: Python %s with its headers, zlib %s" % (".".join(map(str, sys.version_info[:3])), zlib.ZLIB_RUNTIME_VERSION)
 
 
 def text(version, commit, changed, moment, gate, needs):
-    """The page. The needs are those of the program and of the library."""
+    """The page. The needs are those of the program, of the library and of Python's module."""
     unproved = "proved: NO. It was made by `tools/release --unproved`: nothing of its program and libraries is proved or checked"
     return "\n".join([
         "Rookdresser %s for Linux on x86-64" % version,

@@ -1,10 +1,14 @@
 """What goes into each file of a release: entries by their names, from what was built and what git holds of the checkout."""
 import re
 import subprocess
+import sys
 from pathlib import Path
 
 from archives import Entry
 from places import TOOLS, TOP
+
+sys.path.append(str(TOP / "embed/python"))
+import backend
 
 OWN = Path(__file__).resolve().parent / "release_files"
 PYTHON_TOOLS = ("hit_curve", "show_trace", "trace_convert", "trace_gen")
@@ -77,25 +81,19 @@ def for_system(built, needs):
 
 
 def for_python(built, needs, version):
-    """The package with the library in it, and what pip reads of it."""
-    said = dict(re.findall(r'^([\w-]+) = "(.*)"$', (TOP / "embed/python/pyproject.toml").read_text(), re.M))
+    """The package with the native module in it, and what pip reads of it."""
     info = "rookdresser-%s.dist-info/" % version
-    head = ("Metadata-Version: 2.1", "Name: rookdresser", "Version: " + version, "Summary: " + said["description"],
-            "Requires-Python: " + said["requires-python"], "Description-Content-Type: text/markdown", "")
-    about = "\n".join([*head, (TOP / "embed/python/README.md").read_text()])
-    tag = "Wheel-Version: 1.0\nGenerator: tools/release\nRoot-Is-Purelib: false\nTag: %s\n" % wheel_tag(needs)
     entries = {
-        **below("rookdresser/", tracked("embed/python/rookdresser"), "embed/python/rookdresser/"),
-        "rookdresser/librookdresser.so": Entry((built.library / built.soname).read_bytes(), runs=True),
-        "rookdresser/needs": needs_of(needs),
-        info + "METADATA": Entry(about.encode()),
-        info + "WHEEL": Entry(tag.encode()),
+        **{"rookdresser/" + path.name: Entry(path.read_bytes()) for path in backend.modules()},
+        "rookdresser/_native" + backend.SUFFIX: Entry(built.module.read_bytes(), runs=True),
+        info + "METADATA": Entry(backend.metadata(backend.about(), version).encode()),
+        info + "WHEEL": Entry(backend.wheel_text(wheel_tag(needs)).encode()),
     }
     return entries if built.is_proved else {**entries, "rookdresser/UNPROVED": Entry(UNPROVED)}
 
 
 def wheel_tag(needs):
-    return "py3-none-manylinux_%s_x86_64" % needs["glibc"].replace(".", "_")
+    return backend.tag_of("manylinux_%s_x86_64" % needs["glibc"].replace(".", "_"))
 
 
 def for_language(built, language, folder):

@@ -6,12 +6,12 @@ from .part import Part
 
 # The checks of pages and sources, each with the seconds that it takes.
 CHECKS = {"check_version": 1, "check_layout": 2, "check_prose": 1, "check_guarantees": 1, "print_pages": 1, "check_rules": 1, "check_options": 1,
-          "check_readme": 1, "check_pictures": 1, "check_checkers": 30}
+          "check_readme": 1, "check_pictures": 1, "check_checkers": 30, "check_native_steps": 1, "check_native_steps --wrong": 5}
 # Those of the program, which stands where a proved one would.
 OF_PROGRAM = {"check_program": ((), (), 40), "check_options --built": ((), (), 1), "check_pictures --built": ((), (), 2),
               "refuse_memory --program": (("cc",), (), 5), "check_tools": ((), (), 60), "check_page": (("chromium",), (), 60)}
-LANGUAGES = {"c": (("gcc", "g++", "nm", "objdump", "pkg-config"), 90), "rust": (("cargo", "cargo-clippy"), 90),
-             "python": (("mypy",), 60), "go": (("go",), 60)}
+LANGUAGES = {"c": (("gcc", "g++", "nm", "objdump", "pkg-config"), 90), "rust": (("cargo", "cargo-clippy"), 300),
+             "python": (("mypy",), 60), "go": (("go",), 200)}
 # The slowest crates' tests, in seconds of a core.
 SLOW = {"wt_replay": 120, "wt_shards_tests": 120, "wt_cache_tests": 120, "wt_callers_tests": 120, "wt_core_tests": 90, "wt_trace_tests": 90}
 
@@ -21,8 +21,10 @@ def python(*words):
 
 
 def of_sources(copy):
-    for name, seconds in CHECKS.items():
-        yield Part("sources: " + name, python(copy / "tools" / "gate" / name), copy, seconds, needs=("rt",) if name in ("check_version", "check_layout") else ())
+    for words, seconds in CHECKS.items():
+        name, *flags = words.split()
+        yield Part("sources: " + words, python(copy / "tools" / "gate" / name, *flags), copy, seconds,
+                   needs=("rt",) if name in ("check_version", "check_layout") else ())
 
 
 def of_crates(copy):
