@@ -11,7 +11,7 @@ CHECKS = {"check_version": 1, "check_layout": 2, "check_prose": 1, "check_guaran
 OF_PROGRAM = {"check_program": ((), (), 40), "check_options --built": ((), (), 1), "check_pictures --built": ((), (), 2),
               "refuse_memory --program": (("cc",), (), 5), "check_tools": ((), (), 60), "check_page": (("chromium",), (), 60)}
 LANGUAGES = {"c": (("gcc", "g++", "nm", "objdump", "pkg-config"), 90), "rust": (("cargo", "cargo-clippy"), 300),
-             "python": (("mypy",), 60), "go": (("go",), 200)}
+             "python": (("mypy", "python3-dbg"), 300), "go": (("go",), 200)}
 # The slowest crates' tests, in seconds of a core.
 SLOW = {"wt_replay": 120, "wt_shards_tests": 120, "wt_cache_tests": 120, "wt_callers_tests": 120, "wt_core_tests": 90, "wt_trace_tests": 90}
 
