@@ -1,7 +1,8 @@
 """Tries edits: several stand in one copy of their crate, and the prover is asked for their functions alone.
 
-An edit is refused only if a function that it guards or changes has an open goal of its own, and the goal is a clause that the edit's
-first lines name, or the invariant of a loop that carries the clause. That a function calls one that isn't proved is no goal of its own.
+An edit is refused if a function that it guards or changes has an open goal of its own: a clause that the edit's first lines name, the
+invariant of a loop that carries the clause, or a clause of an inner function that it changes. An edit that is refused by another goal
+alone, as by what a callee requires, is told apart. That a function calls one that isn't proved is no goal of its own.
 Why a refusal here is one of a whole check too: the prover is asked for the named functions and what they call in their modules, and a
 whole check proves those and more. An edit that only another function's proof refuses shows as not refused.
 """
@@ -50,11 +51,12 @@ def own_goals(lines):
     return goals, by_call
 
 
-def is_carried(goal, labels):
-    """Whether a goal is one of these clauses, or a loop's invariant, which carries them."""
+def is_carried(goal, name, edit):
+    """Whether a goal of a function is a clause that the edit names, or carries one: a loop's invariant, or an inner function's clause."""
     clause = re.search(r"clause-(\w+)$", goal)
     if goal.startswith("returns"):
-        return not clause or clause.group(1) in labels or bool(labels & {"ensures", "of its trait"})
+        is_inner = not any(ends_with(name, function) for function in edit.asked)
+        return is_inner or not clause or clause.group(1) in edit.labels or bool(edit.labels & {"ensures", "of its trait"})
     return "preserved" in goal or "-init" in goal or "smaller" in goal
 
 
@@ -117,7 +119,7 @@ class Trial:
         names = [name for name in by_call if belongs(name, edit)]
         own = [(goal, name) for name in names for goal in goals.get(name, [])]
         if own and not strange:
-            named = [pair for pair in own if is_carried(pair[0], edit.labels)]
+            named = [(goal, name) for goal, name in own if is_carried(goal, name, edit)]
             return (REFUSED if named else BY_OTHER), "%s of %s" % (named or own)[0]
         if any(belongs(name, edit) for name in limits):
             return AT_LIMIT, "it gave no verdict"
@@ -126,8 +128,12 @@ class Trial:
         return PROVED, "its functions are proved with this edit"
 
 
+def ends_with(name, function):
+    return ("::" + name).endswith("::" + function.printed())
+
+
 def belongs(name, edit):
-    return any(("::" + name).endswith("::" + function.printed()) for function in edit.functions())
+    return any(ends_with(name, function) for function in edit.functions())
 
 
 def link_or_copy(source, target):
