@@ -1,5 +1,6 @@
 // What the tests share: regions that are run as a cache runs them.
 mod beside_lists;
+mod compare;
 mod examples;
 mod refusals;
 

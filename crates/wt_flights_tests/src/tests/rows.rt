@@ -1,4 +1,5 @@
 use super::compare::same;
+use std::process::Abort;
 use std::test::Fail;
 use wt_flights::{FlightTable, Row};
 use wt_keys::{CacheKey, Fault, Field};
@@ -37,80 +38,87 @@ fn a_limit_is_from_1_to_4096(rt: HostRuntime) {
     }
 }
 
-#[test]
-fn a_forgotten_load_stays_open_beside_its_keys_next_one(rt: HostRuntime) -> Result<(), Fail> {
-    let mut table = FlightTable::new(rt.alloc(), 2)?;
-    same(&rt, "the first load's id", table.begin(7u64)?, 1);
+// Forgets the load of 7 and begins one anew, in a table of two loads.
+fn forget_one(rt: &impl Abort, table: &mut FlightTable<u64>) -> Result<(), Fault> {
     same(
-        &rt,
-        "joins of 7 and of 8",
-        (table.join(7), table.join(8)),
-        (Some(1), None),
-    );
-    same(
-        &rt,
+        rt,
         "two forgets of 7",
         (table.forget(7), table.forget(7)),
         (true, false),
     );
+    same(rt, "the load of 7 after its forget", table.current(7), None);
+    same(rt, "the next load's id", opened(table, 7)?, 2);
+    let full = Err(Fault::TooManyFlights { limit: 2 });
+    same(rt, "a third load of two", opened(table, 8), full);
+    Ok(())
+}
+
+// The forgotten load, and 7's next one.
+fn expect_both(rt: &impl Abort, table: &FlightTable<u64>) {
+    let loads = (table.current(7), table.first_of(7), table.first_of(8));
+    same(rt, "loads of 7 and 8", loads, (Some(2), Some(1), None));
+    let rows = (table.row(1), table.row(2), table.row(3));
     same(
-        &rt,
-        "the load of 7 after its forget",
-        table.current(7),
-        None,
-    );
-    same(&rt, "the next load's id", opened(&mut table, 7)?, 2);
-    same(
-        &rt,
-        "a third load of two",
-        opened(&mut table, 8),
-        Err(Fault::TooManyFlights { limit: 2 }),
-    );
-    same(
-        &rt,
-        "loads of 7 and 8",
-        (table.current(7), table.first_of(7), table.first_of(8)),
-        (Some(2), Some(1), None),
-    );
-    same(
-        &rt,
+        rt,
         "the rows of 1, 2 and 3",
-        (table.row(1), table.row(2), table.row(3)),
+        rows,
         (row(1, 7, false, 2), row(2, 7, true, 1), None),
     );
+}
+
+fn land_forgotten(rt: &impl Abort, table: &mut FlightTable<u64>) {
     same(
-        &rt,
+        rt,
         "the row of 1 as it lands",
         table.land(1),
         row(1, 7, false, 2),
     );
-    same(&rt, "a second landing of 1", table.land(1), None);
+    same(rt, "a second landing of 1", table.land(1), None);
+    let loads = (table.current(7), table.first_of(7));
     same(
-        &rt,
+        rt,
         "loads of 7 after the landing",
-        (table.current(7), table.first_of(7)),
+        loads,
         (Some(2), Some(2)),
     );
-    same(&rt, "the third load's id", opened(&mut table, 8)?, 3);
+}
+
+// Begins a load of 8, forgets it and 7's, and lands both.
+fn forget_all(rt: &impl Abort, table: &mut FlightTable<u64>) -> Result<(), Fault> {
+    same(rt, "the third load's id", opened(table, 8)?, 3);
     table.forget_all();
     same(
-        &rt,
+        rt,
         "loads after forgetting all",
         (table.current(7), table.current(8)),
         (None, None),
     );
+    let landed = (table.land(3), table.land(2));
     same(
-        &rt,
+        rt,
         "the rows of 3 and 2 as they land",
-        (table.land(3), table.land(2)),
+        landed,
         (row(3, 8, false, 1), row(2, 7, false, 1)),
     );
     same(
-        &rt,
+        rt,
         "rows and next id at the end",
         (table.len(), table.next_id()),
         (0, 4),
     );
+    Ok(())
+}
+
+#[test]
+fn a_forgotten_load_stays_open_beside_its_keys_next_one(rt: HostRuntime) -> Result<(), Fail> {
+    let mut table = FlightTable::new(rt.alloc(), 2)?;
+    same(&rt, "the first load's id", table.begin(7u64)?, 1);
+    let joins = (table.join(7), table.join(8));
+    same(&rt, "joins of 7 and of 8", joins, (Some(1), None));
+    forget_one(&rt, &mut table)?;
+    expect_both(&rt, &table);
+    land_forgotten(&rt, &mut table);
+    forget_all(&rt, &mut table)?;
     Ok(())
 }
 
@@ -150,14 +158,21 @@ fn as_many_loads_are_open_as_may_be(rt: HostRuntime) -> Result<(), Fail> {
     Ok(())
 }
 
+// Begins a load of a key that has no current one, and takes it back.
+fn begin_and_take_back(table: &mut FlightTable<u64>, key: u64) -> Result<(), Fault> {
+    if table.current(key).is_some() || table.next_id() >= 1 << 63 {
+        return Err(Fault::Mixed);
+    }
+    table.begin(key)?;
+    table.take_back();
+    Ok(())
+}
+
 #[test]
 fn a_load_that_is_taken_back_was_never_begun(rt: HostRuntime) -> Result<(), Fail> {
     let mut table = FlightTable::new(rt.alloc(), 2)?;
     opened(&mut table, 7u64)?;
-    // A fact for the call below, which `holds` would not tell the prover.
-    assert!(rt; table.current(8).is_none() && table.next_id() < 9);
-    table.begin(8)?;
-    table.take_back();
+    begin_and_take_back(&mut table, 8)?;
     same(
         &rt,
         "rows, next id and the load of 8",

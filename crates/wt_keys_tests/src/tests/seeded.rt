@@ -209,20 +209,25 @@ fn a_seed_takes_sixteen_bytes_of_its_source(rt: HostRuntime) -> Result<(), Fail>
     Ok(())
 }
 
+// Sixteen of the byte, and four of 1.
+fn sixteen(byte: u8) -> [u8; 20] {
+    let mut bytes = [1; 20];
+    for place in bytes.iter_mut().take(16) {
+        *place = byte;
+    }
+    bytes
+}
+
 #[test]
 fn fixed_bytes_are_given_whole_and_no_byte_past_them(rt: HostRuntime) -> Result<(), Fail> {
     for byte in [0, 0x7F, 0x80, 0xFF] {
         let mut buf = [1u8; 20];
         FixedBytes([byte; 16]).fill_bytes(&mut buf)?;
-        holds(
+        same(
             &rt,
-            "each byte is given",
-            buf.iter().take(16).all(|given| *given == byte),
-        );
-        holds(
-            &rt,
-            "no byte past them",
-            buf.iter().skip(16).all(|left| *left == 1),
+            "sixteen bytes, and those past them",
+            buf,
+            sixteen(byte),
         );
     }
     Ok(())

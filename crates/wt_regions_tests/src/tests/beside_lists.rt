@@ -1,4 +1,5 @@
 // The regions beside plain lists, run on the same calls.
+use super::compare::{holds, same};
 use super::{Run, caps};
 use std::alloc::Global;
 use std::process::Abort;
@@ -21,20 +22,52 @@ impl Run<Loaded> {
 
     // Asserts that both hold the same, and that the latest step told the same.
     fn expect_same(&self, rt: &impl Abort, alloc: Global, lists: &Lists) -> Result<(), Fail> {
-        assert_eq!(rt; self.regions.len(), lists.len());
-        assert_eq!(rt; self.regions.weight(), lists.weight());
+        same(rt, "how many entries", self.regions.len(), lists.len());
+        same(rt, "the weight", self.regions.weight(), lists.weight());
         for region in [Region::Window, Region::Probation, Region::Protected] {
-            let order = self.regions.order(alloc, region)?;
-            assert_eq!(rt; order.len(), lists.rows(region).len());
-            for (key, row) in order.iter().zip(lists.rows(region)) {
-                assert_eq!(rt; *key, row.key);
-            }
+            self.expect_order(rt, alloc, lists, region)?;
         }
-        assert_eq!(rt; self.notices.list().len(), lists.told.len());
-        for (notice, told) in self.notices.list().iter().zip(&lists.told) {
-            assert_eq!(rt; (notice.key, notice.value, notice.cause), *told);
+        self.expect_notices(rt, lists);
+        Ok(())
+    }
+
+    fn expect_order(
+        &self,
+        rt: &impl Abort,
+        alloc: Global,
+        lists: &Lists,
+        region: Region,
+    ) -> Result<(), Fail> {
+        let order = self.regions.order(alloc, region)?;
+        let rows = lists.rows(region);
+        same(
+            rt,
+            "how many keys of a region",
+            (region, order.len()),
+            (region, rows.len()),
+        );
+        for (key, row) in order.iter().zip(rows) {
+            same(
+                rt,
+                "a key of a region in its order",
+                (region, *key),
+                (region, row.key),
+            );
         }
         Ok(())
+    }
+
+    fn expect_notices(&self, rt: &impl Abort, lists: &Lists) {
+        let list = self.notices.list();
+        same(rt, "how many notices", list.len(), lists.told.len());
+        for (notice, told) in list.iter().zip(&lists.told) {
+            same(
+                rt,
+                "a notice",
+                (notice.key, notice.value, notice.cause),
+                *told,
+            );
+        }
     }
 }
 
@@ -57,8 +90,13 @@ fn put_both(
         Ok(()) => lists.put(row, now, &counted)?,
         Err(fault) => {
             let (weight, bound) = (value.weight, lists.caps.bound);
-            assert_eq!(rt; fault, Fault::TooHeavy { weight, bound });
-            assert!(rt; weight as u64 > bound);
+            same(
+                rt,
+                "the fault of a refused put",
+                fault,
+                Fault::TooHeavy { weight, bound },
+            );
+            holds(rt, "a refused put is too heavy", weight as u64 > bound);
         }
     }
     Ok(())
@@ -75,9 +113,11 @@ fn one_call(
     lists.told.clear();
     match dice.roll(20) {
         0 => {
-            assert_eq!(rt;
+            same(
+                rt,
+                "whether a removal took an entry",
                 run.remove(key, now),
-                lists.find(key).is_some_and(|row| !lists.is_old(row, now))
+                lists.find(key).is_some_and(|row| !lists.is_old(row, now)),
             );
             if let Some(row) = lists.take(key) {
                 lists.tell_by_age(row, now, Cause::Explicit)?;
@@ -94,8 +134,8 @@ fn one_call(
         3..=9 => {
             let wanted = lists.look(key, now)?;
             match run.look(key, now)? {
-                Found::Hit(value) => assert_eq!(rt; Some(value), wanted),
-                _ => assert_eq!(rt; None, wanted),
+                Found::Hit(value) => same(rt, "the value of a hit", Some(value), wanted),
+                _ => same(rt, "the value of a miss", None, wanted),
             }
         }
         _ => {
@@ -144,30 +184,55 @@ fn tables() -> [(Caps, u64); 6] {
     ]
 }
 
+// Plays both on as many keys, and compares them after each call.
+fn play(
+    rt: &impl Abort,
+    alloc: Global,
+    dice: &mut Dice,
+    run: &mut Run<Loaded>,
+    lists: &mut Lists,
+    keys: u64,
+) -> Result<(), Fail> {
+    // Moments repeat, go on, and now and then go back a little.
+    let mut now: u64 = 100;
+    for version in 0..1000 {
+        now = now.saturating_add(dice.roll(3));
+        let moment = now.saturating_sub(dice.roll(2));
+        one_call(rt, dice, run, lists, (keys, version, moment))?;
+        run.expect_same(rt, alloc, lists)?;
+        expect_has(rt, run, lists, dice.roll(keys), moment);
+    }
+    Ok(())
+}
+
+fn expect_has(rt: &impl Abort, run: &Run<Loaded>, lists: &Lists, key: u64, moment: u64) {
+    let held = lists.find(key);
+    let has = held.is_some_and(|row| !lists.is_old(row, moment));
+    same(
+        rt,
+        "whether a key is there",
+        run.regions.has(key, moment),
+        has,
+    );
+}
+
+fn play_at(
+    rt: &impl Abort,
+    alloc: Global,
+    dice: &mut Dice,
+    limits: Caps,
+    keys: u64,
+) -> Result<(), Fail> {
+    let mut lists = Lists::new(alloc, limits);
+    let mut run = Run::new(alloc, limits)?;
+    play(rt, alloc, dice, &mut run, &mut lists, keys)
+}
+
 #[test]
 fn the_regions_do_as_plain_lists_do(rt: HostRuntime) -> Result<(), Fail> {
     let mut dice = Dice(1);
     for (limits, keys) in tables() {
-        let mut run = Run::new(rt.alloc(), limits)?;
-        let mut lists = Lists::new(rt.alloc(), limits);
-        // Moments repeat, go on, and now and then go back a little.
-        let mut now: u64 = 100;
-        for version in 0..1000 {
-            now = now.saturating_add(dice.roll(3));
-            let moment = now.saturating_sub(dice.roll(2));
-            one_call(
-                &rt,
-                &mut dice,
-                &mut run,
-                &mut lists,
-                (keys, version, moment),
-            )?;
-            run.expect_same(&rt, rt.alloc(), &lists)?;
-            let key = dice.roll(keys);
-            let held = lists.find(key);
-            let has = held.is_some_and(|row| !lists.is_old(row, moment));
-            assert_eq!(rt; run.regions.has(key, moment), has);
-        }
+        play_at(&rt, rt.alloc(), &mut dice, limits, keys)?;
     }
     Ok(())
 }

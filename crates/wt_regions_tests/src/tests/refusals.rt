@@ -1,5 +1,6 @@
 // Refused memory and refused shares: what is refused changes nothing, and goes well when it is
 // tried again. No step leaks a value.
+use super::compare::same;
 use super::{Run, caps};
 use std::alloc::Global;
 use std::cell::Cell;
@@ -130,9 +131,14 @@ fn is_refused(
     let Err(fault) = run.run_step(step, key, value, now) else {
         return Ok(false);
     };
-    assert_eq!(rt; fault, Fault::NoMemory);
+    same(rt, "the fault of a refused share", fault, Fault::NoMemory);
     let after = run.seen_at_last(alloc)?;
-    assert_eq!(rt; before, after, "{version}: share {share}");
+    same(
+        rt,
+        "all that is seen, by step and refused share",
+        (version, share, after),
+        (version, share, before),
+    );
     Ok(true)
 }
 
@@ -153,14 +159,20 @@ fn refuse_steps(
         }
         left.set(0);
         let shares = row.3;
-        assert!(rt; refused >= shares, "{version}: {refused} of {shares}");
+        same(
+            rt,
+            "a step, and how many of its shares were refused",
+            (version, refused.min(shares)),
+            (version, shares),
+        );
         // Each value that is held or told of owns the counter once, and nothing else does.
         let values = run.regions.len().saturating_add(run.notices.list().len());
         let owners = values.saturating_add(1);
-        assert_eq!(rt;
-            Rc::strong_count(left),
-            owners,
-            "{version}: {owners} owners"
+        same(
+            rt,
+            "a step, and the owners of the counter",
+            (version, Rc::strong_count(left)),
+            (version, owners),
         );
     }
     Ok(())
