@@ -2,6 +2,7 @@
 
     <!-- not run: REASON -->     the block of commands below isn't run
     <!-- first: COMMAND -->      is run before the commands of the block below, in the same shell
+    <!-- typed into: COMMAND -->  the block below, which is no block of commands, is what the command reads
     <!-- figures aside -->       in the output that the block below shows, each number may be another
     <!-- file: PATH -->          the block below is written into the file
     <!-- file: PATH, behind: TEXT -->   the block below goes into the file, behind the item that begins with this text
