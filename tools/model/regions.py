@@ -150,6 +150,8 @@ class Regions:
         if entry is not None:
             self.note("replaces", key, version)
             self.tell(entry, "replaced")
+            self.weight += weight - entry.weight
+            entry.weight = weight
             entry.version, entry.written, entry.used = version, self.latest, self.latest
             self.touch(entry)
         else:
