@@ -1,0 +1,120 @@
+// A line of a scenario.
+use crate::settings::Settings;
+use crate::words::{number, small, words_of};
+use std::alloc::{AllocError, Global};
+use wt_core::{Call, Land};
+use wt_tests::Loaded;
+
+/// What the source returns to a `get`: a value, or an error's code.
+#[derive(Clone, Copy, Debug)]
+pub enum Load {
+    Value(Loaded),
+    Failed(u32),
+}
+
+/// A line.
+#[derive(Drop)]
+pub enum Line {
+    /// A call of the cache.
+    Call(Call<u64, Loaded>),
+    /// A get of a key at a moment, and what the source returns if it is asked.
+    Get(u64, Load, u64),
+    /// The numbers of the cache.
+    Stats,
+    /// The keys of the regions in their order.
+    Order,
+    /// Nothing: the settings, a comment or an empty line.
+    Nothing,
+}
+
+/// What is played.
+#[derive(Drop)]
+pub struct Scenario {
+    pub settings: Settings,
+    pub lines: Vec<Line>,
+}
+
+impl Scenario {
+    /// Reads a line, and returns whether it is one.
+    pub fn read(&mut self, alloc: Global, text: &str) -> Result<bool, AllocError> {
+        let Some(line) = read(alloc, text, &mut self.settings)? else {
+            return Ok(false);
+        };
+        self.lines.push(line)?;
+        Ok(true)
+    }
+}
+
+// Reads a line, and takes over its settings if it has some. `None` of a line that is none.
+fn read(alloc: Global, text: &str, settings: &mut Settings) -> Result<Option<Line>, AllocError> {
+    let words = words_of(alloc, text)?;
+    match words.as_slice() {
+        [] => Ok(Some(Line::Nothing)),
+        ["settings", pairs @ ..] => {
+            let fits = settings.read(pairs);
+            Ok(if fits { Some(Line::Nothing) } else { None })
+        }
+        words => Ok(line_of(words)),
+    }
+}
+
+// The line that the words spell.
+fn line_of(words: &[&str]) -> Option<Line> {
+    match *words {
+        ["stats"] => Some(Line::Stats),
+        ["order"] => Some(Line::Order),
+        [moment, "clean"] => Some(Line::Call(Call::Clean(number(moment)?))),
+        [moment, "clear"] => Some(Line::Call(Call::Clear(number(moment)?))),
+        [moment, word, key] => Some(Line::Call(asked(word, number(key)?, number(moment)?)?)),
+        [moment, "get", key, value, weight] => {
+            let load = load_of(value, weight)?;
+            Some(Line::Get(number(key)?, load, number(moment)?))
+        }
+        [moment, "put", key, value, weight] => {
+            let value = value_of(value, weight)?;
+            Some(Line::Call(Call::Put(number(key)?, value, number(moment)?)))
+        }
+        [moment, "land", key, id, ref what @ ..] => {
+            let what = landing(what)?;
+            let id = number(id)?;
+            Some(Line::Call(Call::Land(id, number(key)?, what, number(moment)?)))
+        }
+        _ => None,
+    }
+}
+
+// A call that has a key and no more.
+fn asked(word: &str, key: u64, moment: u64) -> Option<Call<u64, Loaded>> {
+    match word {
+        "look" => Some(Call::Look(key, moment)),
+        "seek" => Some(Call::Seek(key, moment)),
+        "drop" => Some(Call::DropKey(key, moment)),
+        "forget" => Some(Call::Forget(key, moment)),
+        _ => None,
+    }
+}
+
+// A value and its weight.
+fn value_of(value: &str, weight: &str) -> Option<Loaded> {
+    let version = number(value)?;
+    let weight = small(weight)?;
+    Some(Loaded { version, weight })
+}
+
+// What the source returns.
+fn load_of(value: &str, weight: &str) -> Option<Load> {
+    if value == "failed" {
+        return Some(Load::Failed(small(weight)?));
+    }
+    Some(Load::Value(value_of(value, weight)?))
+}
+
+// How a load ends.
+fn landing(words: &[&str]) -> Option<Land<Loaded>> {
+    match *words {
+        ["keep", value, weight] => Some(Land::Keep(value_of(value, weight)?)),
+        ["loose"] => Some(Land::Loose),
+        ["failed"] => Some(Land::Failed),
+        _ => None,
+    }
+}

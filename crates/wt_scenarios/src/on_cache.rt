@@ -1,0 +1,146 @@
+// The lines on a `LoadingCache`, with one pass.
+ghost use Rattle.std.specs.Prelude.{◌≤◌};
+
+use crate::line::{Line, Load};
+use crate::source::Source;
+use crate::told::{
+    Said, Told, drop_told, forget_told, print_stats, print_told, put_told, refused, sweep_told,
+    told_by,
+};
+use std::alloc::Global;
+use std::io::Print;
+use std::sync::Wait;
+use wt_cache::LoadingCache;
+use wt_core::{Call, Notices, Reply};
+use wt_keys::Fault;
+use wt_shards::{Books, Pass, Shards};
+use wt_tests::Loaded;
+
+// The cache.
+type Cache<'s, B> = LoadingCache<u64, Loaded, &'s Source, B>;
+
+// What left.
+type Left = Notices<u64, Loaded>;
+
+/// Plays the lines with one pass.
+pub fn play_on_cache<B: Books, R: Print + Wait>(
+    rt: &R,
+    alloc: Global,
+    shards: Shards<u64, Loaded, B>,
+    lines: Vec<Line>,
+) -> anyhow::Result<()> {
+    let source = Source::new();
+    let cache: Cache<'_, B> = LoadingCache::new(shards, &source, None);
+    play_lines(rt, alloc, &cache, &source, lines)
+}
+
+fn play_lines<'s, B: Books, R: Print + Wait>(
+    rt: &R,
+    alloc: Global,
+    cache: &Cache<'s, B>,
+    source: &Source,
+    lines: Vec<Line>,
+) -> anyhow::Result<()> {
+    let mut pass = cache.pass(rt, alloc)?;
+    for line in lines {
+        play_line(rt, alloc, cache, source, &mut pass, line)?;
+    }
+    Ok(())
+}
+
+fn play_line<'s, B: Books, R: Print + Wait>(
+    rt: &R,
+    alloc: Global,
+    cache: &Cache<'s, B>,
+    source: &Source,
+    pass: &mut Pass<B>,
+    line: Line,
+) -> anyhow::Result<()> {
+    match line {
+        Line::Call(Call::Clean(now)) => play_sweep(rt, alloc, cache, pass, false, now),
+        Line::Call(Call::Clear(now)) => play_sweep(rt, alloc, cache, pass, true, now),
+        Line::Call(call) => play_call(rt, alloc, cache, pass, call),
+        Line::Get(key, load, now) => {
+            source.tell(load);
+            play_get(rt, alloc, cache, pass, key, now)
+        }
+        Line::Stats => Ok(print_stats(rt, &cache.stats(rt))?),
+        Line::Order | Line::Nothing => Ok(()),
+    }
+}
+
+// A call at every shard. It tells how many steps the pass made at the first.
+fn play_sweep<'s, B: Books, R: Print + Wait>(
+    rt: &R,
+    alloc: Global,
+    cache: &Cache<'s, B>,
+    pass: &mut Pass<B>,
+    all: bool,
+    now: u64,
+) -> anyhow::Result<()> {
+    let count = cache.shards();
+    if count > 4 {
+        return Err(Fault::Mixed.into());
+    }
+    let mut left = Notices::new(alloc, count * cache.entries() as usize)?;
+    let (outcome, reply) = if all {
+        (
+            cache.invalidate_all(rt, pass, now, &mut left),
+            Reply::Cleared,
+        )
+    } else {
+        (cache.clean_up(rt, pass, now, &mut left), Reply::Cleaned)
+    };
+    let (step, said) = sweep_told(outcome, reply, pass.steps(0));
+    print_told(rt, step, &said, left.list(), &[])?;
+    Ok(())
+}
+
+fn play_call<'s, B: Books, R: Print + Wait>(
+    rt: &R,
+    alloc: Global,
+    cache: &Cache<'s, B>,
+    pass: &mut Pass<B>,
+    call: Call<u64, Loaded>,
+) -> anyhow::Result<()> {
+    let mut left = Notices::new(alloc, cache.entries() as usize)?;
+    let (step, said) = told_at(rt, cache, pass, call, &mut left);
+    print_told(rt, step, &said, left.list(), &[])?;
+    Ok(())
+}
+
+// A call at the shard of its key.
+fn told_at<'s, B: Books, R: Wait>(
+    rt: &R,
+    cache: &Cache<'s, B>,
+    pass: &mut Pass<B>,
+    call: Call<u64, Loaded>,
+    left: &mut Left,
+) -> Told
+    requires room { cache.now.layout.config.entries ≤ left.old.room }
+{
+    match call {
+        Call::Look(key, now) => told_by(cache.get_if_present(rt, pass, key, now, left)),
+        Call::Put(key, value, now) => put_told(cache.put(rt, pass, key, value, now, left)),
+        Call::DropKey(key, now) => drop_told(cache.invalidate(rt, pass, key, now, left)),
+        Call::Forget(key, now) => forget_told(cache.forget(rt, pass, key, now, left)),
+        _ => (0, Said::NoSuchCall),
+    }
+}
+
+fn play_get<'s, B: Books, R: Print + Wait>(
+    rt: &R,
+    alloc: Global,
+    cache: &Cache<'s, B>,
+    pass: &mut Pass<B>,
+    key: u64,
+    now: u64,
+) -> anyhow::Result<()> {
+    let mut left = Notices::new(alloc, 2 * cache.entries() as usize)?;
+    let (step, said) = match cache.get(rt, pass, key, now, &mut left) {
+        Ok(got) => (got.step, Said::Got(got.how, got.value)),
+        Err(fault) => refused(fault),
+    };
+    print_told(rt, step, &said, left.list(), &[])?;
+    Ok(())
+}

@@ -1,0 +1,136 @@
+// The lines on a `LoadingCache`, each call by a caller that is lent for it.
+use crate::line::{Line, Load};
+use crate::source::Source;
+use crate::told::{
+    Said, Told, drop_told, forget_told, print_stats, print_told, put_told, refused, sweep_told,
+    told_by,
+};
+use std::alloc::Global;
+use std::io::Print;
+use std::sync::Wait;
+use wt_cache::{Caller, Callers, LoadingCache};
+use wt_core::{Call, Notices, Reply};
+use wt_keys::Fault;
+use wt_shards::{Books, Shards};
+use wt_tests::Loaded;
+
+// A cache that lends callers.
+type Lender<'s, B> = Callers<u64, Loaded, &'s Source, B>;
+
+// A caller that was lent.
+type Lent<'c, 's, B, R> = Caller<'c, u64, Loaded, &'s Source, B, R>;
+
+/// Plays the lines by callers that are lent.
+pub fn play_on_callers<B: Books, R: Print + Wait>(
+    rt: &R,
+    alloc: Global,
+    shards: Shards<u64, Loaded, B>,
+    lines: Vec<Line>,
+) -> anyhow::Result<()> {
+    let source = Source::new();
+    let callers: Lender<'_, B> = Callers::new(alloc, LoadingCache::new(shards, &source, None));
+    play_lines(rt, alloc, &callers, &source, lines)
+}
+
+fn play_lines<'s, B: Books, R: Print + Wait>(
+    rt: &R,
+    alloc: Global,
+    callers: &Lender<'s, B>,
+    source: &Source,
+    lines: Vec<Line>,
+) -> anyhow::Result<()> {
+    for line in lines {
+        play_line(rt, alloc, callers, source, line)?;
+    }
+    Ok(())
+}
+
+fn play_line<'s, B: Books, R: Print + Wait>(
+    rt: &R,
+    alloc: Global,
+    callers: &Lender<'s, B>,
+    source: &Source,
+    line: Line,
+) -> anyhow::Result<()> {
+    match line {
+        Line::Call(Call::Clean(now)) => play_sweep(rt, alloc, callers, false, now),
+        Line::Call(Call::Clear(now)) => play_sweep(rt, alloc, callers, true, now),
+        Line::Call(call) => play_call(rt, callers, call),
+        Line::Get(key, load, now) => play_get(rt, callers, source, key, load, now),
+        Line::Stats => Ok(print_stats(rt, &callers.cache().stats(rt))?),
+        Line::Order | Line::Nothing => Ok(()),
+    }
+}
+
+// A call at every shard. A caller isn't told how many steps it made.
+fn play_sweep<'s, B: Books, R: Print + Wait>(
+    rt: &R,
+    alloc: Global,
+    callers: &Lender<'s, B>,
+    all: bool,
+    now: u64,
+) -> anyhow::Result<()> {
+    let cache = callers.cache();
+    let count = cache.shards();
+    if count > 4 {
+        return Err(Fault::Mixed.into());
+    }
+    let mut left = Notices::new(alloc, count * cache.entries() as usize)?;
+    let mut caller = callers.lend(rt)?;
+    let (outcome, reply) = if all {
+        (caller.invalidate_all(now, &mut left), Reply::Cleared)
+    } else {
+        (caller.clean_up(now, &mut left), Reply::Cleaned)
+    };
+    caller.give_back();
+    let (step, said) = sweep_told(outcome, reply, 0);
+    print_told(rt, step, &said, left.list(), &[])?;
+    Ok(())
+}
+
+fn play_call<'s, B: Books, R: Print + Wait>(
+    rt: &R,
+    callers: &Lender<'s, B>,
+    call: Call<u64, Loaded>,
+) -> anyhow::Result<()> {
+    let mut caller = callers.lend(rt)?;
+    let (step, said) = told_to(&mut caller, call);
+    let printed = print_told(rt, step, &said, caller.left(), &[]);
+    caller.give_back();
+    printed?;
+    Ok(())
+}
+
+// A call at the shard of its key.
+fn told_to<'c, 's, B: Books, R: Wait>(
+    caller: &mut Lent<'c, 's, B, R>,
+    call: Call<u64, Loaded>,
+) -> Told {
+    match call {
+        Call::Look(key, now) => told_by(caller.get_if_present(key, now)),
+        Call::Put(key, value, now) => put_told(caller.put(key, value, now)),
+        Call::DropKey(key, now) => drop_told(caller.invalidate(key, now)),
+        Call::Forget(key, now) => forget_told(caller.forget(key, now)),
+        _ => (0, Said::NoSuchCall),
+    }
+}
+
+fn play_get<'s, B: Books, R: Print + Wait>(
+    rt: &R,
+    callers: &Lender<'s, B>,
+    source: &Source,
+    key: u64,
+    load: Load,
+    now: u64,
+) -> anyhow::Result<()> {
+    source.tell(load);
+    let mut caller = callers.lend(rt)?;
+    let (step, said) = match caller.get(key, now) {
+        Ok(got) => (got.step, Said::Got(got.how, got.value)),
+        Err(fault) => refused(fault),
+    };
+    let printed = print_told(rt, step, &said, caller.left(), &[]);
+    caller.give_back();
+    printed?;
+    Ok(())
+}

@@ -1,0 +1,141 @@
+// The lines on a `Core`.
+use crate::line::{Line, Load};
+use crate::told::{Said, print_keys, print_stats, print_told};
+use std::alloc::Global;
+use std::io::Print;
+use wt_cache::How;
+use wt_core::{Call, Config, Core, Land, Notices, Region, Reply};
+use wt_keys::{Fault, NoMemory};
+use wt_tests::Loaded;
+
+// The cache.
+type Cache = Core<u64, Loaded>;
+
+// What left.
+type Left = Notices<u64, Loaded>;
+
+/// Plays the lines on a new `Core`.
+pub fn play_on_core<R: Print>(
+    rt: &R,
+    alloc: Global,
+    config: &Config,
+    lines: Vec<Line>,
+) -> anyhow::Result<()> {
+    let mut core: Cache = Core::new(alloc, config)?;
+    play_lines(rt, alloc, &mut core, lines)
+}
+
+fn play_lines<R: Print>(
+    rt: &R,
+    alloc: Global,
+    core: &mut Cache,
+    lines: Vec<Line>,
+) -> anyhow::Result<()> {
+    for line in lines {
+        play_line(rt, alloc, core, line)?;
+    }
+    Ok(())
+}
+
+fn play_line<R: Print>(rt: &R, alloc: Global, core: &mut Cache, line: Line) -> anyhow::Result<()> {
+    match line {
+        Line::Call(call) => play_call(rt, alloc, core, call),
+        Line::Get(key, load, now) => play_get(rt, alloc, core, key, load, now),
+        Line::Stats => Ok(print_stats(rt, &core.stats())?),
+        Line::Order => print_order(rt, alloc, core),
+        Line::Nothing => Ok(()),
+    }
+}
+
+fn play_call<R: Print>(
+    rt: &R,
+    alloc: Global,
+    core: &mut Cache,
+    call: Call<u64, Loaded>,
+) -> anyhow::Result<()> {
+    let mut left = Notices::new(alloc, core.entries() as usize)?;
+    let reply = core.take(call, &mut left)?;
+    print_told(rt, core.step(), &Said::Reply(reply), left.list(), &[])?;
+    Ok(())
+}
+
+// How a load ends.
+fn landing(load: Load) -> Land<Loaded> {
+    match load {
+        Load::Value(value) => Land::Keep(value),
+        Load::Failed(_) => Land::Failed,
+    }
+}
+
+// What a get of an absent key returns.
+fn loaded(load: Load) -> Said {
+    match load {
+        Load::Value(value) => Said::Got(How::Loaded, value),
+        Load::Failed(code) => Said::Reply(Reply::Refused(Fault::LoadFailed { code })),
+    }
+}
+
+// What a get returns by its seek's reply, and the load that the seek opened.
+fn got_by(reply: Reply<Loaded>, load: Load) -> (Said, Option<u64>) {
+    match reply {
+        Reply::Hit(value) => (Said::Got(How::Hit, value), None),
+        Reply::HitLead(value, id) => (Said::Got(How::Refreshed, value), Some(id)),
+        Reply::Lead(id) => (loaded(load), Some(id)),
+        other => (Said::Reply(other), None),
+    }
+}
+
+// Lands the load, if there is one, and returns what left.
+fn landed(
+    alloc: Global,
+    core: &mut Cache,
+    id: Option<u64>,
+    key: u64,
+    load: Load,
+    now: u64,
+) -> Result<Left, NoMemory> {
+    let mut later = Notices::new(alloc, core.entries() as usize)?;
+    if let Some(id) = id {
+        core.take(Call::Land(id, key, landing(load), now), &mut later)?;
+    }
+    Ok(later)
+}
+
+// A get: a seek, and the landing of the load that it opened, at once.
+fn play_get<R: Print>(
+    rt: &R,
+    alloc: Global,
+    core: &mut Cache,
+    key: u64,
+    load: Load,
+    now: u64,
+) -> anyhow::Result<()> {
+    let mut left = Notices::new(alloc, core.entries() as usize)?;
+    let reply = core.take(Call::Seek(key, now), &mut left)?;
+    let step = core.step();
+    let (said, id) = got_by(reply, load);
+    let later = landed(alloc, core, id, key, load, now)?;
+    print_told(rt, step, &said, left.list(), later.list())?;
+    Ok(())
+}
+
+fn print_region<R: Print>(
+    rt: &R,
+    alloc: Global,
+    core: &Cache,
+    name: &str,
+    region: Region,
+) -> anyhow::Result<()> {
+    let keys = core.order(alloc, region)?;
+    print_keys(rt, name, keys.as_slice())?;
+    Ok(())
+}
+
+fn print_order<R: Print>(rt: &R, alloc: Global, core: &Cache) -> anyhow::Result<()> {
+    print!(rt; "order")?;
+    print_region(rt, alloc, core, "window", Region::Window)?;
+    print_region(rt, alloc, core, "probation", Region::Probation)?;
+    print_region(rt, alloc, core, "protected", Region::Protected)?;
+    println!(rt; "")?;
+    Ok(())
+}

@@ -1,0 +1,198 @@
+// The lines on `Shards`, with one pass.
+ghost use Rattle.std.specs.Prelude.{◌≤◌};
+
+use crate::line::Line;
+use crate::told::{
+    Said, Told, drop_told, forget_told, print_stats, print_told, put_told, refused, sweep_told,
+    told_by,
+};
+use std::alloc::Global;
+use std::io::Print;
+use std::sync::Wait;
+use wt_core::{Call, Land, Notices, Reply};
+use wt_flights::{Lead, Ticket};
+use wt_keys::Fault;
+use wt_shards::{Books, Pass, Shards, Sought};
+use wt_tests::Loaded;
+
+// The shards.
+type Cache<B> = Shards<u64, Loaded, B>;
+
+// What left.
+type Left = Notices<u64, Loaded>;
+
+// The loads that were opened.
+type Leads = Vec<Lead<u64, Loaded>>;
+
+/// Plays the lines with one pass.
+pub fn play_on_shards<B: Books, R: Print + Wait>(
+    rt: &R,
+    alloc: Global,
+    shards: &Cache<B>,
+    lines: Vec<Line>,
+) -> anyhow::Result<()> {
+    let mut pass = shards.pass(rt, alloc)?;
+    let mut leads: Leads = Vec::new(alloc);
+    play_lines(rt, alloc, shards, &mut pass, &mut leads, lines)
+}
+
+fn play_lines<B: Books, R: Print + Wait>(
+    rt: &R,
+    alloc: Global,
+    shards: &Cache<B>,
+    pass: &mut Pass<B>,
+    leads: &mut Leads,
+    lines: Vec<Line>,
+) -> anyhow::Result<()> {
+    for line in lines {
+        play_line(rt, alloc, shards, pass, leads, line)?;
+    }
+    Ok(())
+}
+
+fn play_line<B: Books, R: Print + Wait>(
+    rt: &R,
+    alloc: Global,
+    shards: &Cache<B>,
+    pass: &mut Pass<B>,
+    leads: &mut Leads,
+    line: Line,
+) -> anyhow::Result<()> {
+    match line {
+        Line::Call(Call::Clean(now)) => play_sweep(rt, alloc, shards, pass, false, now),
+        Line::Call(Call::Clear(now)) => play_sweep(rt, alloc, shards, pass, true, now),
+        Line::Call(call) => play_call(rt, alloc, shards, pass, leads, call),
+        Line::Get(_, _, _) => Ok(print_told(rt, 0, &Said::NoSuchCall, &[], &[])?),
+        Line::Stats => Ok(print_stats(rt, &shards.stats(rt))?),
+        Line::Order | Line::Nothing => Ok(()),
+    }
+}
+
+// A call at every shard. It tells how many steps the pass made at the first.
+fn play_sweep<B: Books, R: Print + Wait>(
+    rt: &R,
+    alloc: Global,
+    shards: &Cache<B>,
+    pass: &mut Pass<B>,
+    all: bool,
+    now: u64,
+) -> anyhow::Result<()> {
+    let count = shards.shards();
+    if count > 4 {
+        return Err(Fault::Mixed.into());
+    }
+    let mut left = Notices::new(alloc, count * shards.entries() as usize)?;
+    let (outcome, reply) = if all {
+        (shards.clear(rt, pass, now, &mut left), Reply::Cleared)
+    } else {
+        (shards.clean(rt, pass, now, &mut left), Reply::Cleaned)
+    };
+    let (step, said) = sweep_told(outcome, reply, pass.steps(0));
+    print_told(rt, step, &said, left.list(), &[])?;
+    Ok(())
+}
+
+fn play_call<B: Books, R: Print + Wait>(
+    rt: &R,
+    alloc: Global,
+    shards: &Cache<B>,
+    pass: &mut Pass<B>,
+    leads: &mut Leads,
+    call: Call<u64, Loaded>,
+) -> anyhow::Result<()> {
+    let mut left = Notices::new(alloc, shards.entries() as usize)?;
+    let (step, said) = told_at(rt, shards, pass, leads, call, &mut left)?;
+    print_told(rt, step, &said, left.list(), &[])?;
+    Ok(())
+}
+
+// A call at the shard of its key.
+fn told_at<B: Books, R: Wait>(
+    rt: &R,
+    shards: &Cache<B>,
+    pass: &mut Pass<B>,
+    leads: &mut Leads,
+    call: Call<u64, Loaded>,
+    left: &mut Left,
+) -> Result<Told, Fault>
+    requires room { shards.now.config.entries ≤ left.old.room }
+{
+    match call {
+        Call::Look(key, now) => Ok(told_by(shards.look(rt, pass, key, now, left))),
+        Call::Seek(key, now) => seek(rt, shards, pass, leads, key, now, left),
+        Call::Land(id, key, what, now) => {
+            Ok(land(rt, shards, pass, lead_of(leads, id, key), what, now, left))
+        }
+        Call::Put(key, value, now) => Ok(put_told(shards.put(rt, pass, key, value, now, left))),
+        Call::DropKey(key, now) => Ok(drop_told(shards.drop_key(rt, pass, key, now, left))),
+        Call::Forget(key, now) => Ok(forget_told(shards.forget(rt, pass, key, now, left))),
+        Call::Clean(_) | Call::Clear(_) => Ok((0, Said::NoSuchCall)),
+    }
+}
+
+// Keeps a load's lead, and returns its number, or 0 if its ticket has another.
+fn kept(
+    leads: &mut Leads,
+    lead: Lead<u64, Loaded>,
+    ticket: &Ticket<u64, Loaded>,
+) -> Result<u64, Fault> {
+    let id = lead.id();
+    leads.push(lead)?;
+    Ok(if ticket.id() == id { id } else { 0 })
+}
+
+// What a seek replies. A load that it opened is kept.
+fn reply_of(leads: &mut Leads, sought: Sought<u64, Loaded>) -> Result<Reply<Loaded>, Fault> {
+    match sought {
+        Sought::Hit(value) => Ok(Reply::Hit(value)),
+        Sought::HitLead(value, lead, ticket) => {
+            Ok(Reply::HitLead(value, kept(leads, lead, &ticket)?))
+        }
+        Sought::Join(ticket) => Ok(Reply::Join(ticket.id())),
+        Sought::Lead(lead, ticket) => Ok(Reply::Lead(kept(leads, lead, &ticket)?)),
+    }
+}
+
+fn seek<B: Books, R: Wait>(
+    rt: &R,
+    shards: &Cache<B>,
+    pass: &mut Pass<B>,
+    leads: &mut Leads,
+    key: u64,
+    now: u64,
+    left: &mut Left,
+) -> Result<Told, Fault>
+    requires room { shards.now.config.entries ≤ left.old.room }
+{
+    match shards.seek(rt, pass, key, now, left) {
+        Ok(done) => Ok((done.step, Said::Reply(reply_of(leads, done.reply)?))),
+        Err(fault) => Ok(refused(fault)),
+    }
+}
+
+// The lead of a load that was opened for the key under this number.
+fn lead_of(leads: &Leads, id: u64, key: u64) -> Option<&Lead<u64, Loaded>> {
+    for lead in leads {
+        if lead.id() == id && lead.key() == key {
+            return Some(lead);
+        }
+    }
+    None
+}
+
+fn land<B: Books, R: Wait>(
+    rt: &R,
+    shards: &Cache<B>,
+    pass: &mut Pass<B>,
+    lead: Option<&Lead<u64, Loaded>>,
+    what: Land<Loaded>,
+    now: u64,
+    left: &mut Left,
+) -> Told
+    requires room { shards.now.config.entries ≤ left.old.room }
+{
+    match lead {
+        Some(lead) => told_by(shards.land(rt, pass, lead, what, now, left)),
+        None => (0, Said::NoSuchCall),
+    }
+}

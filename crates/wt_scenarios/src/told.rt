@@ -1,0 +1,220 @@
+// How a call's answer is printed.
+use std::io;
+use std::io::Print;
+use wt_cache::How;
+use wt_core::{Cause, Notice, Reply, Stats};
+use wt_keys::Fault;
+use wt_shards::Done;
+use wt_tests::Loaded;
+
+/// What a call answers.
+#[derive(Drop)]
+pub enum Said {
+    /// What a step replies.
+    Reply(Reply<Loaded>),
+    /// What a get returns.
+    Got(How, Loaded),
+    /// The layer has no such call.
+    NoSuchCall,
+}
+
+/// A step's number, which a refused call doesn't tell, and what was said.
+pub type Told = (u64, Said);
+
+/// Returns what a step told, or the fault.
+pub fn told_by(outcome: Result<Done<Reply<Loaded>>, Fault>) -> Told {
+    match outcome {
+        Ok(done) => (done.step, Said::Reply(done.reply)),
+        Err(fault) => refused(fault),
+    }
+}
+
+/// Returns what a refused call tells.
+pub fn refused(fault: Fault) -> Told {
+    (0, Said::Reply(Reply::Refused(fault)))
+}
+
+/// Returns what a store told.
+pub fn put_told(outcome: Result<Done<()>, Fault>) -> Told {
+    match outcome {
+        Ok(done) => (done.step, Said::Reply(Reply::Stored)),
+        Err(fault) => refused(fault),
+    }
+}
+
+/// Returns what a removal told.
+pub fn drop_told(outcome: Result<Done<bool>, Fault>) -> Told {
+    match outcome {
+        Ok(done) => (done.step, Said::Reply(Reply::Dropped(done.reply))),
+        Err(fault) => refused(fault),
+    }
+}
+
+/// Returns what the forgetting of a load told.
+pub fn forget_told(outcome: Result<Done<bool>, Fault>) -> Told {
+    match outcome {
+        Ok(done) => (done.step, Said::Reply(Reply::Forgot(done.reply))),
+        Err(fault) => refused(fault),
+    }
+}
+
+/// Returns what a sweep told, which replies this and left so many steps made.
+pub fn sweep_told(outcome: Result<(), Fault>, reply: Reply<Loaded>, steps: u64) -> Told {
+    match outcome {
+        Ok(()) => (steps, Said::Reply(reply)),
+        Err(fault) => refused(fault),
+    }
+}
+
+// A word and up to three numbers behind it.
+#[derive(Clone, Copy)]
+struct Words {
+    word: &'static str,
+    numbers: [Option<u64>; 3],
+}
+
+fn bare(word: &'static str) -> Words {
+    Words {
+        word,
+        numbers: [None, None, None],
+    }
+}
+
+fn with(word: &'static str, n: u64) -> Words {
+    Words {
+        word,
+        numbers: [Some(n), None, None],
+    }
+}
+
+fn with_value(word: &'static str, value: &Loaded, id: Option<u64>) -> Words {
+    let weight = value.weight as u64;
+    Words {
+        word,
+        numbers: [Some(value.version), Some(weight), id],
+    }
+}
+
+// A fault: its number, and what it says beside it.
+fn fault_words(fault: &Fault) -> Words {
+    let (first, second) = match *fault {
+        Fault::LoadFailed { code } => (Some(code as u64), None),
+        Fault::TooHeavy { weight, bound } => (Some(weight as u64), Some(bound)),
+        Fault::TooManyFlights { limit } => (Some(limit as u64), None),
+        _ => (None, None),
+    };
+    Words {
+        word: "fault",
+        numbers: [Some(fault.number()), first, second],
+    }
+}
+
+fn reply_words(reply: &Reply<Loaded>) -> Words {
+    match reply {
+        Reply::Hit(value) => with_value("hit", value, None),
+        Reply::Absent => bare("absent"),
+        Reply::HitLead(value, id) => with_value("hit-lead", value, Some(*id)),
+        Reply::Join(id) => with("join", *id),
+        Reply::Lead(id) => with("lead", *id),
+        Reply::Kept(sharers) => with("kept", *sharers),
+        Reply::Loose(sharers) => with("loose", *sharers),
+        Reply::Failed(sharers) => with("failed", *sharers),
+        Reply::Gone => bare("gone"),
+        Reply::Stored => bare("stored"),
+        Reply::Dropped(left) => bare(if *left { "dropped" } else { "not-there" }),
+        Reply::Cleared => bare("cleared"),
+        Reply::Forgot(was) => bare(if *was { "forgot" } else { "no-load" }),
+        Reply::Cleaned => bare("cleaned"),
+        Reply::Refused(fault) => fault_words(fault),
+    }
+}
+
+fn words_of(said: &Said) -> Words {
+    match said {
+        Said::Reply(reply) => reply_words(reply),
+        Said::Got(How::Hit, value) => with_value("hit", value, None),
+        Said::Got(How::Loaded, value) => with_value("loaded", value, None),
+        Said::Got(How::Joined, value) => with_value("joined", value, None),
+        Said::Got(How::Refreshed, value) => with_value("refreshed", value, None),
+        Said::NoSuchCall => bare("no-such-call"),
+    }
+}
+
+// The number of a step, which a refused call doesn't tell; 0 is none.
+fn told_step(step: u64, said: &Said) -> Option<u64> {
+    match said {
+        Said::Reply(Reply::Refused(_)) | Said::NoSuchCall => None,
+        _ if step == 0 => None,
+        _ => Some(step),
+    }
+}
+
+fn print_words<R: Print>(rt: &R, step: Option<u64>, words: Words) -> io::Result<()> {
+    match step {
+        Some(step) => print!(rt; "{step} {}", words.word)?,
+        None => print!(rt; "- {}", words.word)?,
+    }
+    for number in words.numbers {
+        if let Some(n) = number {
+            print!(rt; " {n}")?;
+        }
+    }
+    Ok(())
+}
+
+fn cause_name(cause: Cause) -> &'static str {
+    match cause {
+        Cause::Explicit => "explicit",
+        Cause::Replaced => "replaced",
+        Cause::Expired => "expired",
+        Cause::Size => "size",
+    }
+}
+
+fn print_left<R: Print>(rt: &R, left: &[Notice<u64, Loaded>]) -> io::Result<()> {
+    for notice in left {
+        print!(rt;
+            " {}:{}:{}",
+            notice.key,
+            notice.value.version,
+            cause_name(notice.cause)
+        )?;
+    }
+    Ok(())
+}
+
+/// Prints a call's line: the step, what was said, what left, and what left later in the same call.
+pub fn print_told<R: Print>(
+    rt: &R,
+    step: u64,
+    said: &Said,
+    left: &[Notice<u64, Loaded>],
+    later: &[Notice<u64, Loaded>],
+) -> io::Result<()> {
+    print_words(rt, told_step(step, said), words_of(said))?;
+    print_left(rt, left)?;
+    print_left(rt, later)?;
+    println!(rt; "")
+}
+
+/// Prints the numbers of a cache.
+pub fn print_stats<R: Print>(rt: &R, stats: &Stats) -> io::Result<()> {
+    print!(rt;
+        "stats lookups {} hits {} misses {}",
+        stats.lookups, stats.hits, stats.misses
+    )?;
+    print!(rt; " loads {} failed {}", stats.loads, stats.failed)?;
+    println!(rt;
+        " evicted {} entries {} weight {}",
+        stats.evicted, stats.entries, stats.weight
+    )
+}
+
+/// Prints a region's name and its keys in their order.
+pub fn print_keys<R: Print>(rt: &R, name: &str, keys: &[u64]) -> io::Result<()> {
+    print!(rt; " {name}")?;
+    for key in keys {
+        print!(rt; " {key}")?;
+    }
+    Ok(())
+}
