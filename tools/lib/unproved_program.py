@@ -1,4 +1,8 @@
-"""Builds a program without any proof, as `tools/embed --unproved` builds the library: nothing of it is proved or checked."""
+#!/usr/bin/env python3
+"""Builds a program without any proof, as `tools/embed --unproved` builds the library: nothing of it is proved or checked.
+
+    tools/lib/unproved_program.py CRATE FILE      the program of a crate's folder, into the file
+"""
 import re
 import subprocess
 import sys
@@ -9,6 +13,7 @@ from places import CRATES, TOP
 
 sys.path.insert(0, str(TOP / "embed"))
 import unproved
+from words import Parser, end
 
 
 def module_of(kit, folder, crate):
@@ -37,3 +42,17 @@ def build(program, crate=CRATES / "wt_replay"):
                         "-o", "program.o", "-fPIE", "-O3"], cwd=folder, check=True)
         subprocess.run([kit / "bin" / "rattle-link", "--target", "x86_64-unknown-linux-gnu", "--toolchain", kit / "toolchain", "-o", program.resolve(),
                         "program.o", kit / "c" / "libos_c.a", kit / "c" / "liblibc_c.a"], cwd=folder, capture_output=True, check=True)
+
+
+def main():
+    parser = Parser(__doc__)
+    parser.add_argument("crate", type=Path, help="the crate's folder")
+    parser.add_argument("file", type=Path, help="the program to write")
+    given = parser.parse_args()
+    given.file.parent.mkdir(parents=True, exist_ok=True)
+    build(given.file, given.crate.resolve())
+    return 0
+
+
+if __name__ == "__main__":
+    end(main)

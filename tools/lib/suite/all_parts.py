@@ -47,6 +47,13 @@ def of_program(copy):
         yield Part(words, python(copy / "tools" / "gate" / name, *flags), copy, seconds, needs=needs, after=("the program", *after))
 
 
+def of_scenarios(copy):
+    crate = copy / "crates" / "wt_scenarios"
+    yield Part("the player of scenarios", python(copy / "tools" / "lib" / "unproved_program.py", crate, crate / "out" / "wt_scenarios"), copy, 290,
+               needs=("rt",))
+    yield Part("check_scenarios", python(copy / "tools" / "gate" / "check_scenarios"), copy, 10, after=("the player of scenarios",))
+
+
 def of_library(copy):
     yield Part("the library", ["sh", "tools/embed", "--unproved"], copy, 300, needs=("rt", "cc", "ar", "objcopy"))
     for language, (needs, seconds) in LANGUAGES.items():
@@ -76,4 +83,4 @@ def of_benchmarks(copy):
 
 
 def all_parts(copy):
-    return [part for make in (of_sources, of_crates, of_program, of_library, of_pages, of_benchmarks) for part in make(copy)]
+    return [part for make in (of_sources, of_crates, of_program, of_scenarios, of_library, of_pages, of_benchmarks) for part in make(copy)]
