@@ -3,6 +3,7 @@ mod apart;
 mod beside_core;
 mod books;
 mod caller;
+mod compare;
 mod loads;
 mod outer;
 mod plain;

@@ -3,6 +3,7 @@
 ghost use Rattle.std.specs.Prelude.{◌≡◌};
 ghost use Rattle.wt_shards.specs.Opening.{AreBlanksOf};
 
+use super::compare::same;
 use super::config;
 use std::alloc::Global;
 use std::marker::Brand;
@@ -182,7 +183,12 @@ fn look_apart<N: Names + Send + Sync, R: Threads + Wait + Sync>(
 #[test]
 fn shards_have_locks_of_their_own(rt: HostRuntime) -> Result<(), Fail> {
     let hits = look_apart::<Brand, HostRuntime>(&rt, rt.alloc(), Blanks::new(), &config(1000));
-    assert_eq!(rt; hits, Ok((true, true)));
+    same(
+        &rt,
+        "the hit at one shard, and the calls at another",
+        hits,
+        Ok((true, true)),
+    );
     Ok(())
 }
 
@@ -290,6 +296,11 @@ fn clear_apart<N: Names + Send + Sync, R: Threads + Wait + Sync>(
 #[test]
 fn a_clear_holds_one_lock_at_a_time(rt: HostRuntime) -> Result<(), Fail> {
     let seen = clear_apart::<Brand, HostRuntime>(&rt, rt.alloc(), Blanks::new(), &config(1000));
-    assert_eq!(rt; seen, Ok((true, true)));
+    same(
+        &rt,
+        "the hit at one shard, and the clear beside it",
+        seen,
+        Ok((true, true)),
+    );
     Ok(())
 }

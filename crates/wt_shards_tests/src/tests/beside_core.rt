@@ -3,6 +3,7 @@
 ghost use Rattle.std.specs.Prelude.{◌≡◌};
 ghost use Rattle.wt_shards.specs.Opening.{AreBlanksOf};
 
+use super::compare::{holds, same};
 use super::plain::Plain;
 use super::run::{Run, keys_of};
 use super::{answered, shaded};
@@ -29,7 +30,7 @@ fn one_call<N: Names>(
     let before = plain.core.step();
     let wanted = plain.make(call_of(act, key, now));
     let reply = run.make(call_of(act, key, now));
-    assert_eq!(rt; answered(reply), answered(wanted));
+    same(rt, "the reply", answered(reply), answered(wanted));
     if plain.core.step() > before {
         made.push(shaded(act, key, now))?;
     }
@@ -37,17 +38,31 @@ fn one_call<N: Names>(
 }
 
 fn expect_same<N: Names>(rt: &impl Abort, run: &Run<Loaded, N>, plain: &Plain<Loaded>) {
-    assert_eq!(rt; run.stats(), plain.core.stats());
-    assert_eq!(rt; run.steps(), plain.core.step());
-    let (steps, hits) = run.mine();
-    assert_eq!(rt; (steps, hits), (plain.core.step(), plain.core.stats().hits));
+    let stats = plain.core.stats();
+    same(rt, "the numbers", run.stats(), stats);
+    let steps = plain.core.step();
+    same(rt, "the steps", run.steps(), steps);
+    same(
+        rt,
+        "the caller's steps and hits",
+        run.mine(),
+        (steps, stats.hits),
+    );
     let (dropped, kept) = run.records();
-    assert_eq!(rt; dropped.wrapping_add(kept as u64), steps);
-    assert_eq!(rt; run.told().len(), plain.notices.list().len());
-    for (told, wanted) in run.told().iter().zip(plain.notices.list()) {
-        assert_eq!(rt;
-            (told.key, told.value, told.cause),
-            (wanted.key, wanted.value, wanted.cause)
+    same(rt, "the records", dropped.wrapping_add(kept as u64), steps);
+    expect_notices(rt, run, plain);
+}
+
+fn expect_notices<N: Names>(rt: &impl Abort, run: &Run<Loaded, N>, plain: &Plain<Loaded>) {
+    let list = plain.notices.list();
+    same(rt, "how many notices", run.told().len(), list.len());
+    for (told, wanted) in run.told().iter().zip(list) {
+        let got = (told.key, told.value, told.cause);
+        same(
+            rt,
+            "a notice",
+            got,
+            (wanted.key, wanted.value, wanted.cause),
         );
     }
 }
@@ -58,7 +73,7 @@ fn follow(rt: &impl Abort, copy: &mut Plain<Shade>, made: Vec<Noted<u64>>, dropp
     for call in made {
         if number < dropped {
             let reply = copy.make(call);
-            assert!(rt; reply.is_ok());
+            holds(rt, "a step on the copy", reply.is_ok());
         }
         number = number.wrapping_add(1);
     }
@@ -69,7 +84,7 @@ fn catch_up<N: Names>(rt: &impl Abort, copy: &mut Plain<Shade>, run: &Run<Loaded
     for place in 0..kept {
         if let Some(call) = run.noted(place) {
             let reply = copy.make(call);
-            assert!(rt; reply.is_ok());
+            holds(rt, "a record on the copy", reply.is_ok());
         }
     }
 }
@@ -84,15 +99,48 @@ fn expect_outline<N: Names>(
     made: Vec<Noted<u64>>,
 ) -> Result<(), Fault> {
     let (dropped, kept) = run.records();
-    assert_eq!(rt; dropped.wrapping_add(kept as u64), made.len() as u64);
+    same(
+        rt,
+        "the records at the end",
+        dropped.wrapping_add(kept as u64),
+        made.len() as u64,
+    );
     let mut copy: Plain<Shade> = Plain::new(alloc, limits)?;
     follow(rt, &mut copy, made, dropped);
-    assert_eq!(rt; run.lagging(), copy.core.stats());
-    assert_eq!(rt; run.lagging_keys(alloc), keys_of(alloc, &copy.core));
+    same(
+        rt,
+        "the lagging copy's numbers",
+        run.lagging(),
+        copy.core.stats(),
+    );
+    expect_keys(
+        rt,
+        alloc,
+        "the lagging copy's keys",
+        run.lagging_keys(alloc),
+        &copy,
+    );
     catch_up(rt, &mut copy, run, kept);
-    assert_eq!(rt; run.stats(), copy.core.stats());
-    assert_eq!(rt; keys_of(alloc, &plain.core), keys_of(alloc, &copy.core));
+    same(
+        rt,
+        "the copy's numbers at the end",
+        run.stats(),
+        copy.core.stats(),
+    );
+    let keys = keys_of(alloc, &plain.core);
+    expect_keys(rt, alloc, "the copy's keys at the end", keys, &copy);
     Ok(())
+}
+
+// Asserts that the copy's keys in the three regions are these.
+fn expect_keys(
+    rt: &impl Abort,
+    alloc: Global,
+    which: &str,
+    keys: Result<[Vec<u64>; 3], NoMemory>,
+    copy: &Plain<Shade>,
+) {
+    same(rt, which, keys, keys_of(alloc, &copy.core));
 }
 
 fn limits(entries: u32, bound: u64, flights: u32, ring: u32) -> Config {
@@ -125,7 +173,7 @@ fn make_all<N: Names>(
         let moment = now.saturating_sub(dice.roll(2));
         let key = dice.roll(keys);
         let call = one_call(rt, &mut dice, run, plain, &mut made, (key, version, moment));
-        assert!(rt; call.is_ok());
+        holds(rt, "memory for the steps", call.is_ok());
         expect_same(rt, run, plain);
     }
     made

@@ -2,6 +2,7 @@
 ghost use Rattle.std.specs.Prelude.{◌≡◌};
 ghost use Rattle.wt_shards.specs.Opening.{AreBlanksOf};
 
+use super::compare::{holds, same};
 use super::config;
 use super::run::Run;
 use std::alloc::Global;
@@ -17,14 +18,28 @@ use wt_tests::{Do, Loaded, call_of, light};
 fn spend_shares<N: Names>(rt: &impl Abort, run: &mut Run<Loaded, N>) {
     // The run has the first ones.
     for _ in 1..65_535 {
-        assert!(rt; run.spent().is_none());
+        holds(rt, "a share is given", run.spent().is_none());
     }
-    assert_eq!(rt; run.spent(), Some(Fault::PassesSpent));
+    same(
+        rt,
+        "the fault once all shares are given",
+        run.spent(),
+        Some(Fault::PassesSpent),
+    );
     for (act, key) in [(Do::Put(light(1)), 1), (Do::Look, 1), (Do::Look, 2)] {
-        assert!(rt; run.make(call_of(act, key, 0)).is_ok());
+        holds(
+            rt,
+            "a step without shares left",
+            run.make(call_of(act, key, 0)).is_ok(),
+        );
     }
-    assert_eq!(rt; run.mine(), (3, 1));
-    assert_eq!(rt; run.spent(), Some(Fault::PassesSpent));
+    same(rt, "the caller's steps and hits", run.mine(), (3, 1));
+    same(
+        rt,
+        "the fault after the steps",
+        run.spent(),
+        Some(Fault::PassesSpent),
+    );
 }
 
 fn take_all<N: Names>(
@@ -53,9 +68,14 @@ fn spend_passes<N: Names, R: Wait + Abort>(
     shards: &Shards<u64, Loaded, Of<N>>,
 ) {
     for _ in 0..65_535 {
-        assert!(rt; shards.pass(rt, alloc).is_ok());
+        holds(rt, "a pass is given", shards.pass(rt, alloc).is_ok());
     }
-    assert_eq!(rt; shards.pass(rt, alloc).err(), Some(Fault::PassesSpent));
+    same(
+        rt,
+        "the fault once all passes are given",
+        shards.pass(rt, alloc).err(),
+        Some(Fault::PassesSpent),
+    );
 }
 
 fn take_passes<N: Names, R: Wait + Abort>(

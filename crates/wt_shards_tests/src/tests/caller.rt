@@ -3,6 +3,7 @@
 ghost use Rattle.std.specs.Prelude.{◌≤◌};
 
 use super::answered;
+use super::compare::holds;
 use std::alloc::Global;
 use std::marker::Model;
 use std::process::Abort;
@@ -228,6 +229,7 @@ fn ready(rt: &impl Abort, notices: &mut Notices<u64, Loaded>, room: usize)
     ensures { room ≤ notices.new.room }
 {
     notices.empty();
+    // A fact for the calls, which `holds` would not tell the prover.
     assert!(rt; notices.has_room(room));
 }
 
@@ -237,13 +239,13 @@ fn keep(rt: &impl Abort, leads: &mut Vec<Lead<u64, Loaded>>, sought: Sought<u64,
         Sought::Hit(value) => Said::Hit(value),
         Sought::HitLead(value, lead, _ticket) => {
             let id = lead.id();
-            assert!(rt; leads.push(lead).is_ok());
+            holds(rt, "memory for a lead", leads.push(lead).is_ok());
             Said::HitLead(value, id)
         }
         Sought::Join(ticket) => Said::Join(ticket.id()),
         Sought::Lead(lead, _ticket) => {
             let id = lead.id();
-            assert!(rt; leads.push(lead).is_ok());
+            holds(rt, "memory for a lead", leads.push(lead).is_ok());
             Said::Lead(id)
         }
     }

@@ -2,6 +2,7 @@
 ghost use Rattle.std.specs.Prelude.{◌≡◌};
 ghost use Rattle.wt_shards.specs.Opening.{AreBlanksOf};
 
+use super::compare::same;
 use super::run::Run;
 use super::{answered, config};
 use std::alloc::Global;
@@ -144,7 +145,7 @@ fn tell_all<N: Names>(
 ) {
     for (act, key, now, told) in rows {
         let heard = tell(rt, run, loads, (*act, *key, *now));
-        assert_eq!(rt; heard, Ok(*told));
+        same(rt, "what a row tells", heard, Ok(*told));
     }
 }
 
@@ -248,6 +249,11 @@ fn share_and_drop<N: Names>(
 #[test]
 fn a_value_goes_with_the_last_who_shares_its_load(rt: HostRuntime) -> Result<(), Fail> {
     let owners = share_and_drop::<Brand>(rt.alloc(), Blanks::new(), &config(1000));
-    assert_eq!(rt; owners, Ok((true, 2, 1)));
+    same(
+        &rt,
+        "owners before the landing and after it",
+        owners,
+        Ok((true, 2, 1)),
+    );
     Ok(())
 }

@@ -3,6 +3,7 @@ ghost use Rattle.std.specs.Prelude.{◌≡◌};
 ghost use Rattle.wt_shards.specs.Opening.{AreBlanksOf};
 
 use super::caller::Caller;
+use super::compare::same;
 use super::plain::Plain;
 use super::{answered, config};
 use std::alloc::Global;
@@ -79,17 +80,19 @@ fn expect_told(rt: &impl Abort, told: &[Notice<u64, Loaded>], plains: &Plains) {
     let mut place: usize = 0;
     for cache in &plains.caches {
         for wanted in cache.notices.list() {
-            match told.get(place) {
-                Some(notice) => {
-                    assert_eq!(rt; (notice.key, notice.value), (wanted.key, wanted.value));
-                    assert_eq!(rt; notice.cause, wanted.cause);
-                }
-                None => assert!(rt; false),
-            }
+            let got = told
+                .get(place)
+                .map(|notice| (notice.key, notice.value, notice.cause));
+            same(
+                rt,
+                "a notice",
+                got,
+                Some((wanted.key, wanted.value, wanted.cause)),
+            );
             place = place.wrapping_add(1);
         }
     }
-    assert_eq!(rt; told.len(), place);
+    same(rt, "how many notices", told.len(), place);
 }
 
 // All eight numbers are the sums of those of the caches.
@@ -108,7 +111,7 @@ fn expect_stats(rt: &impl Abort, stats: &Stats, plains: &Plains) {
             weight: wanted.weight.wrapping_add(one.weight),
         };
     }
-    assert_eq!(rt; *stats, wanted);
+    same(rt, "the numbers", *stats, wanted);
 }
 
 // Does what each row says on both, and compares them after it.
@@ -122,14 +125,19 @@ fn play_rows<N: Names, R: Wait + Abort>(
     for (act, key, now, answer, removals) in rows {
         let wanted = plains.make((*act, *key, *now));
         let said = caller.make(rt, cache, (*act, *key, *now));
-        assert_eq!(rt; said, wanted);
-        assert_eq!(rt; said.0, *answer);
-        assert_eq!(rt; caller.told().len(), *removals);
+        same(rt, "the reply and the number of its step", said, wanted);
+        same(rt, "the reply of the table", said.0, *answer);
+        same(rt, "how many removals", caller.told().len(), *removals);
         expect_told(rt, caller.told(), plains);
         expect_stats(rt, &cache.stats(rt), plains);
     }
     for home in 0..4 {
-        assert_eq!(rt; caller.made(home), (plains.steps(home), plains.hits(home)));
+        same(
+            rt,
+            "the caller's steps and hits at a shard",
+            caller.made(home),
+            (plains.steps(home), plains.hits(home)),
+        );
     }
 }
 

@@ -3,6 +3,7 @@
 ghost use Rattle.std.specs.Prelude.{◌≡◌};
 ghost use Rattle.wt_shards.specs.Opening.{AreBlanksOf};
 
+use super::compare::{holds, same};
 use super::plain::Plain;
 use super::run::Run;
 use super::{answered, config, shaded};
@@ -42,7 +43,12 @@ type Seen = (Stats, u64, (u64, u64), usize);
 
 fn seen<V: Share + Weighs + Answers<u64>, N: Names>(rt: &impl Abort, run: &Run<V, N>) -> Seen {
     let (dropped, kept) = run.records();
-    assert_eq!(rt; dropped.wrapping_add(kept as u64), run.steps());
+    same(
+        rt,
+        "the records",
+        dropped.wrapping_add(kept as u64),
+        run.steps(),
+    );
     (run.stats(), run.steps(), run.mine(), run.told().len())
 }
 
@@ -78,8 +84,13 @@ fn is_refused<N: Names>(
     match run.make(call_with(step, key, value, now)) {
         Ok(_) => false,
         Err(fault) => {
-            assert_eq!(rt; fault, Fault::NoMemory);
-            assert_eq!(rt; before, seen(rt, run));
+            same(rt, "the fault of a refused share", fault, Fault::NoMemory);
+            same(
+                rt,
+                "what is seen after a refused share",
+                before,
+                seen(rt, run),
+            );
             true
         }
     }
@@ -100,9 +111,11 @@ fn insist<N: Names>(rt: &impl Abort, run: &mut Run<Fussy, N>, left: &Rc<Cell<u32
     }
     left.set(0);
     let (_, key, now, shares) = row;
-    assert!(rt;
-        refused >= shares,
-        "key {key} at {now}: {refused} of {shares}"
+    same(
+        rt,
+        "key and moment, and how many shares were refused",
+        (key, now, refused.min(shares)),
+        (key, now, shares),
     );
 }
 
@@ -110,7 +123,7 @@ fn insist_on_all<N: Names>(rt: &impl Abort, run: &mut Run<Fussy, N>, left: &Rc<C
     for row in rows() {
         insist(rt, run, left, row);
     }
-    assert_eq!(rt; run.steps(), 12);
+    same(rt, "the steps at the end", run.steps(), 12);
 }
 
 fn refuse_shares<N: Names>(
@@ -227,7 +240,7 @@ fn expect_explained<N: Names>(
     if explained.is_none() {
         explained = is_explained(alloc, limits, run);
     }
-    assert_eq!(rt; explained, Some(true));
+    same(rt, "the records explain the shard", explained, Some(true));
 }
 
 // Makes the call, a second time where memory was refused.
@@ -242,13 +255,18 @@ fn ask<N: Names>(
     let before = seen(rt, run);
     let said = answered(run.make(call_of(act, key, 0)));
     if said == Said::Refused(Fault::NoMemory) {
-        assert!(rt; !takes_no_memory(act));
-        assert_eq!(rt; seen(rt, run), before);
+        holds(rt, "the call takes memory", !takes_no_memory(act));
+        same(
+            rt,
+            "what is seen after a refused call",
+            seen(rt, run),
+            before,
+        );
         expect_explained(rt, alloc, limits, run);
         let said = answered(run.make(call_of(act, key, 0)));
-        assert_eq!(rt; said, answer);
+        same(rt, "the reply once memory is there", said, answer);
     } else {
-        assert_eq!(rt; said, answer);
+        same(rt, "the reply", said, answer);
     }
     expect_explained(rt, alloc, limits, run);
 }
@@ -257,7 +275,7 @@ fn ask_all<N: Names>(rt: &impl Abort, alloc: Global, limits: &Config, run: &mut 
     for call in calls() {
         ask(rt, alloc, limits, run, call);
     }
-    assert_eq!(rt; run.steps(), 17);
+    same(rt, "the steps at the end", run.steps(), 17);
 }
 
 fn refuse_memory<N: Names>(

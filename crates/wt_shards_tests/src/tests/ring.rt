@@ -2,6 +2,7 @@
 ghost use Rattle.std.specs.Prelude.{◌≡◌};
 ghost use Rattle.wt_shards.specs.Opening.{AreBlanksOf};
 
+use super::compare::same;
 use super::run::Run;
 use super::{answered, config};
 use std::alloc::Global;
@@ -20,8 +21,13 @@ type Row = (Do, u64, Said, u64, usize);
 fn play_rows<N: Names>(rt: &impl Abort, run: &mut Run<Loaded, N>, rows: &[Row]) {
     for (act, key, answer, dropped, kept) in rows {
         let reply = run.make(call_of(*act, *key, 0));
-        assert_eq!(rt; answered(reply), *answer);
-        assert_eq!(rt; run.records(), (*dropped, *kept));
+        same(rt, "the reply", answered(reply), *answer);
+        same(
+            rt,
+            "records dropped and kept",
+            run.records(),
+            (*dropped, *kept),
+        );
     }
 }
 

@@ -3,6 +3,7 @@ ghost use Rattle.std.specs.Prelude.{◌≡◌};
 ghost use Rattle.wt_shards.specs.Opening.{AreBlanksOf};
 
 use super::caller::Caller;
+use super::compare::same;
 use super::config;
 use std::alloc::Global;
 use std::marker::Brand;
@@ -26,12 +27,22 @@ fn play<N: Names, R: Wait + Abort>(
     caller: &mut Caller<Of<N>>,
 ) {
     let put = caller.make(rt, shards, (Do::Put(light(5)), 1, 0));
-    assert_eq!(rt; put, (Said::Stored, 1));
+    same(rt, "a put and its step", put, (Said::Stored, 1));
     let look = caller.make(rt, shards, (Do::Look, 1, 0));
-    assert_eq!(rt; look, (Said::Hit(light(5)), 2));
-    assert_eq!(rt; caller.made(3), (2, 1));
+    same(rt, "a look and its step", look, (Said::Hit(light(5)), 2));
+    same(
+        rt,
+        "steps and hits at key 1's shard",
+        caller.made(3),
+        (2, 1),
+    );
     for shard in 0..3 {
-        assert_eq!(rt; caller.made(shard), (0, 0));
+        same(
+            rt,
+            "steps and hits at another shard",
+            caller.made(shard),
+            (0, 0),
+        );
     }
 }
 
@@ -91,7 +102,12 @@ fn the_totals_are_the_sums_of_the_passes(rt: HostRuntime) -> Result<(), Fail> {
         &config(1000),
         true,
     );
-    assert_eq!(rt; counts, Ok([(0, 0), (0, 0), (0, 0), (2, 1)]));
+    same(
+        &rt,
+        "steps and hits of the books",
+        counts,
+        Ok([(0, 0), (0, 0), (0, 0), (2, 1)]),
+    );
     Ok(())
 }
 
@@ -104,7 +120,12 @@ fn a_missing_pass_is_told(rt: HostRuntime) -> Result<(), Fail> {
         &config(1000),
         false,
     );
-    assert_eq!(rt; counts, Err(Fault::PassMissing { shard: 3 }));
+    same(
+        &rt,
+        "a pass that is missing",
+        counts,
+        Err(Fault::PassMissing { shard: 3 }),
+    );
     Ok(())
 }
 
@@ -118,9 +139,9 @@ fn put_and_look<N: Names, R: Wait + Abort>(
     for version in 0..10u64 {
         let key = from.wrapping_add(version);
         let put = caller.make(rt, shards, (Do::Put(light(version)), key, 0));
-        assert_eq!(rt; put.0, Said::Stored);
+        same(rt, "the reply to a put", put.0, Said::Stored);
         let look = caller.make(rt, shards, (Do::Look, key, 0));
-        assert_eq!(rt; look.0, Said::Hit(light(version)));
+        same(rt, "the reply to a look", look.0, Said::Hit(light(version)));
     }
 }
 
@@ -179,6 +200,6 @@ fn two_threads_settle(rt: HostRuntime) -> Result<(), Fail> {
         ..config(1000)
     };
     let made = two_callers::<Brand, HostRuntime>(&rt, rt.alloc(), Blanks::new(), &limits);
-    assert_eq!(rt; made, Ok((40, 20)));
+    same(&rt, "steps and hits of two threads", made, Ok((40, 20)));
     Ok(())
 }

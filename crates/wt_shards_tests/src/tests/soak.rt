@@ -3,6 +3,7 @@ ghost use Rattle.std.specs.Prelude.{◌≡◌};
 ghost use Rattle.wt_shards.specs.Opening.{AreBlanksOf};
 
 use super::caller::Caller;
+use super::compare::{holds, same};
 use super::config;
 use std::alloc::Global;
 use std::marker::Brand;
@@ -13,7 +14,7 @@ use std::thread;
 use std::thread::Threads;
 use wt_core::Config;
 use wt_keys::Fault;
-use wt_shards::{Blanks, Names, Of, Pass, Shards};
+use wt_shards::{Blanks, Names, Of, Pass, Shards, Total};
 use wt_tests::{Dice, Do, Loaded, Said, choose};
 
 // How many threads call, and the turns of each.
@@ -102,8 +103,16 @@ fn gather<N: Names>(ran: Vec<Ran<N>>, passes: &mut Vec<Pass<Of<N>>>) -> Result<u
     Ok(told)
 }
 
-// The steps that the settled books hold; at each shard there were hits, and hits and misses are the
-// look-ups.
+// At a shard there were hits, and hits and misses are the look-ups.
+fn expect_total(rt: &impl Abort, total: &Total) {
+    let stats = &total.stats;
+    let met = stats.hits.wrapping_add(stats.misses);
+    same(rt, "hits and misses are the look-ups", met, stats.lookups);
+    same(rt, "the hits of the books", stats.hits, total.hits);
+    holds(rt, "each shard has hits", stats.hits > 0);
+}
+
+// The steps that the settled books hold.
 fn settled<N: Names, R: Wait + Abort>(
     rt: &R,
     alloc: Global,
@@ -117,10 +126,7 @@ fn settled<N: Names, R: Wait + Abort>(
     let mut made: u64 = 0;
     for shard in 0..4 {
         if let Some(total) = totals.of(shard) {
-            let stats = total.stats;
-            assert_eq!(rt; stats.hits.wrapping_add(stats.misses), stats.lookups);
-            assert_eq!(rt; stats.hits, total.hits);
-            assert!(rt; stats.hits > 0);
+            expect_total(rt, &total);
             made = made.wrapping_add(total.steps);
         }
     }
@@ -168,8 +174,13 @@ fn soaks<R: Threads + Wait + Abort + Sync>(
 
 fn expect_none_missing(rt: &impl Abort, made: Result<(u64, u64), Fault>) {
     match made {
-        Ok((told, made)) => assert_eq!(rt; told, made),
-        Err(_) => assert!(rt; false),
+        Ok((told, made)) => same(
+            rt,
+            "the steps that were told, and those of the books",
+            told,
+            made,
+        ),
+        Err(fault) => same(rt, "no fault", Some(fault), None),
     }
 }
 
