@@ -3,6 +3,7 @@
 mod asleep;
 mod callers;
 mod calls;
+mod compare;
 mod leads;
 mod one_caller;
 mod refusals;

@@ -1,4 +1,5 @@
 // Workers that sleep while the line is open and empty: a post wakes one, the close all.
+use crate::tests::compare::same;
 use crate::tests::stage::{Cache, config};
 use crate::tests::together::{Scene, gets, plays};
 use crate::tests::workers::{close, work_twice};
@@ -64,10 +65,20 @@ pub fn sleepers<N: Names + Send + Sync, R: Threads + Wait + Abort + Sync>(
         || get_and_close(rt, alloc, cache),
         || work_twice(rt, alloc, cache),
     );
-    assert_eq!(rt; got, (Ok(100), Ok(100)));
+    same(
+        rt,
+        "loads after a pause, and at once",
+        got,
+        (Ok(100), Ok(100)),
+    );
     let (one, two) = worked;
     let (one, two) = (one?, two?);
-    assert_eq!(rt; one.0.wrapping_add(two.0), 200);
+    same(
+        rt,
+        "the jobs of both workers",
+        one.0.wrapping_add(two.0),
+        200,
+    );
     Ok(())
 }
 

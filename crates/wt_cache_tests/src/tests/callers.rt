@@ -1,5 +1,6 @@
 // One caller: what is answered, and what the numbers and the pass show of it.
 use crate::tests::calls::{get, invalidate, present, put};
+use crate::tests::compare::same;
 use crate::tests::one_caller::{Play, plays};
 use crate::tests::stage::{Cache, Version, config};
 use std::alloc::Global;
@@ -19,14 +20,49 @@ pub fn versions<N: Names, R: Wait + Abort>(
     home: usize,
 ) -> Result<(), Fault> {
     let four = Version { key: 1, line: 4 };
-    assert_eq!(rt; put(rt, alloc, cache, pass, four, 0), Ok(1));
+    same(
+        rt,
+        "the step of the first put",
+        put(rt, alloc, cache, pass, four, 0),
+        Ok(1),
+    );
     let five = Version { key: 1, line: 5 };
-    assert_eq!(rt; put(rt, alloc, cache, pass, five, 0), Ok(2));
-    assert_eq!(rt; present(rt, alloc, cache, pass, 1), Ok((Some(5), 3)));
-    assert_eq!(rt; get(rt, alloc, cache, pass, 1, 0), Ok((How::Hit, 5, 4)));
-    assert_eq!(rt; invalidate(rt, alloc, cache, pass, 1), Ok(true));
-    assert_eq!(rt; get(rt, alloc, cache, pass, 1, 0), Ok((How::Loaded, 0, 6)));
-    assert_eq!(rt; (pass.steps(home), pass.hits(home)), (7, 2));
+    same(
+        rt,
+        "the step of the second put",
+        put(rt, alloc, cache, pass, five, 0),
+        Ok(2),
+    );
+    same(
+        rt,
+        "the value put last",
+        present(rt, alloc, cache, pass, 1),
+        Ok((Some(5), 3)),
+    );
+    same(
+        rt,
+        "a get of the value put last",
+        get(rt, alloc, cache, pass, 1, 0),
+        Ok((How::Hit, 5, 4)),
+    );
+    same(
+        rt,
+        "a value is taken out",
+        invalidate(rt, alloc, cache, pass, 1),
+        Ok(true),
+    );
+    same(
+        rt,
+        "a get once it is taken out",
+        get(rt, alloc, cache, pass, 1, 0),
+        Ok((How::Loaded, 0, 6)),
+    );
+    same(
+        rt,
+        "steps and hits",
+        (pass.steps(home), pass.hits(home)),
+        (7, 2),
+    );
     Ok(())
 }
 
@@ -44,10 +80,25 @@ pub fn failures<N: Names, R: Wait + Abort>(
     pass: &mut Pass<Of<N>>,
 ) -> Result<(), Fault> {
     let fault = Fault::LoadFailed { code: 300 };
-    assert_eq!(rt; get(rt, alloc, cache, pass, 1, 0), Err(fault));
-    assert_eq!(rt; get(rt, alloc, cache, pass, 1, 0), Err(fault));
+    same(
+        rt,
+        "the first failed load",
+        get(rt, alloc, cache, pass, 1, 0),
+        Err(fault),
+    );
+    same(
+        rt,
+        "the second failed load",
+        get(rt, alloc, cache, pass, 1, 0),
+        Err(fault),
+    );
     let stats = cache.stats(rt);
-    assert_eq!(rt; (stats.failed, stats.loads, stats.entries), (2, 0, 0));
+    same(
+        rt,
+        "failed loads, loads and entries",
+        (stats.failed, stats.loads, stats.entries),
+        (2, 0, 0),
+    );
     Ok(())
 }
 
@@ -66,13 +117,30 @@ pub fn refreshes<N: Names, R: Wait + Abort>(
     home: usize,
 ) -> Result<(), Fault> {
     let five = Version { key: 1, line: 5 };
-    assert_eq!(rt; put(rt, alloc, cache, pass, five, 0), Ok(1));
-    assert_eq!(rt;
-        get(rt, alloc, cache, pass, 1, 50),
-        Ok((How::Refreshed, 5, 2))
+    same(
+        rt,
+        "the step of the put",
+        put(rt, alloc, cache, pass, five, 0),
+        Ok(1),
     );
-    assert_eq!(rt; (pass.steps(home), pass.hits(home)), (3, 1));
-    assert_eq!(rt; get(rt, alloc, cache, pass, 1, 51), Ok((How::Hit, 0, 4)));
+    same(
+        rt,
+        "a get of a due value",
+        get(rt, alloc, cache, pass, 1, 50),
+        Ok((How::Refreshed, 5, 2)),
+    );
+    same(
+        rt,
+        "steps and hits at the refresh",
+        (pass.steps(home), pass.hits(home)),
+        (3, 1),
+    );
+    same(
+        rt,
+        "a get of the refreshed value",
+        get(rt, alloc, cache, pass, 1, 51),
+        Ok((How::Hit, 0, 4)),
+    );
     Ok(())
 }
 

@@ -1,5 +1,6 @@
 // Loads that nobody runs: dropped, given up, and forgotten. Each shard has room for few.
 use crate::tests::calls::{Led, abandon, forget, get, put, sweep};
+use crate::tests::compare::{holds, same};
 use crate::tests::one_caller::{Play, plays};
 use crate::tests::stage::{Cache, Version, config};
 use std::alloc::Global;
@@ -12,29 +13,75 @@ use wt_flights::Outcome;
 use wt_keys::Fault;
 use wt_shards::{Names, Of, Pass};
 
-/// The one load of a shard is given up, or its lead dropped; then key 5 of that shard is got.
-pub fn unrun<N: Names, R: Wait + Abort>(
+// Gets key 5 of the shard of key 1, whose one load is open.
+fn expect_full<N: Names, R: Wait + Abort>(
+    rt: &R,
+    alloc: Global,
+    cache: &Cache<N>,
+    pass: &mut Pass<Of<N>>,
+) {
+    let full = Fault::TooManyFlights { limit: 1 };
+    same(
+        rt,
+        "a get while the load is open",
+        get(rt, alloc, cache, pass, 5, 0),
+        Err(full),
+    );
+}
+
+/// The lead of the one load of a shard is dropped.
+pub fn dropped<N: Names, R: Wait + Abort>(
     rt: &R,
     alloc: Global,
     cache: &Cache<N>,
     pass: &mut Pass<Of<N>>,
     open: Led,
-    dropped: bool,
 ) -> Result<(), Fault> {
     let Some((lead, mut ticket)) = open else {
         return Err(Fault::Mixed);
     };
-    let full = Fault::TooManyFlights { limit: 1 };
-    assert_eq!(rt; get(rt, alloc, cache, pass, 5, 0), Err(full));
-    if dropped {
-        drop(lead);
-        assert_eq!(rt; get(rt, alloc, cache, pass, 5, 0), Err(full));
-        assert!(rt; matches!(ticket.poll(), Ok(None)));
-        return Ok(());
-    }
-    assert_eq!(rt; abandon(rt, alloc, cache, pass, lead), Ok(()));
-    assert!(rt; matches!(ticket.poll(), Ok(Some(Outcome::Abandoned))));
-    assert_eq!(rt; get(rt, alloc, cache, pass, 5, 0), Ok((How::Loaded, 0, 3)));
+    expect_full(rt, alloc, cache, pass);
+    drop(lead);
+    expect_full(rt, alloc, cache, pass);
+    holds(
+        rt,
+        "the ticket of a dropped lead knows nothing",
+        matches!(ticket.poll(), Ok(None)),
+    );
+    Ok(())
+}
+
+/// The one load of a shard is given up; then key 5 of that shard is got.
+pub fn given_up<N: Names, R: Wait + Abort>(
+    rt: &R,
+    alloc: Global,
+    cache: &Cache<N>,
+    pass: &mut Pass<Of<N>>,
+    open: Led,
+) -> Result<(), Fault> {
+    let Some((lead, mut ticket)) = open else {
+        return Err(Fault::Mixed);
+    };
+    expect_full(rt, alloc, cache, pass);
+    same(
+        rt,
+        "the load is given up",
+        abandon(rt, alloc, cache, pass, lead),
+        Ok(()),
+    );
+    let told = ticket.poll();
+    holds(
+        rt,
+        "the ticket knows that it was given up",
+        matches!(told, Ok(Some(Outcome::Abandoned))),
+    );
+    let got = get(rt, alloc, cache, pass, 5, 0);
+    same(
+        rt,
+        "a get once the load is given up",
+        got,
+        Ok((How::Loaded, 0, 3)),
+    );
     Ok(())
 }
 
@@ -56,21 +103,58 @@ pub fn forgets<N: Names, R: Wait + Abort>(
     alloc: Global,
     cache: &Cache<N>,
     pass: &mut Pass<Of<N>>,
-    open: Led,
-) -> Result<(), Fault> {
-    assert!(rt; open.is_some());
-    assert_eq!(rt; forget(rt, alloc, cache, pass, 1), Ok(true));
-    assert_eq!(rt; forget(rt, alloc, cache, pass, 1), Ok(false));
-    let two = Version { key: 2, line: 5 };
-    assert!(rt; put(rt, alloc, cache, pass, two, 0).is_ok());
-    let three = Version { key: 3, line: 6 };
-    assert!(rt; put(rt, alloc, cache, pass, three, 5).is_ok());
+    open: &Led,
+) {
+    holds(rt, "a load is open", open.is_some());
+    same(
+        rt,
+        "the first forget",
+        forget(rt, alloc, cache, pass, 1),
+        Ok(true),
+    );
+    same(
+        rt,
+        "the second forget",
+        forget(rt, alloc, cache, pass, 1),
+        Ok(false),
+    );
+    puts_two(rt, alloc, cache, pass);
     let expired = (1, 2, Some(Cause::Expired));
     let taken = (1, 3, Some(Cause::Explicit));
-    assert_eq!(rt; sweep(rt, alloc, cache, pass), Ok((expired, taken)));
+    let swept = sweep(rt, alloc, cache, pass);
+    same(
+        rt,
+        "what expired, and what was taken out",
+        swept,
+        Ok((expired, taken)),
+    );
     let got = get(rt, alloc, cache, pass, 1, 10);
-    assert!(rt; matches!(got, Ok((How::Loaded, _, _))));
-    Ok(())
+    holds(
+        rt,
+        "the forgotten key is loaded anew",
+        matches!(got, Ok((How::Loaded, _, _))),
+    );
+}
+
+// Puts key 2 at 0 and key 3 at 5.
+fn puts_two<N: Names, R: Wait + Abort>(
+    rt: &R,
+    alloc: Global,
+    cache: &Cache<N>,
+    pass: &mut Pass<Of<N>>,
+) {
+    let two = Version { key: 2, line: 5 };
+    holds(
+        rt,
+        "the first put",
+        put(rt, alloc, cache, pass, two, 0).is_ok(),
+    );
+    let three = Version { key: 3, line: 6 };
+    holds(
+        rt,
+        "the second put",
+        put(rt, alloc, cache, pass, three, 5).is_ok(),
+    );
 }
 
 #[test]

@@ -5,7 +5,8 @@ ghost use Rattle.wt_shards.specs.Opening.{AreBlanksOf};
 
 use crate::tests::callers::{failures, refreshes, versions};
 use crate::tests::calls::{Led, led, settled};
-use crate::tests::leads::{forgets, unrun};
+use crate::tests::compare::same;
+use crate::tests::leads::{dropped, forgets, given_up};
 use crate::tests::stage::{Cache, Plain, Rules, Way, new_marks};
 use std::alloc::Global;
 use std::marker::Brand;
@@ -55,9 +56,12 @@ fn act<N: Names, R: Wait + Abort>(
         Play::Versions => versions(rt, alloc, cache, pass, home),
         Play::Failures => failures(rt, alloc, cache, pass),
         Play::Refreshes => refreshes(rt, alloc, cache, pass, home),
-        Play::Drops => unrun(rt, alloc, cache, pass, open, true),
-        Play::GivesUp => unrun(rt, alloc, cache, pass, open, false),
-        Play::Forgets => forgets(rt, alloc, cache, pass, open),
+        Play::Drops => dropped(rt, alloc, cache, pass, open),
+        Play::GivesUp => given_up(rt, alloc, cache, pass, open),
+        Play::Forgets => {
+            forgets(rt, alloc, cache, pass, &open);
+            Ok(())
+        }
     }
 }
 
@@ -86,7 +90,12 @@ fn played<N: Names, R: Wait + Abort>(
     let home = count.saturating_sub(1);
     let acted = act(rt, alloc, &cache, &mut pass, open, play, home);
     let shown = (pass.steps(home), pass.hits(home));
-    assert_eq!(rt; settled(rt, alloc, cache, pass, home), Ok(shown));
+    same(
+        rt,
+        "the books' steps and hits",
+        settled(rt, alloc, cache, pass, home),
+        Ok(shown),
+    );
     acted
 }
 

@@ -4,6 +4,7 @@ ghost use Rattle.std.specs.Prelude.{◌≡◌};
 ghost use Rattle.wt_shards.specs.Opening.{AreBlanksOf};
 
 use crate::tests::calls::{Led, forget, get, invalidate, led, present, put};
+use crate::tests::compare::{holds, same};
 use crate::tests::stage::{Cache, Plain, Rules, Version, Way, config, new_marks};
 use crate::tests::workers::{close, posts};
 use std::alloc::Global;
@@ -35,7 +36,12 @@ fn insist<N: Names, R: Wait + Abort>(
     let before = seen(rt, cache, pass);
     let mut got = get(rt, alloc, cache, pass, key, 0);
     if got == Err(Fault::NoMemory) {
-        assert_eq!(rt; seen(rt, cache, pass), before);
+        same(
+            rt,
+            "what is seen after a refused get",
+            seen(rt, cache, pass),
+            before,
+        );
         got = get(rt, alloc, cache, pass, key, 0);
     }
     match got {
@@ -45,7 +51,7 @@ fn insist<N: Names, R: Wait + Abort>(
 }
 
 // A call that loads nothing.
-#[derive(Clone, Copy, Debug)]
+#[derive(Clone, Copy, Debug, PartialEq, Eq)]
 enum Call {
     Put,
     Look,
@@ -102,10 +108,20 @@ fn make_all<N: Names, R: Wait + Abort>(
         let before = seen(rt, cache, pass);
         let mut told = make(rt, alloc, cache, pass, call, key);
         if told == Err(Fault::NoMemory) {
-            assert_eq!(rt; seen(rt, cache, pass), before);
+            same(
+                rt,
+                "what is seen after a refused call",
+                seen(rt, cache, pass),
+                before,
+            );
             told = make(rt, alloc, cache, pass, call, key);
         }
-        assert_eq!(rt; told, Ok(found), "{call:?} {key}");
+        same(
+            rt,
+            "a call and its key, and whether it found it",
+            (call, key, told),
+            (call, key, Ok(found)),
+        );
     }
 }
 
@@ -121,10 +137,15 @@ fn loads_of<N: Names, R: Wait + Abort>(
     for loads in 0..3u64 {
         let got = insist(rt, alloc, cache, pass, key);
         if got == Ok((How::Hit, 0)) {
-            assert_eq!(rt; cache.stats(rt).loads, before.wrapping_add(loads));
+            same(
+                rt,
+                "loads until the value is there",
+                cache.stats(rt).loads,
+                before.wrapping_add(loads),
+            );
             return loads;
         }
-        assert_eq!(rt; got, Ok((How::Loaded, 0)));
+        same(rt, "a get that loads", got, Ok((How::Loaded, 0)));
     }
     3
 }
@@ -138,7 +159,7 @@ fn loads_itself<N: Names, R: Wait + Abort>(
 ) {
     for key in 3..9u64 {
         let loads = loads_of(rt, alloc, cache, pass, key);
-        assert!(rt; loads == 1 || loads == 2);
+        holds(rt, "one load or two", loads == 1 || loads == 2);
     }
 }
 
@@ -155,8 +176,17 @@ fn shares<N: Names, R: Wait + Abort>(
     };
     let key = lead.key();
     let told = lead.publish(Outcome::Value(Version { key, line: 5 }));
-    assert!(rt; matches!(told, Publish::Published(_)));
-    assert_eq!(rt; insist(rt, alloc, cache, pass, key), Ok((How::Joined, 5)));
+    holds(
+        rt,
+        "the first outcome is published",
+        matches!(told, Publish::Published(_)),
+    );
+    same(
+        rt,
+        "a get that joins",
+        insist(rt, alloc, cache, pass, key),
+        Ok((How::Joined, 5)),
+    );
 }
 
 // A worker's jobs, failures and removals; NoMemory where its own list of notices was refused.
@@ -187,16 +217,34 @@ fn works<N: Names, R: Wait + Abort>(
         return;
     };
     let key = lead.key();
-    assert_eq!(rt; posts(rt, cache, lead), Ok(true));
+    same(
+        rt,
+        "the line takes the load",
+        posts(rt, cache, lead),
+        Ok(true),
+    );
     close(rt, cache);
     let mut report = work(rt, alloc, cache, pass);
     if report == Err(Fault::NoMemory) {
         report = work(rt, alloc, cache, pass);
     }
-    assert_eq!(rt; report, Ok((1, 0, 0)));
+    same(
+        rt,
+        "the worker's jobs, failures and removals",
+        report,
+        Ok((1, 0, 0)),
+    );
     let told = ticket.poll();
-    assert!(rt; matches!(told, Ok(Some(Outcome::Value(Version { line: 0, .. })))));
-    assert!(rt; loads_of(rt, alloc, cache, pass, key) < 2);
+    holds(
+        rt,
+        "the ticket knows the worker's value",
+        matches!(told, Ok(Some(Outcome::Value(Version { line: 0, .. })))),
+    );
+    holds(
+        rt,
+        "one more load at most",
+        loads_of(rt, alloc, cache, pass, key) < 2,
+    );
 }
 
 // Ends the cache: the steps and hits of the settled books. Settling takes no memory.
@@ -264,7 +312,12 @@ fn played<N: Names, R: Wait + Abort>(
     let cache: Cache<N> = LoadingCache::new(shards, Rules { way, marks }, line);
     plays_on(rt, alloc, &cache, &mut pass, (posted, told));
     let shown = Some((pass.steps(0), pass.hits(0)));
-    assert_eq!(rt; settled(rt, alloc, cache, pass), Ok(shown));
+    same(
+        rt,
+        "the books' steps and hits",
+        settled(rt, alloc, cache, pass),
+        Ok(shown),
+    );
     Ok(())
 }
 

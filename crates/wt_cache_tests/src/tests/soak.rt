@@ -3,6 +3,7 @@ ghost use Rattle.std.specs.Prelude.{◌≡◌};
 ghost use Rattle.wt_shards.specs.Opening.{AreBlanksOf};
 
 use crate::tests::calls::{forget, get, invalidate, led, put};
+use crate::tests::compare::same;
 use crate::tests::stage::{Cache, Plain, Rules, Version, Way, config, new_marks};
 use std::alloc::Global;
 use std::marker::Brand;
@@ -253,6 +254,11 @@ fn soaks<R: Threads + Wait + Sync>(
 #[test]
 fn a_soak_leaves_no_load_open_and_no_pass_missing(rt: HostRuntime) -> Result<(), Fail> {
     let config = config(8, 4, Some(40));
-    assert_eq!(rt; soaks(&rt, rt.alloc(), &config), Ok((0, 0, 16)));
+    same(
+        &rt,
+        "strange values, loads not landed, loads that can be opened",
+        soaks(&rt, rt.alloc(), &config),
+        Ok((0, 0, 16)),
+    );
     Ok(())
 }

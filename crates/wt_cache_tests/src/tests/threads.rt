@@ -1,5 +1,6 @@
 // Several callers: one load for all of them, and a put while it lasts.
 use crate::tests::calls::{Led, abandon, get, put};
+use crate::tests::compare::{holds, same};
 use crate::tests::stage::{Cache, Marks, Version, config, rises};
 use crate::tests::together::{Answer, Scene, gets, plays};
 use std::alloc::Global;
@@ -60,12 +61,17 @@ pub fn one_load<N: Names + Send + Sync, R: Threads + Wait + Abort + Sync>(
         || ask_twice(rt, alloc, cache, marks),
         || releases(rt, cache, marks),
     );
-    assert!(rt; released);
-    assert_eq!(rt; answers.0, Ok((How::Loaded, 0)));
-    assert_eq!(rt; answers.1, Ok((How::Joined, 0)));
-    assert_eq!(rt; marks.begun.load(Ordering::SeqCst), 1);
+    holds(rt, "the held load is released", released);
+    same(rt, "the caller that loads", answers.0, Ok((How::Loaded, 0)));
+    same(rt, "the caller that joins", answers.1, Ok((How::Joined, 0)));
+    same(
+        rt,
+        "how many loads were begun",
+        marks.begun.load(Ordering::SeqCst),
+        1,
+    );
     let stats = cache.stats(rt);
-    assert_eq!(rt; (stats.loads, stats.misses), (1, 2));
+    same(rt, "loads and misses", (stats.loads, stats.misses), (1, 2));
     Ok(())
 }
 
@@ -107,8 +113,8 @@ pub fn given_up<N: Names + Send + Sync, R: Threads + Wait + Abort + Sync>(
         || gets(rt, alloc, cache, 1),
         || gives_up(rt, alloc, cache, lead),
     );
-    assert_eq!(rt; joined, Err(Fault::Abandoned));
-    assert_eq!(rt; ended, Ok(()));
+    same(rt, "the caller that waits", joined, Err(Fault::Abandoned));
+    same(rt, "the load is given up", ended, Ok(()));
     Ok(())
 }
 
@@ -151,9 +157,14 @@ pub fn put_beside_load<N: Names + Send + Sync, R: Threads + Wait + Abort + Sync>
         || gets(rt, alloc, cache, 1),
         || puts_meanwhile(rt, alloc, cache, marks),
     );
-    assert_eq!(rt; put, Ok((How::Hit, 5)));
-    assert_eq!(rt; loaded, Ok((How::Loaded, 0)));
-    assert_eq!(rt; gets(rt, alloc, cache, 1), Ok((How::Hit, 5)));
+    same(rt, "the caller that puts", put, Ok((How::Hit, 5)));
+    same(rt, "the caller that loads", loaded, Ok((How::Loaded, 0)));
+    same(
+        rt,
+        "a get after both",
+        gets(rt, alloc, cache, 1),
+        Ok((How::Hit, 5)),
+    );
     Ok(())
 }
 

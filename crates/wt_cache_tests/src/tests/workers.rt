@@ -1,5 +1,6 @@
 // The line and its workers: which of them runs a load, and what is reported.
 use crate::tests::calls::{Led, get, put};
+use crate::tests::compare::{holds, same};
 use crate::tests::stage::{Cache, Version, config};
 use crate::tests::together::{Answer, Scene, gets, plays, plays_at};
 use std::alloc::Global;
@@ -49,6 +50,24 @@ pub fn posts<N: Names, R: Wait>(
     Ok(matches!(line.post(rt, &mut hand, lead), Ok(Posted::Line)))
 }
 
+// The caller loads beside a full line, and beside a closed one.
+fn loads_beside<N: Names, R: Wait + Abort>(rt: &R, alloc: Global, cache: &Cache<N>) {
+    let loaded = Ok((How::Loaded, 0));
+    same(
+        rt,
+        "a get beside the full line",
+        gets(rt, alloc, cache, 2),
+        loaded,
+    );
+    close(rt, cache);
+    same(
+        rt,
+        "a get beside the closed line",
+        gets(rt, alloc, cache, 3),
+        loaded,
+    );
+}
+
 /// A load stands in a line of one place while others are got; then it is run.
 pub fn full_line<N: Names, R: Wait + Abort>(
     rt: &R,
@@ -59,20 +78,36 @@ pub fn full_line<N: Names, R: Wait + Abort>(
     let Some((lead, mut ticket)) = open else {
         return Err(Fault::Mixed);
     };
-    assert_eq!(rt; posts(rt, cache, lead), Ok(true));
-    assert_eq!(rt; gets(rt, alloc, cache, 2), Ok((How::Loaded, 0)));
-    close(rt, cache);
-    assert_eq!(rt; gets(rt, alloc, cache, 3), Ok((How::Loaded, 0)));
-    assert!(rt; matches!(ticket.poll(), Ok(None)));
-    assert_eq!(rt; works(rt, alloc, cache), Ok((1, 0, 0)));
-    let outcome = ticket.poll();
-    assert!(rt;
-        matches!(
-            outcome,
-            Ok(Some(Outcome::Value(Version { key: 1, line: 0 })))
-        )
+    same(
+        rt,
+        "the line takes the load",
+        posts(rt, cache, lead),
+        Ok(true),
     );
-    assert_eq!(rt; works(rt, alloc, cache), Ok((0, 0, 0)));
+    loads_beside(rt, alloc, cache);
+    holds(
+        rt,
+        "the ticket knows nothing yet",
+        matches!(ticket.poll(), Ok(None)),
+    );
+    same(
+        rt,
+        "a worker's jobs, failures and removals",
+        works(rt, alloc, cache),
+        Ok((1, 0, 0)),
+    );
+    let outcome = ticket.poll();
+    let is_told = matches!(
+        outcome,
+        Ok(Some(Outcome::Value(Version { key: 1, line: 0 })))
+    );
+    holds(rt, "the ticket knows the worker's value", is_told);
+    same(
+        rt,
+        "a worker at the empty line",
+        works(rt, alloc, cache),
+        Ok((0, 0, 0)),
+    );
     Ok(())
 }
 
@@ -108,8 +143,13 @@ pub fn one_worker<N: Names + Send + Sync, R: Threads + Wait + Abort + Sync>(
     );
     let failed: Answer = Err(Fault::LoadFailed { code: 300 });
     let loaded = Ok((How::Loaded, 0));
-    assert_eq!(rt; got, [failed, loaded, loaded, failed]);
-    assert_eq!(rt; report, Ok((4, 2, 1)));
+    same(rt, "four gets", got, [failed, loaded, loaded, failed]);
+    same(
+        rt,
+        "the worker's jobs, failures and removals",
+        report,
+        Ok((4, 2, 1)),
+    );
     Ok(())
 }
 
@@ -151,9 +191,14 @@ pub fn many_loads<N: Names + Send + Sync, R: Threads + Wait + Abort + Sync>(
         },
         || works(rt, alloc, cache),
     );
-    assert_eq!(rt; got, Ok(MANY));
+    same(rt, "how many keys were loaded", got, Ok(MANY));
     let left = MANY.wrapping_sub(cache.stats(rt).entries);
-    assert_eq!(rt; report, Ok((MANY, 0, left)));
+    same(
+        rt,
+        "the worker's jobs, failures and removals",
+        report,
+        Ok((MANY, 0, left)),
+    );
     Ok(())
 }
 
@@ -180,9 +225,19 @@ pub fn refresh<N: Names + Send + Sync, R: Threads + Wait + Abort + Sync>(
     cache: &Cache<N>,
 ) -> Result<(), Fault> {
     let (got, report) = thread::join(rt, || get_due(rt, alloc, cache), || works(rt, alloc, cache));
-    assert_eq!(rt; got, Ok((How::Refreshed, 5)));
-    assert_eq!(rt; report, Ok((1, 0, 1)));
-    assert_eq!(rt; gets(rt, alloc, cache, 1), Ok((How::Hit, 0)));
+    same(rt, "the get of the due value", got, Ok((How::Refreshed, 5)));
+    same(
+        rt,
+        "the worker's jobs, failures and removals",
+        report,
+        Ok((1, 0, 1)),
+    );
+    same(
+        rt,
+        "a get of the refreshed value",
+        gets(rt, alloc, cache, 1),
+        Ok((How::Hit, 0)),
+    );
     Ok(())
 }
 
@@ -227,8 +282,18 @@ pub fn two_workers<N: Names + Send + Sync, R: Threads + Wait + Abort + Sync>(
         || get_two(rt, alloc, cache),
         || work_twice(rt, alloc, cache),
     );
-    assert_eq!(rt; got, (Ok((How::Loaded, 0)), Ok((How::Loaded, 0))));
-    assert_eq!(rt; worked, (Ok((1, 0, 0)), Ok((1, 0, 0))));
+    same(
+        rt,
+        "the two callers",
+        got,
+        (Ok((How::Loaded, 0)), Ok((How::Loaded, 0))),
+    );
+    same(
+        rt,
+        "the two workers",
+        worked,
+        (Ok((1, 0, 0)), Ok((1, 0, 0))),
+    );
     Ok(())
 }
 
