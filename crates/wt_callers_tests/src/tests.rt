@@ -2,6 +2,7 @@
 // call takes.
 
 mod apart;
+mod compare;
 mod heavy;
 mod late;
 mod lending;

@@ -3,6 +3,7 @@
 ghost use Rattle.std.specs.Prelude.{◌≡◌};
 ghost use Rattle.wt_shards.specs.Opening.{AreBlanksOf};
 
+use super::compare::same;
 use std::alloc::Global;
 use std::marker::Brand;
 use std::sync::{Arc, Wait};
@@ -158,6 +159,11 @@ fn look_apart<N: Names + Send + Sync, R: Threads + Wait + Sync>(
 #[test]
 fn a_call_takes_the_lock_of_its_shard_alone(rt: HostRuntime) -> Result<(), Fail> {
     let seen = look_apart::<Brand, HostRuntime>(&rt, rt.alloc(), Blanks::new(), &Config::of(4));
-    assert_eq!(rt; seen, Ok((true, true)));
+    same(
+        &rt,
+        "the look at one shard, and the calls at another",
+        seen,
+        Ok((true, true)),
+    );
     Ok(())
 }

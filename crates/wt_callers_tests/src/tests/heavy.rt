@@ -2,6 +2,7 @@
 ghost use Rattle.std.specs.Prelude.{◌≡◌};
 ghost use Rattle.wt_shards.specs.Opening.{AreBlanksOf};
 
+use super::compare::same;
 use std::alloc::Global;
 use std::marker::Brand;
 use std::sync::Wait;
@@ -105,6 +106,6 @@ fn a_worker_counts_each_entry_that_leaves(rt: HostRuntime) -> Result<(), Fail> {
         failed: 0,
         removed: 2,
     };
-    assert_eq!(rt; report, Ok(counted));
+    same(&rt, "the worker's report", report, Ok(counted));
     Ok(())
 }

@@ -1,5 +1,6 @@
 // A line that is closed while loads are posted.
 
+use super::compare::holds;
 use std::alloc::Global;
 use std::process::Abort;
 use std::sync::Wait;
@@ -69,6 +70,6 @@ fn first_late<R: Threads + Wait + Sync>(rt: &R, alloc: Global) -> Result<Option<
 #[test]
 fn a_post_beside_the_close_is_late(rt: HostRuntime) -> Result<(), Fail> {
     let met = first_late(&rt, rt.alloc())?;
-    assert!(rt; met.is_some());
+    holds(&rt, "a post is late", met.is_some());
     Ok(())
 }

@@ -3,6 +3,7 @@
 ghost use Rattle.std.specs.Prelude.{◌≡◌};
 ghost use Rattle.wt_shards.specs.Opening.{AreBlanksOf};
 
+use super::compare::{holds, same};
 use std::alloc::Global;
 use std::marker::Brand;
 use std::process::Abort;
@@ -59,7 +60,7 @@ fn ask<N: Names, R: Wait>(rt: &R, callers: &Lender<N>, key: u64) -> Result<u64, 
 // Lends a caller 70,000 times, each for one get of key 1.
 fn in_a_row<N: Names, R: Wait + Abort>(rt: &R, callers: &Lender<N>) -> Result<(), Fault> {
     for _ in 0..70_000u64 {
-        assert_eq!(rt; ask(rt, callers, 1)?, 0);
+        same(rt, "a caller's get", ask(rt, callers, 1)?, 0);
     }
     Ok(())
 }
@@ -87,8 +88,8 @@ fn at_once<N: Names, R: Wait + Abort>(
     let caller = callers.lend(rt)?;
     let none = spent(rt, callers);
     caller.give_back();
-    assert!(rt; none);
-    assert!(rt; !spent(rt, callers));
+    holds(rt, "no caller while the last pass is lent", none);
+    holds(rt, "a caller once it is given back", !spent(rt, callers));
     Ok(())
 }
 
@@ -103,17 +104,45 @@ fn left_of<N: Names, R: Wait>(caller: &Lent<'_, N, R>) -> Option<(u64, u64, Caus
 // Each call on a key, and what left in it.
 fn uses<N: Names, R: Wait + Abort>(rt: &R, caller: &mut Lent<'_, N, R>) -> Result<(), Fault> {
     caller.put(1, Keyed { key: 1, value: 5 }, 0)?;
-    assert_eq!(rt; caller.left().len(), 0);
+    same(
+        rt,
+        "the first put drives nothing out",
+        caller.left().len(),
+        0,
+    );
     caller.put(1, Keyed { key: 1, value: 6 }, 0)?;
-    assert_eq!(rt; left_of(caller), Some((1, 5, Cause::Replaced)));
+    same(
+        rt,
+        "what the second put drives out",
+        left_of(caller),
+        Some((1, 5, Cause::Replaced)),
+    );
     let got = caller.get(1, 0)?;
-    assert_eq!(rt; (got.how, got.value.value), (How::Hit, 6));
-    assert_eq!(rt; caller.left().len(), 0);
-    assert!(rt; matches!(caller.get_if_present(2, 0)?.reply, Reply::Absent));
-    assert_eq!(rt; caller.get(2, 0)?.how, How::Loaded);
-    assert!(rt; !caller.forget(2, 0)?.reply);
-    assert!(rt; caller.invalidate(1, 0)?.reply);
-    assert_eq!(rt; left_of(caller), Some((1, 6, Cause::Explicit)));
+    same(
+        rt,
+        "a get of the second put",
+        (got.how, got.value.value),
+        (How::Hit, 6),
+    );
+    same(rt, "a hit drives nothing out", caller.left().len(), 0);
+    holds(
+        rt,
+        "key 2 is absent",
+        matches!(caller.get_if_present(2, 0)?.reply, Reply::Absent),
+    );
+    same(rt, "a get of key 2", caller.get(2, 0)?.how, How::Loaded);
+    holds(
+        rt,
+        "key 2 has no load to forget",
+        !caller.forget(2, 0)?.reply,
+    );
+    holds(rt, "key 1 is taken out", caller.invalidate(1, 0)?.reply);
+    same(
+        rt,
+        "what the removal takes out",
+        left_of(caller),
+        Some((1, 6, Cause::Explicit)),
+    );
     Ok(())
 }
 
@@ -148,7 +177,12 @@ fn calls<N: Names, R: Wait + Abort>(
     let mut caller = callers.lend(rt)?;
     let swept = sweeps(alloc, &mut caller);
     caller.give_back();
-    assert_eq!(rt; swept?, [0, 0, 1]);
+    same(
+        rt,
+        "entries that left before, at the clean and at the clear",
+        swept?,
+        [0, 0, 1],
+    );
     Ok(())
 }
 
@@ -271,14 +305,19 @@ fn plays<R: Threads + Wait + Abort + Sync>(
 #[test]
 fn more_callers_are_lent_in_a_row_than_there_are_passes(rt: HostRuntime) -> Result<(), Fail> {
     let ends = plays(&rt, rt.alloc(), Play::InARow)?;
-    assert_eq!(rt; ends, [(1, 70_001, 69_999), (1, 70_001, 69_999)]);
+    same(
+        &rt,
+        "passes, steps and hits",
+        ends,
+        [(1, 70_001, 69_999), (1, 70_001, 69_999)],
+    );
     Ok(())
 }
 
 #[test]
 fn callers_are_refused_while_all_passes_are_lent(rt: HostRuntime) -> Result<(), Fail> {
     let ends = plays(&rt, rt.alloc(), Play::AtOnce)?;
-    assert_eq!(rt; ends, [(1, 0, 0), (1, 0, 0)]);
+    same(&rt, "passes, steps and hits", ends, [(1, 0, 0), (1, 0, 0)]);
     Ok(())
 }
 
@@ -287,15 +326,24 @@ fn callers_are_refused_while_all_passes_are_lent(rt: HostRuntime) -> Result<(), 
 #[test]
 fn a_caller_makes_each_call(rt: HostRuntime) -> Result<(), Fail> {
     let ends = plays(&rt, rt.alloc(), Play::Calls)?;
-    assert_eq!(rt; ends, [(1, 10, 1), (1, 16, 1)]);
+    same(
+        &rt,
+        "passes, steps and hits",
+        ends,
+        [(1, 10, 1), (1, 16, 1)],
+    );
     Ok(())
 }
 
 #[test]
 fn callers_of_many_threads_settle(rt: HostRuntime) -> Result<(), Fail> {
     for (passes, steps, hits) in plays(&rt, rt.alloc(), Play::Beside)? {
-        assert!(rt; 1 <= passes && passes <= 4);
-        assert!(rt; 4000 <= steps && hits < 4000);
+        holds(&rt, "one pass to four", 1 <= passes && passes <= 4);
+        holds(
+            &rt,
+            "4000 steps and more, fewer hits",
+            4000 <= steps && hits < 4000,
+        );
     }
     Ok(())
 }
@@ -307,6 +355,6 @@ fn a_lend_that_is_refused_memory_loses_no_pass(rt: HostRuntime) -> Result<(), Fa
     if ends == Err(Fault::NoMemory) {
         ends = plays_at(&rt, rt.alloc(), &config, 1, Play::Refused);
     }
-    assert_eq!(rt; ends, Ok((2, 0, 0)));
+    same(&rt, "passes, steps and hits", ends, Ok((2, 0, 0)));
     Ok(())
 }

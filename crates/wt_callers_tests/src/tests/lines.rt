@@ -1,5 +1,6 @@
 // The line alone: what comes back, in which order, to whom, and what a close does.
 
+use super::compare::{holds, same};
 use std::alloc::Global;
 use std::process::Abort;
 use std::sync::Wait;
@@ -42,45 +43,91 @@ fn take<R: Wait>(rt: &R, line: &Line, hand: &mut LinePass<u64, u64>) -> u64 {
     }
 }
 
+// Posts a load, which the line takes.
+fn posts<R: Wait + Abort>(
+    rt: &R,
+    alloc: Global,
+    line: &Line,
+    hand: &mut LinePass<u64, u64>,
+    id: u64,
+) -> Result<(), Fault> {
+    let posted = post(rt, alloc, line, hand, id)?;
+    same(
+        rt,
+        "a load, and its post",
+        (id, posted),
+        (id, Ok(Posted::Line)),
+    );
+    Ok(())
+}
+
+// Posts a load, which comes back with a fault.
+fn comes_back<R: Wait + Abort>(
+    rt: &R,
+    alloc: Global,
+    line: &Line,
+    hand: &mut LinePass<u64, u64>,
+    id: u64,
+    fault: Fault,
+) -> Result<(), Fault> {
+    let posted = post(rt, alloc, line, hand, id)?;
+    same(
+        rt,
+        "a load that comes back",
+        (id, posted),
+        (id, Err((id, fault))),
+    );
+    Ok(())
+}
+
+// Takes a load, by its id, or finds none, which is 0.
+fn takes<R: Wait + Abort>(rt: &R, line: &Line, hand: &mut LinePass<u64, u64>, id: u64) {
+    same(rt, "the load taken, or 0", take(rt, line, hand), id);
+}
+
+// In a line of two places.
+fn post_and_take<R: Wait + Abort>(
+    rt: &R,
+    alloc: Global,
+    line: &Line,
+    hand: &mut LinePass<u64, u64>,
+) -> Result<(), Fault> {
+    posts(rt, alloc, line, hand, 1)?;
+    posts(rt, alloc, line, hand, 2)?;
+    comes_back(rt, alloc, line, hand, 3, Fault::LineFull)?;
+    takes(rt, line, hand, 1);
+    takes(rt, line, hand, 2);
+    takes(rt, line, hand, 0);
+    line.close(rt);
+    comes_back(rt, alloc, line, hand, 4, Fault::LineClosed)
+}
+
 #[test]
 fn loads_are_taken_in_the_order_of_the_posts(rt: HostRuntime) -> Result<(), Fail> {
-    let alloc = rt.alloc();
-    let line = Line::new(&rt, alloc, 2)?;
+    let line = Line::new(&rt, rt.alloc(), 2)?;
     let mut hand = line.pass(&rt)?;
-    assert_eq!(rt; post(&rt, alloc, &line, &mut hand, 1)?, Ok(Posted::Line));
-    assert_eq!(rt; post(&rt, alloc, &line, &mut hand, 2)?, Ok(Posted::Line));
-    assert_eq!(rt;
-        post(&rt, alloc, &line, &mut hand, 3)?,
-        Err((3, Fault::LineFull))
-    );
-    assert_eq!(rt; take(&rt, &line, &mut hand), 1);
-    assert_eq!(rt; take(&rt, &line, &mut hand), 2);
-    assert_eq!(rt; take(&rt, &line, &mut hand), 0);
-    line.close(&rt);
-    assert_eq!(rt;
-        post(&rt, alloc, &line, &mut hand, 4)?,
-        Err((4, Fault::LineClosed))
-    );
+    post_and_take(&rt, rt.alloc(), &line, &mut hand)?;
     Ok(())
 }
 
 // Fills a line: each of its places takes a load, one more comes back, and a place that is emptied
 // takes it.
-fn fills<R: Wait + Abort>(rt: &R, alloc: Global, places: u32) -> Result<(), Fault> {
-    let line = Line::new(rt, alloc, places)?;
-    let mut hand = line.pass(rt)?;
+fn fills<R: Wait + Abort>(
+    rt: &R,
+    alloc: Global,
+    line: &Line,
+    hand: &mut LinePass<u64, u64>,
+    places: u32,
+) -> Result<(), Fault> {
     for id in 1..=u64::from(places) {
-        assert_eq!(rt; post(rt, alloc, &line, &mut hand, id)?, Ok(Posted::Line));
+        posts(rt, alloc, line, hand, id)?;
     }
     let more = u64::from(places).wrapping_add(1);
-    assert_eq!(rt;
-        post(rt, alloc, &line, &mut hand, more)?,
-        Err((more, Fault::LineFull))
-    );
-    assert_eq!(rt; take(rt, &line, &mut hand), 1);
-    assert_eq!(rt; post(rt, alloc, &line, &mut hand, more)?, Ok(Posted::Line));
+    comes_back(rt, alloc, line, hand, more, Fault::LineFull)?;
+    takes(rt, line, hand, 1);
+    posts(rt, alloc, line, hand, more)?;
     for id in 2..=more {
-        assert_eq!(rt; take(rt, &line, &mut hand), id);
+        takes(rt, line, hand, id);
     }
     Ok(())
 }
@@ -88,33 +135,61 @@ fn fills<R: Wait + Abort>(rt: &R, alloc: Global, places: u32) -> Result<(), Faul
 #[test]
 fn a_line_holds_as_many_loads_as_it_was_made_for(rt: HostRuntime) -> Result<(), Fail> {
     for places in [1, 2, 3, 64, 4096] {
-        fills(&rt, rt.alloc(), places)?;
+        let line = Line::new(&rt, rt.alloc(), places)?;
+        let mut hand = line.pass(&rt)?;
+        fills(&rt, rt.alloc(), &line, &mut hand, places)?;
     }
+    Ok(())
+}
+
+fn close_twice<R: Wait + Abort>(
+    rt: &R,
+    alloc: Global,
+    line: &Line,
+    hand: &mut LinePass<u64, u64>,
+) -> Result<(), Fault> {
+    same(rt, "whether a new line is closed", line.is_closed(), false);
+    posts(rt, alloc, line, hand, 1)?;
+    for _ in 0..2 {
+        line.close(rt);
+        same(
+            rt,
+            "whether a closed line is closed",
+            line.is_closed(),
+            true,
+        );
+    }
+    takes(rt, line, hand, 1);
+    takes(rt, line, hand, 0);
     Ok(())
 }
 
 #[test]
 fn a_closed_line_stays_closed_and_is_taken_from(rt: HostRuntime) -> Result<(), Fail> {
-    let alloc = rt.alloc();
-    let line = Line::new(&rt, alloc, 2)?;
+    let line = Line::new(&rt, rt.alloc(), 2)?;
     let mut hand = line.pass(&rt)?;
-    assert!(rt; !line.is_closed());
-    assert_eq!(rt; post(&rt, alloc, &line, &mut hand, 1)?, Ok(Posted::Line));
-    for _ in 0..2 {
-        line.close(&rt);
-        assert!(rt; line.is_closed());
-    }
-    assert_eq!(rt; take(&rt, &line, &mut hand), 1);
-    assert_eq!(rt; take(&rt, &line, &mut hand), 0);
+    close_twice(&rt, rt.alloc(), &line, &mut hand)?;
     Ok(())
 }
 
 #[test]
 fn a_line_has_1_to_4096_places(rt: HostRuntime) -> Result<(), Fail> {
     let alloc = rt.alloc();
-    assert!(rt; matches!(Line::new(&rt, alloc, 0), Err(Fault::BadConfig { .. })));
-    assert!(rt; Line::new(&rt, alloc, 4096).is_ok());
-    assert!(rt; matches!(Line::new(&rt, alloc, 4097), Err(Fault::BadConfig { .. })));
+    holds(
+        &rt,
+        "no line of 0 places",
+        matches!(Line::new(&rt, alloc, 0), Err(Fault::BadConfig { .. })),
+    );
+    holds(
+        &rt,
+        "a line of 4096 places",
+        Line::new(&rt, alloc, 4096).is_ok(),
+    );
+    holds(
+        &rt,
+        "no line of 4097 places",
+        matches!(Line::new(&rt, alloc, 4097), Err(Fault::BadConfig { .. })),
+    );
     Ok(())
 }
 
@@ -167,6 +242,11 @@ fn crossed<R: Threads + Wait + Sync>(rt: &R, alloc: Global) -> Result<u64, Fault
 
 #[test]
 fn each_load_is_taken_once(rt: HostRuntime) -> Result<(), Fail> {
-    assert_eq!(rt; crossed(&rt, rt.alloc())?, 0b111_1110);
+    same(
+        &rt,
+        "the bits of the loads taken",
+        crossed(&rt, rt.alloc())?,
+        0b111_1110,
+    );
     Ok(())
 }

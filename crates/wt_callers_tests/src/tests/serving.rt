@@ -1,4 +1,5 @@
 // A service: what its threads return, and which settings are refused.
+use super::compare::{holds, same};
 use std::alloc::Global;
 use std::sync::Wait;
 use std::sync::atomic::{AtomicU64, Ordering};
@@ -80,11 +81,16 @@ fn serve_returns_what_each_thread_returned(rt: HostRuntime) -> Result<(), Fail> 
             Err(Fault::LoadFailed { code: 404 }),
             Ok((30, How::Hit)),
         ];
-        assert_eq!(rt; returned.as_slice(), hoped.as_slice());
-        assert_eq!(rt; tens.loads.load(Ordering::SeqCst), 4);
+        same(
+            &rt,
+            "what each thread returned",
+            returned.as_slice(),
+            hoped.as_slice(),
+        );
+        same(&rt, "how many loads", tens.loads.load(Ordering::SeqCst), 4);
     }
     let none = served(&rt, rt.alloc(), 8, 1, 0, &Tens::new())?;
-    assert_eq!(rt; none.len(), 0);
+    same(&rt, "no thread returned", none.len(), 0);
     Ok(())
 }
 
@@ -94,19 +100,38 @@ fn serve_refuses_settings_out_of_their_range(rt: HostRuntime) -> Result<(), Fail
     let tens = Tens::new();
     let field = Field::Shards;
     let shards = served(&rt, alloc, 0, 3, 1, &tens);
-    assert_eq!(rt; shards.err(), Some(Fault::BadConfig { field }));
+    same(
+        &rt,
+        "three shards are refused",
+        shards.err(),
+        Some(Fault::BadConfig { field }),
+    );
     let field = Field::Entries;
     let entries = served(&rt, alloc, 0, 1, 1, &tens);
-    assert_eq!(rt; entries.err(), Some(Fault::BadConfig { field }));
-    assert_eq!(rt; tens.loads.load(Ordering::SeqCst), 0);
+    same(
+        &rt,
+        "no entries are refused",
+        entries.err(),
+        Some(Fault::BadConfig { field }),
+    );
+    same(
+        &rt,
+        "no load for a refused service",
+        tens.loads.load(Ordering::SeqCst),
+        0,
+    );
     Ok(())
 }
 
 #[test]
 fn a_keyed_value_answers_its_own_key(rt: HostRuntime) -> Result<(), Fail> {
     let kept: Number = Keyed { key: 7, value: 70 };
-    assert_eq!(rt; kept.share()?, kept);
-    assert_eq!(rt; kept.weight(), 1);
-    assert!(rt; kept.answers(&7) && !kept.answers(&70));
+    same(&rt, "a share of the value", kept.share()?, kept);
+    same(&rt, "the value's weight", kept.weight(), 1);
+    holds(
+        &rt,
+        "it answers its own key alone",
+        kept.answers(&7) && !kept.answers(&70),
+    );
     Ok(())
 }

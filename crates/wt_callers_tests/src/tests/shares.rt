@@ -3,6 +3,7 @@
 ghost use Rattle.std.specs.Prelude.{◌≡◌};
 ghost use Rattle.wt_shards.specs.Opening.{AreBlanksOf};
 
+use super::compare::same;
 use std::alloc::Global;
 use std::marker::{Brand, Model};
 use std::process::Abort;
@@ -296,12 +297,32 @@ fn asked<N: Names, R: Wait + Abort>(
     let (who, share, answer, made, answer_again, made_again) = row;
     left.store(share, Ordering::SeqCst);
     let got = first(rt, alloc, cache, pass, who, open, left);
-    assert_eq!(rt; got, answer, "{who:?}, share {share}");
-    assert_eq!(rt; numbers(rt, cache), made, "{who:?}, share {share}");
+    same(
+        rt,
+        "who asks, share and answer",
+        (who, share, got),
+        (who, share, answer),
+    );
+    same(
+        rt,
+        "who asks, share and numbers",
+        (who, share, numbers(rt, cache)),
+        (who, share, made),
+    );
     left.store(0, Ordering::SeqCst);
     let again = gets(rt, alloc, cache, pass, who.moment());
-    assert_eq!(rt; again, answer_again, "{who:?}, share {share}");
-    assert_eq!(rt; numbers(rt, cache), made_again, "{who:?}, share {share}");
+    same(
+        rt,
+        "who asks again, share and answer",
+        (who, share, again),
+        (who, share, answer_again),
+    );
+    same(
+        rt,
+        "who asks again, share and numbers",
+        (who, share, numbers(rt, cache)),
+        (who, share, made_again),
+    );
 }
 
 // A line for a worker's load, where a worker asks.

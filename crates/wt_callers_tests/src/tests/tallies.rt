@@ -1,4 +1,5 @@
 // What a tally counts, and how it reads.
+use super::compare::same;
 use std::test::Fail;
 use wt_cache::{Got, How, Tally};
 use wt_core::{Cause, Notice, Reply};
@@ -56,7 +57,7 @@ fn a_tally_counts_gets_replies_faults_and_what_left(rt: HostRuntime) -> Result<(
         too_many_flights: 1,
         other: 0,
     };
-    assert_eq!(rt; tally, wanted);
+    same(&rt, "the tally", tally, wanted);
     Ok(())
 }
 
@@ -73,7 +74,12 @@ fn two_tallies_add_up_and_a_count_stays_at_its_greatest(rt: HostRuntime) -> Resu
         ..Tally::NOTHING
     };
     let both = full.plus(&one);
-    assert_eq!(rt; (both.hits, both.other, both.misses), (u64::MAX, 3, 0));
+    same(
+        &rt,
+        "hits, others and misses",
+        (both.hits, both.other, both.misses),
+        (u64::MAX, 3, 0),
+    );
     Ok(())
 }
 
@@ -85,10 +91,12 @@ fn a_tally_is_a_line_of_names_and_numbers(rt: HostRuntime) -> Result<(), Fail> {
         ..Tally::NOTHING
     };
     let text = format!(in rt.alloc(); "{tally}")?;
-    assert_eq!(rt;
+    same(
+        &rt,
+        "the tally by Display",
         text.as_str(),
         "hits 5 misses 0 joins 0 refreshes 0 loads 0 loose 0 failed 0 explicit 0 replaced 0 \
-         expired 0 size 0 no-memory 0 too-heavy 0 too-many-flights 7 other 0"
+         expired 0 size 0 no-memory 0 too-heavy 0 too-many-flights 7 other 0",
     );
     Ok(())
 }
