@@ -1,4 +1,5 @@
 // What the tests share: options, inputs, and what a replay writes.
+mod compare;
 mod options;
 mod reports;
 mod streams;

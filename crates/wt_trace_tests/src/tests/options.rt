@@ -1,4 +1,5 @@
 // Options out of their ranges.
+use super::compare::{holds, same};
 use super::{FIRST, four_but};
 use std::test::*;
 use wt_keys::{Fault, Field};
@@ -50,22 +51,34 @@ const ROWS: [(Field, u64, bool); 40] = [
 
 #[test]
 fn an_option_out_of_its_range_is_named_and_nothing_is_read(rt: HostRuntime) {
-    assert_eq!(rt; Options::default().check(), Ok(()));
+    same(
+        &rt,
+        "the defaults are in their ranges",
+        Options::default().check(),
+        Ok(()),
+    );
     for (field, value, is_in_range) in ROWS {
         let options = four_but(field, value);
         if is_in_range {
-            assert_eq!(rt; options.check(), Ok(()));
+            same(&rt, "a value in its range", options.check(), Ok(()));
             continue;
         }
         let outcome = Err(ReplayFault::Cache(Fault::BadConfig { field }));
-        assert_eq!(rt; options.check(), outcome);
+        same(&rt, "a value out of its range", options.check(), outcome);
         let mut reader = Tallied::new(FIRST);
         let mut writer = Tallied::new(Vec::new(rt.alloc()));
-        assert_eq!(rt;
+        same(
+            &rt,
+            "the replay's fault",
             replay(rt.alloc(), &mut reader, &mut writer, &options),
-            outcome
+            outcome,
         );
-        assert_eq!(rt; reader.into_inner().len(), FIRST.len());
-        assert!(rt; writer.into_inner().is_empty());
+        same(
+            &rt,
+            "nothing is read",
+            reader.into_inner().len(),
+            FIRST.len(),
+        );
+        holds(&rt, "nothing is written", writer.into_inner().is_empty());
     }
 }

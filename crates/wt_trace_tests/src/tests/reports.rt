@@ -1,4 +1,5 @@
 // Reports of whole traces, with values from the rules' own text.
+use super::compare::same;
 use super::{FIRST, FIRST_REPORT, four, four_but, of, replayed};
 use std::alloc::Global;
 use std::process::Abort;
@@ -43,18 +44,27 @@ fn a_report_is_written_for_each_trace(rt: HostRuntime) {
         ),
     ];
     for (entries, input, report, outcome) in rows {
-        let (text, ended) = replayed(rt.alloc(), input, &of(entries));
-        assert_eq!(rt; text.as_slice(), report);
-        assert_eq!(rt; ended, outcome);
+        expect_report(&rt, rt.alloc(), input, &of(entries), (report, outcome));
     }
+}
+
+// Asserts what is written for an input, and how the run ends.
+fn expect_report(
+    rt: &impl Abort,
+    alloc: Global,
+    input: &[u8],
+    options: &Options,
+    (report, outcome): (&[u8], Result<(), ReplayFault>),
+) {
+    let (text, ended) = replayed(alloc, input, options);
+    same(rt, "the report", text.as_slice(), report);
+    same(rt, "how the run ends", ended, outcome);
 }
 
 // Each input with its options and the report that is written for it.
 fn expect_reports(rt: &impl Abort, alloc: Global, rows: &[(Options, &[u8], &[u8])]) {
     for (options, input, report) in rows {
-        let (text, ended) = replayed(alloc, input, options);
-        assert_eq!(rt; text.as_slice(), *report);
-        assert_eq!(rt; ended, Ok(()));
+        expect_report(rt, alloc, input, options, (report, Ok(())));
     }
 }
 
@@ -127,21 +137,31 @@ fn durations_weights_and_failures_are_the_options(rt: HostRuntime) {
     expect_reports(&rt, rt.alloc(), &rows);
 }
 
+// Asserts how many bytes are written for an input, and how the run ends.
+fn expect_length(
+    rt: &impl Abort,
+    alloc: Global,
+    input: &[u8],
+    length: usize,
+    outcome: Result<(), ReplayFault>,
+) {
+    let (text, ended) = replayed(alloc, input, &of(4));
+    same(rt, "how the run ends", ended, outcome);
+    same(rt, "the report's length", text.len(), length);
+}
+
 #[test]
 fn the_millionth_line_is_the_last(rt: HostRuntime) -> Result<(), Fail> {
     let mut input = Vec::new(rt.alloc());
     for _ in 0..1000000 {
         input.extend_from_slice(b"0 L 1\n")?;
     }
-    let (text, outcome) = replayed(rt.alloc(), input.as_slice(), &of(4));
-    assert_eq!(rt; outcome, Ok(()));
-    assert_eq!(rt; text.len(), 13888896 + 84);
+    expect_length(&rt, rt.alloc(), &input, 13888896 + 84, Ok(()));
     input.extend_from_slice(
         b"1111111111111111111111111111111111111111111111111111111111111111111\n",
     )?;
-    let (text, outcome) = replayed(rt.alloc(), input.as_slice(), &of(4));
-    assert_eq!(rt; outcome, Err(ReplayFault::TooManyLines));
-    assert_eq!(rt; text.len(), 13888896);
+    let past = Err(ReplayFault::TooManyLines);
+    expect_length(&rt, rt.alloc(), &input, 13888896, past);
     Ok(())
 }
 
@@ -172,7 +192,12 @@ fn a_fault_is_a_sentence(rt: HostRuntime) -> Result<(), Fail> {
         ),
     ];
     for (fault, sentence) in rows {
-        assert_eq!(rt; format!(in rt.alloc(); "{fault}")?.as_str(), sentence);
+        same(
+            &rt,
+            "the fault's sentence",
+            format!(in rt.alloc(); "{fault}")?.as_str(),
+            sentence,
+        );
     }
     Ok(())
 }
@@ -195,8 +220,8 @@ fn a_fault_has_a_line_and_a_status(rt: HostRuntime) -> Result<(), Fail> {
     ];
     for (fault, line) in rows {
         let (status, text) = status_and_line(rt.alloc(), &fault)?;
-        assert_eq!(rt; status, 1);
-        assert_eq!(rt; text.as_str(), line);
+        same(&rt, "the status", status, 1);
+        same(&rt, "the fault's line", text.as_str(), line);
     }
     Ok(())
 }

@@ -1,9 +1,12 @@
 // Readers and writers that give or take little, or fail.
 ghost use Rattle.std.specs.Prelude.{◌≤◌, IfOk};
 
+use super::compare::{holds, same};
 use super::{FIRST, FIRST_REPORT, of};
+use std::alloc::Global;
 use std::io;
 use std::io::{Read, Write};
+use std::process::Abort;
 use std::test::*;
 use wt_trace::{ReplayFault, Tallied, replay};
 
@@ -63,35 +66,53 @@ fn a_reader_that_gives_a_byte_a_call_is_read_whole(rt: HostRuntime) {
         fails: false,
     });
     let mut writer = Tallied::new(Vec::new(rt.alloc()));
-    assert_eq!(rt;
+    same(
+        &rt,
+        "how the run ends",
         replay(rt.alloc(), &mut reader, &mut writer, &of(4)),
-        Ok(())
+        Ok(()),
     );
-    assert_eq!(rt; reader.failures(), 0);
-    assert_eq!(rt; writer.into_inner().as_slice(), FIRST_REPORT);
+    same(&rt, "failures of the reader", reader.failures(), 0);
+    same(
+        &rt,
+        "the report",
+        writer.into_inner().as_slice(),
+        FIRST_REPORT,
+    );
 }
 
-// Each of its bytes is a read of its own.
+// Asserts that 20,000 looks, each byte of which is a read of its own, are replayed.
+fn expect_read_whole(rt: &impl Abort, alloc: Global, looks: &[u8]) {
+    let mut reader = Tallied::new(Slow {
+        bytes: looks,
+        fails: false,
+    });
+    let mut writer = Tallied::new(Vec::new(alloc));
+    let ended = replay(alloc, &mut reader, &mut writer, &of(4));
+    same(rt, "how the run ends", ended, Ok(()));
+    same(
+        rt,
+        "reads and failures",
+        (reader.reads(), reader.failures()),
+        (120_001, 0),
+    );
+    let summary =
+        b"lookups 20000 hits 0 misses 20000 loads 0 failed 0 evicted 0 entries 0 weight 0\n";
+    let text = writer.into_inner();
+    holds(
+        rt,
+        "the report ends with the summary",
+        text.as_slice().ends_with(summary),
+    );
+}
+
 #[test]
 fn a_hundred_thousand_reads_are_read_whole(rt: HostRuntime) -> Result<(), Fail> {
     let mut input = Vec::new(rt.alloc());
     for _ in 0..20_000 {
         input.extend_from_slice(b"0 L 1\n")?;
     }
-    let mut reader = Tallied::new(Slow {
-        bytes: input.as_slice(),
-        fails: false,
-    });
-    let mut writer = Tallied::new(Vec::new(rt.alloc()));
-    assert_eq!(rt;
-        replay(rt.alloc(), &mut reader, &mut writer, &of(4)),
-        Ok(())
-    );
-    assert_eq!(rt; (reader.reads(), reader.failures()), (120_001, 0));
-    let text = writer.into_inner();
-    let summary =
-        b"lookups 20000 hits 0 misses 20000 loads 0 failed 0 evicted 0 entries 0 weight 0\n";
-    assert!(rt; text.as_slice().ends_with(summary));
+    expect_read_whole(&rt, rt.alloc(), &input);
     Ok(())
 }
 
@@ -103,9 +124,14 @@ fn a_reader_that_fails_leaves_nothing_written(rt: HostRuntime) {
     });
     let mut writer = Tallied::new(Vec::new(rt.alloc()));
     let outcome = replay(rt.alloc(), &mut reader, &mut writer, &of(4));
-    assert_eq!(rt; outcome, Err(ReplayFault::ReadFault));
-    assert_eq!(rt; reader.failures(), 1);
-    assert!(rt; writer.into_inner().is_empty());
+    same(
+        &rt,
+        "how the run ends",
+        outcome,
+        Err(ReplayFault::ReadFault),
+    );
+    same(&rt, "failures of the reader", reader.failures(), 1);
+    holds(&rt, "nothing is written", writer.into_inner().is_empty());
 }
 
 #[test]
@@ -124,9 +150,19 @@ fn a_writer_that_fails_took_a_prefix_of_the_report(rt: HostRuntime) {
             fails,
         });
         let outcome = replay(rt.alloc(), &mut reader, &mut writer, &of(4));
-        assert_eq!(rt; outcome, Err(ReplayFault::WriteFault));
-        assert_eq!(rt; writer.failures(), 1);
-        assert_eq!(rt; writer.into_inner().bytes.as_slice(), written);
+        same(
+            &rt,
+            "how the run ends",
+            outcome,
+            Err(ReplayFault::WriteFault),
+        );
+        same(&rt, "failures of the writer", writer.failures(), 1);
+        same(
+            &rt,
+            "a prefix of the report",
+            writer.into_inner().bytes.as_slice(),
+            written,
+        );
     }
 }
 
@@ -167,22 +203,48 @@ impl Write for Moody {
     }
 }
 
-#[test]
-fn what_the_inner_one_answers_is_answered(rt: HostRuntime) {
+fn expect_reads(rt: &impl Abort) {
     let mut part = [0u8; 4];
     let mut reader = Tallied::new(Moody { calls: 0 });
-    assert_eq!(rt; reader.read(&mut part).ok(), Some(2));
-    assert_eq!(rt; reader.read(&mut part).ok(), Some(0));
-    assert_eq!(rt; reader.read(&mut part).ok(), None);
-    assert_eq!(rt; reader.reads(), 3);
-    assert_eq!(rt; reader.failures(), 1);
+    same(
+        rt,
+        "a read of two bytes",
+        reader.read(&mut part).ok(),
+        Some(2),
+    );
+    same(rt, "a read of none", reader.read(&mut part).ok(), Some(0));
+    same(rt, "a read that fails", reader.read(&mut part).ok(), None);
+    same(
+        rt,
+        "reads and failures of the reader",
+        (reader.reads(), reader.failures()),
+        (3, 1),
+    );
+}
+
+fn expect_writes(rt: &impl Abort) {
     let mut writer = Tallied::new(Moody { calls: 0 });
-    assert_eq!(rt; writer.write(b"four").ok(), Some(2));
-    assert_eq!(rt; writer.write(b"four").ok(), Some(0));
-    assert_eq!(rt; writer.write(b"four").ok(), None);
-    assert_eq!(rt; writer.flush().ok(), Some(()));
-    assert_eq!(rt; writer.flush().ok(), Some(()));
-    assert_eq!(rt; writer.flush().ok(), None);
-    assert_eq!(rt; writer.reads(), 0);
-    assert_eq!(rt; writer.failures(), 2);
+    same(
+        rt,
+        "a write of two bytes",
+        writer.write(b"four").ok(),
+        Some(2),
+    );
+    same(rt, "a write of none", writer.write(b"four").ok(), Some(0));
+    same(rt, "a write that fails", writer.write(b"four").ok(), None);
+    same(rt, "the first flush", writer.flush().ok(), Some(()));
+    same(rt, "the second flush", writer.flush().ok(), Some(()));
+    same(rt, "a flush that fails", writer.flush().ok(), None);
+    same(
+        rt,
+        "reads and failures of the writer",
+        (writer.reads(), writer.failures()),
+        (0, 2),
+    );
+}
+
+#[test]
+fn what_the_inner_one_answers_is_answered(rt: HostRuntime) {
+    expect_reads(&rt);
+    expect_writes(&rt);
 }
