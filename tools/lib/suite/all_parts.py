@@ -41,7 +41,7 @@ def of_crates(copy):
 
 def of_program(copy):
     built = copy / "crates" / "wt_replay" / "out"
-    yield Part("the program", ["sh", "-euc", 'sh tools/try --build && mkdir -p "$1" && cp out/try/*/wt_replay "$1"', "sh", built], copy, 300, needs=("rt",))
+    yield Part("the program", ["sh", "-euc", 'program=$(python3 tools/lib/kept_program.py) && mkdir -p "$1" && cp "$program" "$1"', "sh", built], copy, 300, needs=("rt",))
     for words, (needs, after, seconds) in OF_PROGRAM.items():
         name, *flags = words.split()
         yield Part(words, python(copy / "tools" / "gate" / name, *flags), copy, seconds, needs=needs, after=("the program", *after))
