@@ -31,11 +31,11 @@ pub struct Seen {
 pub fn session<N: Names + Send + Sync, R: Threads + Wait + Sync>(
     rt: &R,
     alloc: Global,
-    blanks: Blanks,
+    blanks: Blanks<u64, Page>,
     config: &Config,
 ) -> Result<Seen, Fault>
     requires layout { N.layout ≡ record { shards = 4; config = config.now } }
-    requires blanks { AreBlanksOf N.name blanks }
+    requires blanks { AreBlanksOf N.name N.book blanks }
 {
     let shards: Shards<u64, Page, Of<N>> = Shards::new(rt, alloc, blanks, config, 4)?;
     let marks = Arc::new(alloc, Marks::new())?;

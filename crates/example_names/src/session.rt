@@ -16,7 +16,7 @@ fn ask<N: Names, R: Wait>(
     rt: &R,
     alloc: Global,
     cache: &LoadingCache<Name, Tally, Loads, Of<N>>,
-    pass: &mut Pass<Of<N>>,
+    pass: &mut Pass<Name, Tally, Of<N>>,
     name: Name,
     now: u64,
 ) -> Result<u64, Fault> {
@@ -29,12 +29,12 @@ fn ask<N: Names, R: Wait>(
 pub fn session<N: Names, R: Wait>(
     rt: &R,
     alloc: Global,
-    blanks: Blanks,
+    blanks: Blanks<Name, Tally>,
     config: &Config,
     now: [u64; 3],
 ) -> Result<[u64; 3], Fault>
     requires layout { N.layout ≡ record { shards = 1; config = config.now } }
-    requires blanks { AreBlanksOf N.name blanks }
+    requires blanks { AreBlanksOf N.name N.book blanks }
 {
     let shards: Shards<Name, Tally, Of<N>> = Shards::new(rt, alloc, blanks, config, 1)?;
     let made = AtomicU64::new(0);

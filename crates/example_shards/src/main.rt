@@ -1,7 +1,8 @@
-//! Two threads put into a cache for many threads, and the passes show that nothing is missing; then
-//! one pass is left out, and that is told.
+//! Two threads put into a cache for many threads, one reads what the other has put, and the passes
+//! show that nothing is missing; then one pass is left out, and that is told.
 #![tactic(auto)]
 
+mod handing;
 mod page;
 mod session;
 mod writer;
@@ -28,14 +29,17 @@ const CONFIG: Config = Config {
 };
 
 // The one place that names the ledgers: the pick for `Brand` stands in proofs/run/Invariants.antt.
-fn run<R: Threads + Wait + Sync>(rt: &R, alloc: Global, all: bool) -> Result<u64, Fault> {
+fn run<R: Threads + Wait + Sync>(rt: &R, alloc: Global, all: bool) -> Result<(u64, u64), Fault> {
     session::<Brand, R>(rt, alloc, Blanks::new(), &CONFIG, all)
 }
 
 fn main(rt: HostRuntime) -> Result<(), anyhow::Error> {
     for all in [true, false] {
         match run(&rt, rt.alloc(), all) {
-            Ok(steps) => println!(rt; "{steps} steps, and no pass is missing")?,
+            Ok((version, steps)) => {
+                println!(rt; "the second caller reads version {version}")?;
+                println!(rt; "{steps} steps, and no pass is missing")?;
+            }
             Err(fault) => println!(rt; "fault {}: {fault}", fault.number())?,
         }
     }

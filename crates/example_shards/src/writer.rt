@@ -11,9 +11,9 @@ pub fn put_ten<B: Books, R: Wait>(
     rt: &R,
     alloc: Global,
     shards: &Shards<u64, Page, B>,
-    mut pass: Pass<B>,
+    mut pass: Pass<u64, Page, B>,
     from: u64,
-) -> Result<Pass<B>, Fault> {
+) -> Result<Pass<u64, Page, B>, Fault> {
     let mut notices = Notices::new(alloc, shards.entries() as usize)?;
     for version in 0..10u64 {
         let number = from.wrapping_add(version);

@@ -26,7 +26,7 @@ pub fn run_worker<B: Books, R: Wait>(
     rt: &R,
     alloc: Global,
     cache: &Cached<B>,
-) -> Result<(WorkerReport, Pass<B>), Fault> {
+) -> Result<(WorkerReport, Pass<u64, Page, B>), Fault> {
     let mut pass = cache.pass(rt, alloc)?;
     let mut left = Notices::new(alloc, cache.entries() as usize)?;
     let report = match cache.line() {
@@ -60,7 +60,7 @@ pub fn finish<B: Books, R: Wait>(
     rt: &R,
     alloc: Global,
     cache: Cached<B>,
-    passes: Vec<Pass<B>>,
+    passes: Vec<Pass<u64, Page, B>>,
 ) -> Result<u64, Fault> {
     let totals = cache.finish().settle(rt, alloc, passes)?;
     Ok(totals.of(0).map_or(0, |total| total.steps))

@@ -6,27 +6,28 @@ use Rattle.wt_flights.specs.Outcomes.{Leading}
 use Rattle.wt_regions.specs.Notices.{NoticeList, emptied}
 use Rattle.wt_core.specs.Faults.{is_step_fault}
 use Rattle.wt_core.specs.declared.calls.Call.{Call}
-use Rattle.wt_core.specs.declared.calls.Call.TheVariants.{Put}
+use Rattle.wt_core.specs.declared.calls.Call.TheVariants.{Land, Put}
 use Rattle.wt_core.specs.declared.calls.Land.{Land as Landing}
 use Rattle.wt_core.specs.declared.calls.Reply.{Reply}
 use Rattle.wt_core.specs.declared.calls.Reply.TheVariants.{Stored}
 use Rattle.wt_core.specs.declared.config.Config.{Config}
 use Rattle.wt_shards.specs.Contract.{IsHomeCall, IsSweepCall}
 use Rattle.wt_shards.specs.Opening.{layout_fault}
-use Rattle.wt_shards.specs.Passes.{Passed, with_step}
-use Rattle.wt_shards.specs.Place.{Layout, home_of}
+use Rattle.wt_shards.specs.History.{IsRefused}
+use Rattle.wt_shards.specs.Passes.{Seen, SeenAt, SeenMore, front_at, with_step}
+use Rattle.wt_shards.specs.Place.{Layout, home_of, home_at}
 use Rattle.wt_shards.specs.Told.{HasTold}
 use Rattle.wt_shards.specs.declared.done.Done.{Done}
 use Rattle.wt_cache.specs.Calling.{Calling}
-use Rattle.wt_cache.specs.Gets.{IsSoughtIn, IsSomeLanding, HasTriedIn, is_get_fault}
+use Rattle.wt_cache.specs.Gets.{IsSoughtIn, IsPlacedLanding, HasTriedIn, is_get_fault}
 use Rattle.wt_cache.specs.Moves.{HasGotIn, IsLaterIn}
 use Rattle.wt_cache.specs.declared.got.Got.{Got}
 
 -- what the put of a value promises: the call at its key's shard, and when the value is too heavy
 pub record IsPutCall {K V : Type 0} (eq : K → K → Bool) (word : K → ℕ) (weight : V → ℕ) (answers : V → K → Bool) (l : Layout) (key : K) (value : V) (now : ℕ)
-    (old new : Passed) (before list : NoticeList K V) (result : Result (Done (Unit {0})) Fault) : Type 0 where
+    (old new : Seen K V) (before list : NoticeList K V) (result : Result (Done (Unit {0})) Fault) : Type 0 where
   -- the call at the key's shard
-  pub made : IsHomeCall eq word weight answers l key (Put key value now) (λ _. Stored) old new before list result
+  pub made : IsHomeCall eq word weight answers (home_at word key l) (Put key value now) (λ _. Stored) old new before list result
   -- a value above the bound is refused, with its weight and the bound
   pub heavy : l.config.bound < weight value → result ≡ Err (TooHeavy (weight value) l.config.bound)
   -- no other value is too heavy
@@ -34,23 +35,29 @@ pub record IsPutCall {K V : Type 0} (eq : K → K → Bool) (word : K → ℕ) (
 
 -- what a landing promises: one step at the key's shard at the moment of its seek, or a refusal that moves nothing
 pub record IsLandCall {K V : Type 0} (eq : K → K → Bool) (word : K → ℕ) (weight : V → ℕ) (answers : V → K → Bool) (l : Layout) (lead : Leading K) (what : Landing V)
-    (old new : Passed) (before list : NoticeList K V) (result : Result (Unit {0}) Fault) : Type 0 where
+    (old new : Seen K V) (before list : NoticeList K V) (result : Result (Unit {0}) Fault) : Type 0 where
   -- the pass counts the step at that shard, which is no hit
-  pub moved : OnOk result (new ≡ with_step (home_of word lead.key l) false old)
-  -- in some lawful state of that shard the load is landed so, at the moment of its seek
-  pub step : OnOk result (IsSomeLanding eq word weight answers l lead what before list)
+  pub moved : OnOk result (new.counted ≡ with_step (home_of word lead.key l) false old.counted)
+  -- the landing stands in that shard's history, at the moment of the load's seek, behind all that the pass had seen of it
+  pub step : OnOk result (IsPlacedLanding eq word weight answers l lead what old new before list)
   -- whatever is returned: few notices, and no room lost
   pub told : HasTold l.config.entries before list
   -- no other fault comes than a step's
   pub faults : IfErr result (λ f. is_step_fault f ≡ true)
-  -- a fault leaves the pass and the notices
-  pub err : OnErr result ((new ≡ old) × (list ≡ before))
+  -- memory is refused, or that shard refuses the landing by this fault after the history that the pass then has seen
+  pub cause : IfErr result (IsRefused eq word weight answers (home_at word lead.key l) (Land lead.id lead.key what lead.moment)
+      (front_at (home_of word lead.key l) old) (front_at (home_of word lead.key l) new))
+  -- whatever is returned: the pass has seen at least what it had, and no more of the other shards
+  pub more : SeenMore old new
+  pub elsewhere : SeenAt (home_of word lead.key l) old new
+  -- a fault leaves what the pass counts, and the notices
+  pub err : OnErr result ((new.counted ≡ old.counted) × (list ≡ before))
 
 -- what a caller's call promises that goes to the shard of a key: that call, with its pass and with its list, which is emptied first
 pub record IsLentCall {K V R : Type 0} (eq : K → K → Bool) (word : K → ℕ) (weight : V → ℕ) (answers : V → K → Bool) (key : K) (c : Call K V)
     (said : R → Reply V) (old new : Calling K V) (result : Result (Done R) Fault) : Type 0 where
   -- the call at the key's shard
-  pub made : IsHomeCall eq word weight answers old.cache.layout key c said old.pass new.pass (emptied old.left) new.left result
+  pub made : IsHomeCall eq word weight answers (home_at word key old.cache.layout) c said old.pass new.pass (emptied old.left) new.left result
   -- the caller's cache is the same
   pub same : new.cache ≡ old.cache
 
@@ -76,17 +83,17 @@ pub record IsLentGet {K V : Type 0} (eq : K → K → Bool) (word : K → ℕ) (
   -- the value may stand for the key
   pub answers : IfOk result (λ got. IsTrue (stands got.value key))
   -- the pass counts the seek, and the landings that this caller ran
-  pub moved : IfOk result (HasGotIn word key old.cache old.pass new.pass)
+  pub moved : IfOk result (HasGotIn word key old.cache old.pass.counted new.pass.counted)
   -- the number of the seek is above those of all steps that the pass had made there
-  pub later : IfOk result (IsLaterIn word key old.cache old.pass)
-  -- in some lawful state of that shard the seek replies what is told of it, with the first of the notices
-  pub sought : IfOk result (IsSoughtIn eq word weight stands key now old.cache (emptied old.left) new.left)
+  pub later : IfOk result (IsLaterIn word key old.cache old.pass.counted)
+  -- the seek stands in that shard's history, with what is told of it and with the first of the notices
+  pub sought : IfOk result (IsSoughtIn eq word weight stands key now old.cache old.pass new.pass (emptied old.left) new.left)
   -- whatever is returned: few notices, and no room lost
   pub told : HasTold (2 * old.cache.layout.config.entries) (emptied old.left) new.left
   -- no other fault comes than a get's
   pub faults : IfErr result (λ f. is_get_fault f ≡ true)
   -- either the seek was refused, for a cause of its own and with nothing done, or it stands
-  pub err : IfErr result (HasTriedIn eq word weight stands key now old.cache (emptied old.left) new.left old.pass new.pass)
+  pub err : IfErr result (HasTriedIn eq word weight stands key now old.cache old.pass new.pass (emptied old.left) new.left)
   -- the caller's cache is the same
   pub same : new.cache ≡ old.cache
 

@@ -73,7 +73,7 @@ impl<
     /// Makes a caller's pass, which has made no step.
     ///
     /// `PassesSpent` only after 65,535 of them. Takes no memory, and each shard's lock in turn.
-    pub fn pass<R: Wait>(&self, rt: &R, alloc: Global) -> Result<Pass<B>, Fault>
+    pub fn pass<R: Wait>(&self, rt: &R, alloc: Global) -> Result<Pass<K, V, B>, Fault>
         ensures ok { IfOk result (λ pass. pass ≡ new_pass self.now.layout.shards) }
         ensures faults { IfErr result (λ f. f ≡ fault.PassesSpent) }
     {

@@ -25,7 +25,7 @@ pub struct Caller<
 > {
     pub(crate) rt: &'c R,
     pub(crate) callers: &'c Callers<K, V, L, B>,
-    pub(crate) pass: Pass<B>,
+    pub(crate) pass: Pass<K, V, B>,
     pub(crate) left: Notices<K, V>,
 }
 
@@ -60,7 +60,7 @@ impl<
     pub(crate) fn new(
         rt: &'c R,
         callers: &'c Callers<K, V, L, B>,
-        pass: Pass<B>,
+        pass: Pass<K, V, B>,
         left: Notices<K, V>,
     ) -> Caller<'c, K, V, L, B, R>
         requires room { 2 * callers.now.layout.config.entries ≤ left.room + length left.list }

@@ -22,7 +22,7 @@ const MOST_PASSES: usize = 65_535;
 // What no caller has at the moment.
 #[derive(Drop)]
 struct Idle<K, V, B: Books> {
-    passes: Vec<Pass<B>>,
+    passes: Vec<Pass<K, V, B>>,
     lists: Vec<Notices<K, V>>,
     // For how many passes and lists there is room to come back to: for as many as were ever lent.
     room: usize,
@@ -44,7 +44,7 @@ impl<K: Drop, V: Drop, B: Books> Idle<K, V, B> {
     }
 
     // Returns a pass that came back. Where there is none, makes the room for one more.
-    fn pass(&mut self) -> Result<Option<Pass<B>>, NoMemory> {
+    fn pass(&mut self) -> Result<Option<Pass<K, V, B>>, NoMemory> {
         if let Some(pass) = self.passes.pop() {
             return Ok(Some(pass));
         }
@@ -141,7 +141,7 @@ impl<
     }
 
     // Takes back what a caller had. `lend` made the room, so that neither push takes memory.
-    pub(crate) fn take_back<R: Wait>(&self, rt: &R, pass: Pass<B>, left: Notices<K, V>) {
+    pub(crate) fn take_back<R: Wait>(&self, rt: &R, pass: Pass<K, V, B>, left: Notices<K, V>) {
         // Before the lock: dropping values is the values' own code.
         let mut left = left;
         left.empty();
@@ -155,7 +155,7 @@ impl<
     ///
     /// The loader and the line are dropped, as `LoadingCache::finish` does it. Takes no memory and
     /// no lock.
-    pub fn finish(self) -> (Shards<K, V, B>, Vec<Pass<B>>)
+    pub fn finish(self) -> (Shards<K, V, B>, Vec<Pass<K, V, B>>)
         ensures { result.0 ≡ self.layout }
     {
         let Callers {

@@ -73,14 +73,14 @@ fn serve_as<
 >(
     rt: &R,
     alloc: Global,
-    blanks: Blanks,
+    blanks: Blanks<K, V>,
     config: &Config,
     shards: usize,
     threads: usize,
     service: &S,
 ) -> Result<Vec<Result<S::Answer, Fault>>, Fault>
     requires layout { N.layout ≡ record { shards = shards; config = config.now } }
-    requires blanks { AreBlanksOf N.name blanks }
+    requires blanks { AreBlanksOf N.name N.book blanks }
     ensures made { IsServed (S.gives service.now) config.now shards threads result }
 {
     match Shards::<K, V, Of<N>>::new(rt, alloc, blanks, config, shards) {

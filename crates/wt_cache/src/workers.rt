@@ -37,12 +37,12 @@ impl<
     pub fn run_worker<R: Wait>(
         &self,
         rt: &R,
-        pass: &mut Pass<B>,
+        pass: &mut Pass<K, V, B>,
         hand: &mut LinePass<K, V>,
         notices: &mut Notices<K, V>,
     ) -> WorkerReport
         requires room { self.now.layout.config.entries ≤ notices.old.room }
-        ensures landed { HasLanded result.jobs pass.old pass.new }
+        ensures landed { HasLanded result.jobs pass.old.counted pass.new.counted }
         ensures taken { HasTaken result.jobs hand.old hand.new }
         ensures failed { result.failed ≤ result.jobs }
         ensures jobs { result.jobs ≤ 2 ^ 40 }
@@ -73,7 +73,7 @@ impl<
     fn work<R: Wait>(
         &self,
         rt: &R,
-        pass: &mut Pass<B>,
+        pass: &mut Pass<K, V, B>,
         lead: Lead<K, V>,
         notices: &mut Notices<K, V>,
         report: &mut WorkerReport,
@@ -82,7 +82,7 @@ impl<
         requires none { notices.old.list ≡ [] }
         requires jobs { report.old.jobs < 2 ^ 40 }
         requires failed { report.old.failed ≤ report.old.jobs }
-        ensures landed { HasLanded 1 pass.old pass.new }
+        ensures landed { HasLanded 1 pass.old.counted pass.new.counted }
         ensures notices { notices.new ≡ notices.old }
         ensures jobs { report.new.jobs ≡ report.old.jobs + 1 }
         ensures failed { report.new.failed ≤ report.new.jobs }

@@ -3,6 +3,7 @@
 mod asleep;
 mod callers;
 mod calls;
+mod codes;
 mod compare;
 mod leads;
 mod one_caller;

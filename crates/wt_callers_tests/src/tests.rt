@@ -2,9 +2,12 @@
 // call takes.
 
 mod apart;
+mod at_once;
 mod compare;
+mod dropping;
 mod heavy;
 mod late;
+mod lender;
 mod lending;
 mod lines;
 mod serving;

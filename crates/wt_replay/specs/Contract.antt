@@ -2,7 +2,8 @@
 use Rattle.std.specs.Prelude.{◌≡◌, ℕ, Bool, true, false, List, Vec, vec_len, Option, None, Result, IfOk, IfErr, OnOk}
 use Rattle.wt_core.specs.declared.stats.Stats.{Stats}
 use Rattle.wt_shards.specs.Opening.{AreBlanksOf}
-use Rattle.wt_shards.specs.Passes.{Passed}
+use Rattle.wt_history.specs.Names.{Book}
+use Rattle.wt_shards.specs.Passes.{Seen}
 use Rattle.wt_shards.specs.Place.{Layout}
 use Rattle.wt_shards.specs.declared.books.Blanks.{Blanks}
 use Rattle.wt_cache.specs.Cached.{Cached}
@@ -13,19 +14,20 @@ use Rattle.wt_trace.specs.Trace.{Trace}
 use Rattle.wt_trace.specs.declared.fault.ReplayFault.{ReplayFault}
 use Rattle.wt_trace.specs.declared.trace.line.Line.{Line}
 use Rattle.wt_trace.specs.declared.options.Options.{Options}
+use Rattle.wt_trace.specs.declared.shard.version.Version.{Version}
 use Rattle.wt_replay.specs.ByTurn.{AreLooked, IsTurnFault, faulty, layout_of}
 use Rattle.wt_replay.specs.Turns.{AreDone, IsRunStop}
 use Rattle.wt_replay.specs.declared.by_turn.turns.RunFault.{RunFault}
 
 -- blanks of which a cache of these options can be made
-pub record AreLedgersOf (l : Layout) (name : ℕ → ℕ) (b : Blanks) (o : Options) : Type 0 where
+pub record AreLedgersOf {K V : Type 0} (l : Layout) (name : ℕ → ℕ) (book : ℕ → Book) (b : Blanks K V) (o : Options) : Type 0 where
   pub layout : l ≡ layout_of o
-  pub blanks : AreBlanksOf name b
+  pub blanks : AreBlanksOf name book b
   pub options : option_fault o ≡ None
 
 module _ {K : Type 0} (keys : Keys K) (o : Options) (c : Cached) (gate : ℕ → Bool → Type 0) (first : ℕ) (lines : List (Line K)) where
   -- what is promised of the threads that do the lines in turn
-  pub record HaveRan {Z E : Type 0} (threads : ℕ) (result : Result (Vec (Result Passed RunFault) Z) E) : Type 0 where
+  pub record HaveRan {Z E : Type 0} (threads : ℕ) (result : Result (Vec (Result (Seen K (Version K)) RunFault) Z) E) : Type 0 where
     -- what each of them hands back
     pub each : IfOk result (λ ran. AreDone keys o c gate first lines threads ran.items)
     -- each of them hands something back

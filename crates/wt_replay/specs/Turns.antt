@@ -8,9 +8,9 @@ use Rattle.wt_core.specs.declared.calls.Call.{Call}
 use Rattle.wt_core.specs.declared.calls.Call.TheVariants as call
 use Rattle.wt_core.specs.declared.calls.Reply.{Reply}
 use Rattle.wt_shards.specs.Counts.{is_hit}
-use Rattle.wt_shards.specs.Outer.{IsSomeStep, HasCause}
-use Rattle.wt_shards.specs.Passes.{Passed, new_pass, with_step, with_steps}
-use Rattle.wt_shards.specs.Place.{Place, home_of, place_of}
+use Rattle.wt_shards.specs.History.{IsMade, IsRefused}
+use Rattle.wt_shards.specs.Passes.{Seen, SeenAt, front_at, new_pass, with_step, with_steps}
+use Rattle.wt_shards.specs.Place.{Place, home_of, home_at}
 use Rattle.wt_shards.specs.Sweeps.{AreSwept}
 use Rattle.wt_cache.specs.Cached.{Cached}
 use Rattle.wt_cache.specs.Gets.{IsSought}
@@ -52,30 +52,31 @@ module _ {K : Type 0} (keys : Keys K) where
   abbrev pub answers_for : Version K → K → Bool
   answers_for v k = keys.eq v.key k
 
-  module _ (o : Options) (c : Cached) (old new : Passed) where
+  module _ (o : Options) (c : Cached) (old new : Seen K (Version K)) where
     -- the number of a key's shard
     abbrev pub home : K → ℕ
     home k = home_of keys.word k c.layout
 
     -- where a key's shard stands
     abbrev pub place : K → Place
-    place k = place_of (home k) c.layout
+    place k = home_at keys.word k c.layout
 
-    -- the pass made one step at the key's shard, which in some lawful state of it is this call's
+    -- the pass made one step at the key's shard: this call stands in that shard's history, behind all that the thread had seen of it
     pub record HasMade (k : K) (call : Call K (Version K)) : Type 0 where
       pub reply : Reply (Version K)
       pub number : ℕ
       pub before : NoticeList K (Version K)
       pub after : NoticeList K (Version K)
-      pub step : IsSomeStep keys.eq keys.word weight_of answers_for (place k) call reply number before after
-      pub moved : new ≡ with_step (home k) (is_hit reply) old
+      pub step : IsMade keys.eq keys.word weight_of answers_for (place k) call reply number (front_at (home k) old) (front_at (home k) new) before after
+      pub moved : new.counted ≡ with_step (home k) (is_hit reply) old.counted
+      pub elsewhere : SeenAt (home k) old new
 
-    -- the pass made one step at each shard, which in some lawful state of it is this call's
+    -- the pass made one step at each shard: this call stands in the history of each
     pub record HasSwept (call : Call K (Version K)) : Type 0 where
       pub before : NoticeList K (Version K)
       pub after : NoticeList K (Version K)
-      pub steps : AreSwept keys.eq keys.word weight_of answers_for c.layout call c.layout.shards before after
-      pub moved : new ≡ with_steps c.layout.shards old
+      pub steps : AreSwept keys.eq keys.word weight_of answers_for c.layout call c.layout.shards old new before after
+      pub moved : new.counted ≡ with_steps c.layout.shards old.counted
 
     -- a get gave a value
     pub record HasGiven (k : K) (now : ℕ) : Type 0 where
@@ -84,8 +85,8 @@ module _ {K : Type 0} (keys : Keys K) where
       pub number : ℕ
       pub before : NoticeList K (Version K)
       pub after : NoticeList K (Version K)
-      pub sought : IsSought keys.eq keys.word weight_of answers_for (place k) k now how value number before after
-      pub moved : HasGot c.lined (home k) how old new
+      pub sought : IsSought keys.eq keys.word weight_of answers_for (place k) k now how value number (front_at (home k) old) (front_at (home k) new) before after
+      pub moved : HasGot c.lined (home k) how old.counted new.counted
 
     -- a get ended by a fault that is passed over
     pub record HasFailed (k : K) (now : ℕ) : Type 0 where
@@ -93,11 +94,12 @@ module _ {K : Type 0} (keys : Keys K) where
       pub passed_over : is_passed_over fault ≡ true
       pub before : NoticeList K (Version K)
       pub after : NoticeList K (Version K)
-      pub tried : HasTried c.lined (home k) (HasCause keys.eq keys.word weight_of answers_for (place k) (call.Seek k now) fault × (after ≡ before)) fault old new
+      pub tried : HasTried c.lined (home k) (IsRefused keys.eq keys.word weight_of answers_for (place k) (call.Seek k now) (front_at (home k) old) (front_at (home k) new) fault
+          × (after ≡ before)) fault old.counted new.counted
 
     -- a value is stored, unless it is too heavy
     abbrev pub HasPut : K → Version K → ℕ → Type 0
-    HasPut k v now = HasMade k (call.Put k v now) ⊎ ((c.layout.config.bound < v.weight) × (new ≡ old))
+    HasPut k v now = HasMade k (call.Put k v now) ⊎ ((c.layout.config.bound < v.weight) × (new.counted ≡ old.counted) × SeenAt (home k) old new)
 
     -- what line n does, at this moment, with the pass of its thread: its call and no other
     abbrev pub HasDone : ℕ → ℕ → Act K → Type 0
@@ -112,18 +114,18 @@ module _ {K : Type 0} (keys : Keys K) where
     HasDone n now act.Clear = HasSwept (call.Clear now)
 
   -- what line n does
-  abbrev pub HasActed : Options → Cached → ℕ → Line K → Passed → Passed → Type 0
+  abbrev pub HasActed : Options → Cached → ℕ → Line K → Seen K (Version K) → Seen K (Version K) → Type 0
   HasActed o c n l old new = HasDone o c old new n l.moment l.act
 
 -- a line of the thread's own was let through and done, once; another thread's line is left alone
-abbrev pub IsTurn : Bool → Type 0 → (Passed → Passed → Type 0) → Passed → Passed → Type 0
+abbrev pub IsTurn : {P : Type 0} → Bool → Type 0 → (P → P → Type 0) → P → P → Type 0
 IsTurn true passed acted old new = passed × acted old new
 IsTurn false passed acted old new = new ≡ old
 
 -- a thread's turns with the lines from line n on, in their order
-abbrev pub AreTurns : {K : Type 0} → (ℕ → Bool) → (ℕ → Type 0) → (ℕ → Line K → Passed → Passed → Type 0) → ℕ → List (Line K) → Passed → Passed → Type 0
+abbrev pub AreTurns : {K P : Type 0} → (ℕ → Bool) → (ℕ → Type 0) → (ℕ → Line K → P → P → Type 0) → ℕ → List (Line K) → P → P → Type 0
 AreTurns own passed acted n [] old new = new ≡ old
-AreTurns own passed acted n (l ∷ ls) old new = (next : Passed) × IsTurn (own n) (passed n) (acted n l) old next × AreTurns own passed acted (n + 1) ls next new
+AreTurns own passed acted n (l ∷ ls) old new = (next : _) × IsTurn (own n) (passed n) (acted n l) old next × AreTurns own passed acted (n + 1) ls next new
 
 -- a fault of the cache, none of its options, or of a line before which the gate was shut
 abbrev pub IsRunStop : (ℕ → Type 0) → RunFault → Type 0
@@ -140,12 +142,12 @@ unmade = Err (run.Cache NoMemory)
 
 -- what thread t hands back
 pub record IsDone {K : Type 0} (keys : Keys K) (o : Options) (c : Cached) (answers : ℕ → Bool → Type 0) (first : ℕ) (lines : List (Line K)) (threads t : ℕ)
-    (share : Result Passed RunFault) : Type 0 where
+    (share : Result (Seen K (Version K)) RunFault) : Type 0 where
   -- the pass with which it did its turns
   pub turns : IfOk share (AreTurns (is_turn threads t) (λ n. answers n true) (HasActed keys o c) first lines (new_pass c.layout.shards))
   -- or why it stopped
   pub err : IfErr share (IsRunStop (λ n. answers n false))
 
 -- what all threads hand back
-abbrev pub AreDone : {K : Type 0} → Keys K → Options → Cached → (ℕ → Bool → Type 0) → ℕ → List (Line K) → ℕ → List (Result Passed RunFault) → Type 0
+abbrev pub AreDone : {K : Type 0} → Keys K → Options → Cached → (ℕ → Bool → Type 0) → ℕ → List (Line K) → ℕ → List (Result (Seen K (Version K)) RunFault) → Type 0
 AreDone keys o c answers first lines threads ran = (t : ℕ) → t < threads → IsDone keys o c answers first lines threads t (get_or ran t unmade)

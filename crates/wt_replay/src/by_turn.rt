@@ -69,10 +69,10 @@ fn sum_of<B: Books>(totals: &Totals<B>) -> Stats
 fn opened<K: TraceKey, N: Names + Send + Sync, R: Wait>(
     rt: &R,
     alloc: Global,
-    blanks: Blanks,
+    blanks: Blanks<K, Version<K>>,
     options: &Options,
 ) -> Result<LoadingCache<K, Version<K>, TraceLoader, Of<N>>, Fault>
-    requires { AreLedgersOf N.layout N.name blanks options.now }
+    requires { AreLedgersOf N.layout N.name N.book blanks options.now }
     ensures layout { IfOk result (λ cache. cache.layout ≡ spec.layout_of options.now) }
     ensures few { IfOk result (λ cache. cache.layout.shards ≤ 4) }
     ensures faults { IfErr result (λ f. is_config_fault (fault.Cache f) ≡ false) }
@@ -103,7 +103,7 @@ fn settled<K: TraceKey, N: Names + Send + Sync, R: Wait>(
     rt: &R,
     alloc: Global,
     cache: LoadingCache<K, Version<K>, TraceLoader, Of<N>>,
-    passes: Vec<Pass<Of<N>>>,
+    passes: Vec<Pass<K, Version<K>, Of<N>>>,
 ) -> Result<Stats, Fault>
     ensures looked { IfOk result AreLooked }
     ensures faults { IfErr result (λ f. is_config_fault (fault.Cache f) ≡ false) }
@@ -118,12 +118,12 @@ fn settled<K: TraceKey, N: Names + Send + Sync, R: Wait>(
 fn session<K: TraceKey, N: Names + Send + Sync, G: Gate, R: Threads + Wait + Sync>(
     rt: &R,
     alloc: Global,
-    blanks: Blanks,
+    blanks: Blanks<K, Version<K>>,
     options: &Options,
     deal: &Deal<'_, K>,
     gate: &G,
 ) -> Result<Stats, RunFault>
-    requires { AreLedgersOf N.layout N.name blanks options.now }
+    requires { AreLedgersOf N.layout N.name N.book blanks options.now }
     ensures { IsSession (G.answers gate.now) deal.now.first deal.now.lines.now result }
 {
     let cache: LoadingCache<K, Version<K>, TraceLoader, Of<N>> = match opened(

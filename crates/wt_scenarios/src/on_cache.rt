@@ -53,7 +53,7 @@ fn play_line<'s, B: Books, R: Print + Wait>(
     alloc: Global,
     cache: &Cache<'s, B>,
     source: &Source,
-    pass: &mut Pass<B>,
+    pass: &mut Pass<u64, Loaded, B>,
     line: Line,
 ) -> anyhow::Result<()> {
     match line {
@@ -74,7 +74,7 @@ fn play_sweep<'s, B: Books, R: Print + Wait>(
     rt: &R,
     alloc: Global,
     cache: &Cache<'s, B>,
-    pass: &mut Pass<B>,
+    pass: &mut Pass<u64, Loaded, B>,
     all: bool,
     now: u64,
 ) -> anyhow::Result<()> {
@@ -100,7 +100,7 @@ fn play_call<'s, B: Books, R: Print + Wait>(
     rt: &R,
     alloc: Global,
     cache: &Cache<'s, B>,
-    pass: &mut Pass<B>,
+    pass: &mut Pass<u64, Loaded, B>,
     call: Call<u64, Loaded>,
 ) -> anyhow::Result<()> {
     let mut left = Notices::new(alloc, cache.entries() as usize)?;
@@ -113,7 +113,7 @@ fn play_call<'s, B: Books, R: Print + Wait>(
 fn told_at<'s, B: Books, R: Wait>(
     rt: &R,
     cache: &Cache<'s, B>,
-    pass: &mut Pass<B>,
+    pass: &mut Pass<u64, Loaded, B>,
     call: Call<u64, Loaded>,
     left: &mut Left,
 ) -> Told
@@ -132,7 +132,7 @@ fn play_get<'s, B: Books, R: Print + Wait>(
     rt: &R,
     alloc: Global,
     cache: &Cache<'s, B>,
-    pass: &mut Pass<B>,
+    pass: &mut Pass<u64, Loaded, B>,
     key: u64,
     now: u64,
 ) -> anyhow::Result<()> {

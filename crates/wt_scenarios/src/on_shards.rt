@@ -40,7 +40,7 @@ fn play_lines<B: Books, R: Print + Wait>(
     rt: &R,
     alloc: Global,
     shards: &Cache<B>,
-    pass: &mut Pass<B>,
+    pass: &mut Pass<u64, Loaded, B>,
     leads: &mut Leads,
     lines: Vec<Line>,
 ) -> anyhow::Result<()> {
@@ -54,7 +54,7 @@ fn play_line<B: Books, R: Print + Wait>(
     rt: &R,
     alloc: Global,
     shards: &Cache<B>,
-    pass: &mut Pass<B>,
+    pass: &mut Pass<u64, Loaded, B>,
     leads: &mut Leads,
     line: Line,
 ) -> anyhow::Result<()> {
@@ -73,7 +73,7 @@ fn play_sweep<B: Books, R: Print + Wait>(
     rt: &R,
     alloc: Global,
     shards: &Cache<B>,
-    pass: &mut Pass<B>,
+    pass: &mut Pass<u64, Loaded, B>,
     all: bool,
     now: u64,
 ) -> anyhow::Result<()> {
@@ -96,7 +96,7 @@ fn play_call<B: Books, R: Print + Wait>(
     rt: &R,
     alloc: Global,
     shards: &Cache<B>,
-    pass: &mut Pass<B>,
+    pass: &mut Pass<u64, Loaded, B>,
     leads: &mut Leads,
     call: Call<u64, Loaded>,
 ) -> anyhow::Result<()> {
@@ -110,7 +110,7 @@ fn play_call<B: Books, R: Print + Wait>(
 fn told_at<B: Books, R: Wait>(
     rt: &R,
     shards: &Cache<B>,
-    pass: &mut Pass<B>,
+    pass: &mut Pass<u64, Loaded, B>,
     leads: &mut Leads,
     call: Call<u64, Loaded>,
     left: &mut Left,
@@ -156,7 +156,7 @@ fn reply_of(leads: &mut Leads, sought: Sought<u64, Loaded>) -> Result<Reply<Load
 fn seek<B: Books, R: Wait>(
     rt: &R,
     shards: &Cache<B>,
-    pass: &mut Pass<B>,
+    pass: &mut Pass<u64, Loaded, B>,
     leads: &mut Leads,
     key: u64,
     now: u64,
@@ -183,7 +183,7 @@ fn lead_of(leads: &Leads, id: u64, key: u64) -> Option<&Lead<u64, Loaded>> {
 fn land<B: Books, R: Wait>(
     rt: &R,
     shards: &Cache<B>,
-    pass: &mut Pass<B>,
+    pass: &mut Pass<u64, Loaded, B>,
     lead: Option<&Lead<u64, Loaded>>,
     what: Land<Loaded>,
     now: u64,

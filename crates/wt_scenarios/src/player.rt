@@ -48,14 +48,14 @@ pub fn play<R: Print + Wait>(
 fn play_shared<N: Names, R: Print + Wait>(
     rt: &R,
     alloc: Global,
-    blanks: Blanks,
+    blanks: Blanks<u64, Loaded>,
     config: &Config,
     shards: usize,
     layer: Layer,
     lines: Vec<Line>,
 ) -> anyhow::Result<()>
     requires layout { N.layout ≡ record { shards = shards; config = config.now } }
-    requires blanks { AreBlanksOf N.name blanks }
+    requires blanks { AreBlanksOf N.name N.book blanks }
 {
     let made: Shards<u64, Loaded, Of<N>> = Shards::new(rt, alloc, blanks, config, shards)?;
     match layer {

@@ -29,27 +29,27 @@ use Rattle.wt_core.specs.State.{State, estimate_in, found as found_in, made, new
 use Rattle.wt_core.specs.Seek.{seek_reply}
 use Rattle.wt_core.specs.Step.{own_expired, is_kept, landing, looked, sought, step, storing}
 
-abbrev last_of : {K V : Type 0} → List (Entry K V) → Option (Entry K V)
+abbrev pub last_of : {K V : Type 0} → List (Entry K V) → Option (Entry K V)
 last_of es = slice_get es (length es - 1)
 
-abbrev told : {K V : Type 0} → Lists K V → List (Notice K V) → Told K V
+abbrev pub told : {K V : Type 0} → Lists K V → List (Notice K V) → Told K V
 told r ns = (r, ns)
 
-abbrev two : {K V : Type 0} → List (Entry K V) → List (Entry K V) → List (Entry K V) × List (Entry K V)
+abbrev pub two : {K V : Type 0} → List (Entry K V) → List (Entry K V) → List (Entry K V) × List (Entry K V)
 two ps qs = (ps, qs)
 
 module _ {K V : Type 0} (P : K → V → Type 0) where
   abbrev pub Has : Entry K V → Type 0
   Has e = P e.0 e.1.value
 
-  abbrev Each : Lists K V → Type 0
+  abbrev pub Each : Lists K V → Type 0
   Each r = All Has r.window × All Has r.probation × All Has r.protected
 
-  all_left : (xs ys : List (Entry K V)) → All Has (xs ++ ys) → All Has xs
+  pub all_left : (xs ys : List (Entry K V)) → All Has (xs ++ ys) → All Has xs
   all_left [] ys h = All-nil Has
   all_left (x ∷ xs) ys h = All-cons Has x xs (All-head Has x (xs ++ ys) h) (all_left xs ys (All-tail Has x (xs ++ ys) h))
 
-  all_right : (xs ys : List (Entry K V)) → All Has (xs ++ ys) → All Has ys
+  pub all_right : (xs ys : List (Entry K V)) → All Has (xs ++ ys) → All Has ys
   all_right [] ys h = h
   all_right (x ∷ xs) ys h = all_right xs ys (All-tail Has x (xs ++ ys) h)
 
@@ -80,7 +80,7 @@ module _ {K V : Type 0} (P : K → V → Type 0) where
 
   -- the entry of a key, used or replaced
   module _ (eq : K → K → Bool) (k : K) (f : Held V → Held V) (still : (e : Entry K V) → Has e → eq k e.0 ≡ true → Has (e.0, f e.1)) where
-    promoted_by : (c : Caps) (e : Entry K V) (ps qs : List (Entry K V)) (b : Bool) (o : Option (Entry K V)) → last_of (e ∷ qs) ≡ o → Has e → All Has ps → All Has qs
+    pub promoted_by : (c : Caps) (e : Entry K V) (ps qs : List (Entry K V)) (b : Bool) (o : Option (Entry K V)) → last_of (e ∷ qs) ≡ o → Has e → All Has ps → All Has qs
         → All Has (cond b (two ps (e ∷ qs)) (option_map_or (λ (last : Entry K V). two (last ∷ ps) (all_but_last (e ∷ qs))) o (two ps (e ∷ qs)))).0 × All Has (cond b (two ps (e ∷ qs)) (option_map_or (λ (last : Entry K V). two (last ∷ ps) (all_but_last (e ∷ qs))) o (two ps (e ∷ qs)))).1
     promoted_by c e ps qs true o is one p q = (p, All-cons Has e qs one q)
     promoted_by c e ps qs false None is one p q = (p, All-cons Has e qs one q)
@@ -132,7 +132,7 @@ module _ {K V : Type 0} (P : K → V → Type 0) where
         at_last None is = h
         at_last (Some c) is = each-fate c (record r { window = all_but_last r.window }) (fate estimate now r.caps c r.probation r.protected) (all_at r.window (length r.window - 1) c is h.0) (All-take Has (length r.window - 1) r.window h.0, h.1, h.2)
 
-    each-settled : (e : Entry K V) (r : Lists K V) → Has e → Each r → Each (settled estimate now e r).0
+    pub each-settled : (e : Entry K V) (r : Lists K V) → Has e → Each r → Each (settled estimate now e r).0
     each-settled e r one h = elim (nat_le (length (e ∷ r.window)) r.caps.window) as (λ b. Each (cond b (told (record r { window = e ∷ r.window }) []) (overflowed estimate now (record r { window = e ∷ r.window }))).0) [
       | true ↦ (All-cons Has e r.window one h.0, h.1, h.2)
       | false ↦ each-overflowed (record r { window = e ∷ r.window }) (All-cons Has e r.window one h.0, h.1, h.2)
@@ -152,7 +152,7 @@ module _ {K V : Type 0} (P : K → V → Type 0) where
     then_within n less false None r h one = h
     then_within n less false (Some m) r h one = less m.0 one
 
-    each-within : (n : ℕ) (r : Lists K V) → Each r → Each (trimmed_within eq k n r).0
+    pub each-within : (n : ℕ) (r : Lists K V) → Each r → Each (trimmed_within eq k n r).0
     each-within zero r h = h
     each-within (suc n) r h = then_within n (each-within n) (nat_le (weight_of r) r.caps.bound) (trimmed_once eq k r) r h (each-once (holds_other eq k r.probation) (holds_other eq k r.protected) (holds_other eq k r.window) r h)
 
@@ -231,7 +231,7 @@ module _ {K V : Type 0} (P : K → V → Type 0) where
       landing-each id k land.Loose now (Some row) s one h = each-expired eq k s.latest s.regions h
       landing-each id k land.Failed now (Some row) s one h = each-expired eq k s.latest s.regions h
 
-      each-step : (s : State K V) (c : Call K V) → Brings c → Each s.regions → Each (step eq word weight s c).state.regions
+      pub each-step : (s : State K V) (c : Call K V) → Brings c → Each s.regions → Each (step eq word weight s c).state.regions
       each-step s (Look k now) one h = looked-each k (found_in eq k (stepped now s)) (stepped now s) h
       each-step s (Seek k now) one h = sought-each k (seek_reply eq k (stepped now s)) (stepped now s) h
       each-step s (Land id k what now) one h = landing-each id k what now (row_of eq k id s.flights) (stepped now s) one h

@@ -20,6 +20,7 @@ use Rattle.wt_core.specs.declared.calls.Reply.TheVariants.{Hit, HitLead, Join}
 use Rattle.wt_core.specs.State.{State, stepped}
 use Rattle.wt_core.specs.Seek.{seek_reply}
 use Rattle.wt_core.proofs.Opens.{land-rows}
+use Rattle.wt_shards.specs.Asked.{is_seek}
 use Rattle.wt_shards.specs.Audited.{load_at, load_of, still_open}
 use Rattle.wt_shards.proofs.Numbers.{flights_after, flights_sought, step-to}
 use Rattle.wt_shards.proofs.Values.{cond-ap}
@@ -221,6 +222,18 @@ module _ {K V : Type 0} (eq : K → K → Bool) (word : K → ℕ) (weight : V �
   pub land-still_open : (s : State K V) (id : ℕ) (k : K) (what : Landing V) (now : ℕ) (ls : List (Leading K)) → map load_at ls ≡ map load_of s.flights.rows → AllPairs (λ (r s : Row K). r.id < s.id) s.flights.rows
       → map load_at (still_open eq (Land id k what now) ls ++ []) ≡ map load_of (step eq word weight s (Land id k what now)).state.flights.rows
   land-still_open s id k what now ls h pairs = loads-landed eq k id s.flights ls h pairs ∙ sym (ap (λ (t : Flights K). map load_of t.rows) (step-to eq word weight s (Land id k what now)).flights)
+
+  -- after every call but a seek, which opens one, each open load has its landing
+  pub closed-still_open : (s : State K V) (c : Call K V) (ls : List (Leading K)) → is_seek c ≡ false → map load_at ls ≡ map load_of s.flights.rows → AllPairs (λ (r s : Row K). r.id < s.id) s.flights.rows
+      → map load_at (still_open eq c ls ++ []) ≡ map load_of (step eq word weight s c).state.flights.rows
+  closed-still_open s (Look k now) ls p h pairs = plain-still_open s (Look k now) ls tt h
+  closed-still_open s (Seek k now) ls p h pairs = absurd cc
+  closed-still_open s (Land id k what now) ls p h pairs = land-still_open s id k what now ls h pairs
+  closed-still_open s (Put k v now) ls p h pairs = plain-still_open s (Put k v now) ls tt h
+  closed-still_open s (DropKey k now) ls p h pairs = plain-still_open s (DropKey k now) ls tt h
+  closed-still_open s (Clear now) ls p h pairs = plain-still_open s (Clear now) ls tt h
+  closed-still_open s (Forget k now) ls p h pairs = plain-still_open s (Forget k now) ls tt h
+  closed-still_open s (Clean now) ls p h pairs = plain-still_open s (Clean now) ls tt h
 
   is_some-there : {X : Type 0} (o : Option X) → IsTrue (is_some o) → (x : X) × (o ≡ Some x)
   is_some-there None h = cc

@@ -11,10 +11,10 @@ use Rattle.wt_core.specs.Landings.{TakesNone}
 use Rattle.wt_core.specs.Step.{step, refusal_of}
 use Rattle.wt_shards.specs.Audited.{Audited, IsCaughtUp, excess, shard_step}
 use Rattle.wt_shards.specs.Counts.{Counted, counted, is_hit}
-use Rattle.wt_shards.specs.Outer.{IsSomeStep, HasCause}
-use Rattle.wt_shards.specs.Passes.{Passed, with_step, with_steps, steps_at}
-use Rattle.wt_shards.specs.Place.{Layout, Place, home_of, place_of}
-use Rattle.wt_shards.specs.Sweeps.{AreSwept, IsSwept}
+use Rattle.wt_shards.specs.History.{IsMade, IsRefused}
+use Rattle.wt_shards.specs.Passes.{Mine, Seen, SeenAt, with_step, with_steps, steps_in, front_at}
+use Rattle.wt_shards.specs.Place.{Layout, Place, place_of}
+use Rattle.wt_shards.specs.Sweeps.{AreSwept}
 use Rattle.wt_shards.specs.Told.{HasTold}
 use Rattle.wt_shards.specs.declared.done.Done.{Done}
 
@@ -46,73 +46,57 @@ pub record IsShardCall {K V R : Type 0} (eq : K → K → Bool) (word : K → �
   -- a fault leaves the cache, the caller's shares and the notices; some records may have gone over to the lagging copy
   pub err : OnErr result (IsCaughtUp eq word weight c old new × (after ≡ mine) × (list ≡ before))
 
--- what a call of a shard behind its lock promises: a step there of some lawful state, or a refusal that moves nothing
+-- what a call of a shard behind its lock promises: a step there, or a refusal that moves nothing but what was seen
 pub record IsLockedCall {K V R : Type 0} (eq : K → K → Bool) (word : K → ℕ) (weight : V → ℕ) (answers : V → K → Bool) (p : Place) (c : Call K V)
-    (said : R → Reply V) (mine after : Counted) (before list : NoticeList K V) (result : Result (Done R) Fault) : Type 0 where
+    (said : R → Reply V) (old new : Mine K V) (before list : NoticeList K V) (result : Result (Done R) Fault) : Type 0 where
   -- the caller's shares count the step, and whether it is a hit
-  pub moved : IfOk result (λ done. after ≡ counted (is_hit (said done.reply)) mine)
+  pub moved : IfOk result (λ done. new.counts ≡ counted (is_hit (said done.reply)) old.counts)
   -- the number of this step is above those of all steps that the caller made here
-  pub later : IfOk result (λ done. mine.steps < done.step)
-  -- in some lawful state of the shard the call makes this step, with this reply and these notices
-  pub step : IfOk result (λ done. IsSomeStep eq word weight answers p c (said done.reply) done.step before list)
+  pub later : IfOk result (λ done. old.counts.steps < done.step)
+  -- the call stands in the shard's history, with this reply and these notices, behind all that the caller had seen of it
+  pub step : IfOk result (λ done. IsMade eq word weight answers p c (said done.reply) done.step old.front new.front before list)
   -- no other fault comes than the call's own
   pub faults : IfErr result (λ f. is_fault_of c f ≡ true)
-  -- memory is refused, or some lawful state of the shard refuses the call by this fault, with its numbers
-  pub cause : IfErr result (HasCause eq word weight answers p c)
+  -- memory is refused, or the shard refuses the call by this fault after the history that the caller then has seen
+  pub cause : IfErr result (IsRefused eq word weight answers p c old.front new.front)
   -- whatever is returned: few notices, and no room lost
   pub told : HasTold p.config.entries before list
   -- a fault leaves the caller's shares and the notices
-  pub err : OnErr result ((after ≡ mine) × (list ≡ before))
+  pub err : OnErr result ((new.counts ≡ old.counts) × (list ≡ before))
 
--- what a call promises that goes to the shard of a key, with a caller's pass: a step there of some lawful state, or a refusal that moves
--- nothing
-pub record IsHomeCall {K V R : Type 0} (eq : K → K → Bool) (word : K → ℕ) (weight : V → ℕ) (answers : V → K → Bool) (l : Layout) (key : K) (c : Call K V)
-    (said : R → Reply V) (old new : Passed) (before list : NoticeList K V) (result : Result (Done R) Fault) : Type 0 where
+-- what a call promises that goes to one shard with a caller's pass: a step there, or a refusal that moves nothing but what was seen
+pub record IsHomeCall {K V R : Type 0} (eq : K → K → Bool) (word : K → ℕ) (weight : V → ℕ) (answers : V → K → Bool) (p : Place) (c : Call K V)
+    (said : R → Reply V) (old new : Seen K V) (before list : NoticeList K V) (result : Result (Done R) Fault) : Type 0 where
   -- the pass counts the step at that shard, and whether it is a hit
-  pub moved : IfOk result (λ done. new ≡ with_step (home_of word key l) (is_hit (said done.reply)) old)
+  pub moved : IfOk result (λ done. new.counted ≡ with_step p.index (is_hit (said done.reply)) old.counted)
   -- the number of this step is above those of all steps that the pass had made there
-  pub later : IfOk result (λ done. steps_at (home_of word key l) old < done.step)
-  -- in some lawful state of that shard the call makes this step, with this reply and these notices
-  pub step : IfOk result (λ done. IsSomeStep eq word weight answers (place_of (home_of word key l) l) c (said done.reply) done.step before list)
+  pub later : IfOk result (λ done. steps_in p.index old < done.step)
+  -- the call stands in that shard's history, with this reply and these notices, behind all that the pass had seen of it
+  pub step : IfOk result (λ done. IsMade eq word weight answers p c (said done.reply) done.step (front_at p.index old) (front_at p.index new) before list)
   -- no other fault comes than the call's own
   pub faults : IfErr result (λ f. is_fault_of c f ≡ true)
-  -- memory is refused, or some lawful state of that shard refuses the call by this fault, with its numbers
-  pub cause : IfErr result (HasCause eq word weight answers (place_of (home_of word key l) l) c)
-  -- whatever is returned: few notices, and no room lost
-  pub told : HasTold l.config.entries before list
-  -- a fault leaves the pass and the notices
-  pub err : OnErr result ((new ≡ old) × (list ≡ before))
-
--- what a sweep promises at one shard: a step there of some lawful state, or a refusal that moves nothing. `next` is what the caller's
--- shares, or the pass, come to by that step
-pub record IsSweptCall {K V M : Type 0} (eq : K → K → Bool) (word : K → ℕ) (weight : V → ℕ) (answers : V → K → Bool) (p : Place) (c : Call K V)
-    (next old new : M) (before list : NoticeList K V) (result : Result (Unit {0}) Fault) : Type 0 where
-  -- the caller's shares, or the pass, count the step
-  pub moved : OnOk result (new ≡ next)
-  -- in some lawful state of the shard the call makes its step, with these notices
-  pub step : OnOk result (IsSwept eq word weight answers p c before list)
-  -- at least so much room is left
-  pub few : OnOk result (before.room ≤ list.room + p.config.entries)
-  -- no other fault comes than a step's
-  pub faults : IfErr result (λ f. is_step_fault f ≡ true)
-  -- memory is refused, or some lawful state of the shard refuses the call by this fault
-  pub cause : IfErr result (HasCause eq word weight answers p c)
+  -- memory is refused, or that shard refuses the call by this fault after the history that the pass then has seen
+  pub cause : IfErr result (IsRefused eq word weight answers p c (front_at p.index old) (front_at p.index new))
+  -- whatever is returned: of the other shards nothing more was seen
+  pub elsewhere : SeenAt p.index old new
   -- whatever is returned: few notices, and no room lost
   pub told : HasTold p.config.entries before list
-  -- a fault leaves the caller's shares, or the pass, and the notices
-  pub err : OnErr result ((new ≡ old) × (list ≡ before))
+  -- a fault leaves what the pass counts, and the notices
+  pub err : OnErr result ((new.counted ≡ old.counted) × (list ≡ before))
 
 -- what a call promises that goes to each shard in turn, and stops at the first fault
 pub record IsSweepCall {K V : Type 0} (eq : K → K → Bool) (word : K → ℕ) (weight : V → ℕ) (answers : V → K → Bool) (l : Layout) (c : Call K V)
-    (old new : Passed) (before list : NoticeList K V) (result : Result (Unit {0}) Fault) : Type 0 where
+    (old new : Seen K V) (before list : NoticeList K V) (result : Result (Unit {0}) Fault) : Type 0 where
   -- the pass counts a step at each shard, none of them a hit
-  pub moved : OnOk result (new ≡ with_steps l.shards old)
-  -- in some lawful state of each shard the call makes its step there, with these notices
-  pub steps : OnOk result (AreSwept eq word weight answers l c l.shards before list)
+  pub moved : OnOk result (new.counted ≡ with_steps l.shards old.counted)
+  -- the call stands in the history of each shard in turn, with its notices
+  pub steps : OnOk result (AreSwept eq word weight answers l c l.shards old new before list)
   -- no other fault comes than a step's
   pub faults : IfErr result (λ f. is_step_fault f ≡ true)
   -- whatever is returned: few notices, and no room lost
   pub told : HasTold (l.shards * l.config.entries) before list
   -- after a fault the pass shows at how many shards the step was made, and the fault has its cause at the next one
-  pub err : IfErr result (λ f. (made : ℕ) × (made < l.shards) × (new ≡ with_steps made old) × AreSwept eq word weight answers l c made before list
-      × HasCause eq word weight answers (place_of made l) c f)
+  pub err : IfErr result (λ f. (made : ℕ) × (mid : Seen K V) × (made < l.shards) × (new.counted ≡ with_steps made old.counted)
+      × AreSwept eq word weight answers l c made old mid before list
+      × SeenAt made mid new
+      × IsRefused eq word weight answers (place_of made l) c (front_at made mid) (front_at made new) f)

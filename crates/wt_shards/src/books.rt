@@ -1,7 +1,9 @@
-// The ledgers of the shards' books, and the blanks that they are made of.
+// The ledgers of the shards' books, and what they and the shards' histories are made of.
 use crate::shard_ledger::ShardLedger;
 use std::marker::PhantomData;
 use std::sync::ledger::{Blank, Ledger};
+use wt_core::Call;
+use wt_history::Fresh;
 
 /// The ledgers of the steps and of the hits of the shard numbers 0 to 3.
 pub trait Books {
@@ -55,35 +57,43 @@ impl<
     type H3 = H3;
 }
 
-/// Their blanks, of 65,536 parts each.
+/// Their blanks, of 65,536 parts each, and four histories of calls that are still empty.
 #[derive(Drop)]
-pub struct Blanks {
+pub struct Blanks<K, V> {
     pub s0: Blank,
     pub h0: Blank,
+    pub c0: Fresh<Call<K, V>>,
     pub s1: Blank,
     pub h1: Blank,
+    pub c1: Fresh<Call<K, V>>,
     pub s2: Blank,
     pub h2: Blank,
+    pub c2: Fresh<Call<K, V>>,
     pub s3: Blank,
     pub h3: Blank,
+    pub c3: Fresh<Call<K, V>>,
 }
 
-impl Blanks {
-    ghost use Rattle.wt_shards.specs.Opening.{AreBlanksOf, names_of};
+impl<K, V> Blanks<K, V> {
+    ghost use Rattle.wt_shards.specs.Opening.{AreBlanksOf, books_of, names_of};
 
-    /// Makes the blanks of eight ledgers.
-    pub fn new() -> Blanks
-        ensures { AreBlanksOf (names_of result) result }
+    /// Makes the blanks of eight ledgers and four histories. Takes no memory. O(1).
+    pub fn new() -> Blanks<K, V>
+        ensures { AreBlanksOf (names_of result) (books_of result) result }
     {
         Blanks {
             s0: Blank::new(65536),
             h0: Blank::new(65536),
+            c0: Fresh::new(),
             s1: Blank::new(65536),
             h1: Blank::new(65536),
+            c1: Fresh::new(),
             s2: Blank::new(65536),
             h2: Blank::new(65536),
+            c2: Fresh::new(),
             s3: Blank::new(65536),
             h3: Blank::new(65536),
+            c3: Fresh::new(),
         }
     }
 }

@@ -1,34 +1,40 @@
-// A caller's shares of all books.
-ghost use Rattle.std.specs.Prelude.{◌≡◌};
-ghost use Rattle.wt_shards.specs.Passes.{steps_at, hits_at, counts_of};
+// A caller's part at each shard.
+ghost use Rattle.std.specs.Prelude.{◌≡◌, ◌↔◌, IsSome};
+ghost use mathlib.Core.List.{IsPrefix};
+ghost use Rattle.wt_shards.specs.Passes.{SeenMore, steps_in, hits_in, counts_of, front_of};
 
 use crate::books::Books;
-use crate::shares::Shares;
+use crate::mine::Mine;
+use crate::shard_ledger::ShardLedger;
 use std::marker::Model;
 use std::sync::ledger::Ledger;
 
-/// A caller's shares of the books of each shard: how many steps and hits its holder made there.
+/// A caller's shares of the books of each shard: how many steps and hits its holder made there. In
+/// the proofs it also has the beginning of each shard's history that its holder has seen.
 ///
 /// Only calls of the `Shards` that made it move it. It is of one caller at a time, and goes from
 /// thread to thread; `settle` takes all of them back.
 #[derive(Drop)]
-pub struct Pass<B: Books> {
+pub struct Pass<K, V, B: Books> {
     pub(crate) shards: usize,
-    pub(crate) zero: Option<Shares<B::S0, B::H0>>,
-    pub(crate) one: Option<Shares<B::S1, B::H1>>,
-    pub(crate) two: Option<Shares<B::S2, B::H2>>,
-    pub(crate) three: Option<Shares<B::S3, B::H3>>,
+    pub(crate) zero: Option<Mine<K, V, B::S0, B::H0>>,
+    pub(crate) one: Option<Mine<K, V, B::S1, B::H1>>,
+    pub(crate) two: Option<Mine<K, V, B::S2, B::H2>>,
+    pub(crate) three: Option<Mine<K, V, B::S3, B::H3>>,
 }
 
-impl<B: Books> Model for Pass<B> {
+impl<K, V, B: Books> Model for Pass<K, V, B> {
     ghost use Rattle.std.specs.Prelude.{◌≡◌, ◌<◌, ◌==◌, ◌||◌, ◌↔◌, [], ◌∷◌, IsSome, IsTrue};
-    ghost use Rattle.wt_shards.specs.Passes.{Passed, counts_of};
+    ghost use Rattle.wt_shards.specs.Passes.{Seen, counts_of, front_of};
 
-    ghost Value = { Passed };
+    ghost Value = { Seen K V };
 
     ghost view = { λ p. record {
-      shards = p.shards;
-      counts = counts_of p.zero ∷ counts_of p.one ∷ counts_of p.two ∷ counts_of p.three ∷ [];
+      counted = record {
+        shards = p.shards;
+        counts = counts_of p.zero ∷ counts_of p.one ∷ counts_of p.two ∷ counts_of p.three ∷ [];
+      };
+      fronts = front_of p.zero ∷ front_of p.one ∷ front_of p.two ∷ front_of p.three ∷ [];
     } };
 
     ghost invariant = { λ p. (B.S0.ShardLedger.place.shards ≡ p.shards)
@@ -37,11 +43,11 @@ impl<B: Books> Model for Pass<B> {
         × ((2 < p.shards) ↔ IsSome p.two) × ((3 < p.shards) ↔ IsSome p.three) };
 }
 
-impl<B: Books> Pass<B> {
+impl<K, V, B: Books> Pass<K, V, B> {
     /// Returns how many steps its holder made at a shard, 0 at a number not in use. Takes no lock.
     /// O(1).
     pub fn steps(&self, shard: usize) -> u64
-        ensures { result ≡ steps_at shard self.now }
+        ensures { result ≡ steps_in shard self.now }
     {
         match shard {
             0 => steps_of(&self.zero),
@@ -54,7 +60,7 @@ impl<B: Books> Pass<B> {
 
     /// Returns how many of them were hits, 0 at a number not in use. Takes no lock. O(1).
     pub fn hits(&self, shard: usize) -> u64
-        ensures { result ≡ hits_at shard self.now }
+        ensures { result ≡ hits_in shard self.now }
     {
         match shard {
             0 => hits_of(&self.zero),
@@ -64,24 +70,55 @@ impl<B: Books> Pass<B> {
             _ => 0,
         }
     }
+
+    /// Takes over what the holder of the other pass has seen. So this one's next call at a shard
+    /// stands in the shard's history behind all calls that the other holder had made there.
+    ///
+    /// Takes no memory, takes no lock, and does nothing at run time.
+    pub fn meet(&mut self, other: &Pass<K, V, B>)
+        ensures same { self.new.counted ≡ self.old.counted }
+        ensures this { SeenMore self.old self.new }
+        ensures that { SeenMore other.now self.new }
+    {
+        learn(&mut self.zero, &other.zero);
+        learn(&mut self.one, &other.one);
+        learn(&mut self.two, &other.two);
+        learn(&mut self.three, &other.three);
+    }
+}
+
+// Takes over what was seen of a shard, if there is one.
+fn learn<K, V, S: ShardLedger, H: Ledger>(
+    mine: &mut Option<Mine<K, V, S, H>>,
+    other: &Option<Mine<K, V, S, H>>,
+)
+    requires alike { IsSome mine.old ↔ IsSome other.now }
+    ensures there { IsSome mine.new ↔ IsSome mine.old }
+    ensures same { counts_of mine.new ≡ counts_of mine.old }
+    ensures this { IsPrefix (front_of mine.old) (front_of mine.new) }
+    ensures that { IsPrefix (front_of other.now) (front_of mine.new) }
+{
+    if let (Some(mine), Some(other)) = (mine, other) {
+        mine.front.learn(&other.front);
+    }
 }
 
 // The steps at a shard, if there is one.
-fn steps_of<S: Ledger, H: Ledger>(shares: &Option<Shares<S, H>>) -> u64
-    ensures { result ≡ (counts_of shares.now).steps }
+fn steps_of<K, V, S: ShardLedger, H: Ledger>(mine: &Option<Mine<K, V, S, H>>) -> u64
+    ensures { result ≡ (counts_of mine.now).steps }
 {
-    match shares {
+    match mine {
         None => 0,
-        Some(shares) => shares.steps(),
+        Some(mine) => mine.shares.steps(),
     }
 }
 
 // The hits at a shard, if there is one.
-fn hits_of<S: Ledger, H: Ledger>(shares: &Option<Shares<S, H>>) -> u64
-    ensures { result ≡ (counts_of shares.now).hits }
+fn hits_of<K, V, S: ShardLedger, H: Ledger>(mine: &Option<Mine<K, V, S, H>>) -> u64
+    ensures { result ≡ (counts_of mine.now).hits }
 {
-    match shares {
+    match mine {
         None => 0,
-        Some(shares) => shares.hits(),
+        Some(mine) => mine.shares.hits(),
     }
 }

@@ -17,7 +17,9 @@ ghost use Rattle.wt_shards.specs.StateAt.{IsStateAt};
 ghost use Rattle.wt_shards.specs.Totals.{total_of};
 ghost use Rattle.wt_shards.specs.Counts.{no_steps, IsBlankOf};
 
+mod calls;
 mod opening;
+mod seeking;
 mod stepping;
 
 use crate::closed::Closed;

@@ -1,19 +1,21 @@
 // Shards behind locks.
 ghost use Rattle.std.specs.Prelude.{◌≡◌};
 
+mod calls;
 mod ending;
 mod opening;
 mod reads;
 mod sweeps;
 
 use crate::books::Books;
-use crate::shard::Shard;
+use crate::recorded::Recorded;
 use std::marker::Model;
 use std::sync::Mutex;
 use wt_core::{Config, Weighs};
 use wt_keys::{Answers, CacheKey, Share};
 
-/// Audited shards of a cache, 1, 2 or 4 of them, each behind a lock of its own.
+/// Audited shards of a cache, 1, 2 or 4 of them, each with the history of its calls behind a lock of
+/// its own.
 ///
 /// Shared by all threads. The numbers in use are those below `shards`; the other fields are None.
 /// Which shard stands in a field is in the types of its ledgers, since of a value behind a lock
@@ -23,10 +25,10 @@ pub struct Shards<K: CacheKey, V: Share + Weighs + Answers<K> + Send + Sync, B: 
     // How many are in use, and what each was made for; never change.
     pub(crate) shards: usize,
     pub(crate) config: Config,
-    pub(crate) zero: Option<Mutex<Shard<K, V, B::S0, B::H0>>>,
-    pub(crate) one: Option<Mutex<Shard<K, V, B::S1, B::H1>>>,
-    pub(crate) two: Option<Mutex<Shard<K, V, B::S2, B::H2>>>,
-    pub(crate) three: Option<Mutex<Shard<K, V, B::S3, B::H3>>>,
+    pub(crate) zero: Option<Mutex<Recorded<K, V, B::S0, B::H0>>>,
+    pub(crate) one: Option<Mutex<Recorded<K, V, B::S1, B::H1>>>,
+    pub(crate) two: Option<Mutex<Recorded<K, V, B::S2, B::H2>>>,
+    pub(crate) three: Option<Mutex<Recorded<K, V, B::S3, B::H3>>>,
 }
 
 impl<K: CacheKey, V: Share + Weighs + Answers<K> + Send + Sync, B: Books> Model

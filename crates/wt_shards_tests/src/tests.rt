@@ -4,6 +4,7 @@ mod beside_core;
 mod books;
 mod caller;
 mod compare;
+mod in_turn;
 mod loads;
 mod outer;
 mod plain;

@@ -28,7 +28,7 @@ impl<
     pub fn clean_up<R: Wait>(
         &self,
         rt: &R,
-        pass: &mut Pass<B>,
+        pass: &mut Pass<K, V, B>,
         now: u64,
         notices: &mut Notices<K, V>,
     ) -> Result<(), Fault>

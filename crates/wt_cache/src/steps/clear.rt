@@ -27,7 +27,7 @@ impl<
     pub fn invalidate_all<R: Wait>(
         &self,
         rt: &R,
-        pass: &mut Pass<B>,
+        pass: &mut Pass<K, V, B>,
         now: u64,
         notices: &mut Notices<K, V>,
     ) -> Result<(), Fault>

@@ -3,6 +3,7 @@ ghost use Rattle.std.specs.Prelude.{◌≤◌};
 ghost use Rattle.wt_core.specs.declared.calls.Call.TheVariants as call;
 ghost use Rattle.wt_core.specs.declared.calls.Reply.TheVariants as reply;
 ghost use Rattle.wt_shards.specs.Contract.{IsHomeCall};
+ghost use Rattle.wt_shards.specs.Place.{home_at};
 ghost use Rattle.wt_cache.specs.Contract.{IsLentCall};
 
 use crate::cache::LoadingCache;
@@ -27,14 +28,15 @@ impl<
     pub fn invalidate<R: Wait>(
         &self,
         rt: &R,
-        pass: &mut Pass<B>,
+        pass: &mut Pass<K, V, B>,
         key: K,
         now: u64,
         notices: &mut Notices<K, V>,
     ) -> Result<Done<bool>, Fault>
         requires room { self.now.layout.config.entries ≤ notices.old.room }
-        ensures made { IsHomeCall K.eq K.word V.weight V.answers self.now.layout key
-            (call.DropKey key now) reply.Dropped pass.old pass.new notices.old notices.new result }
+        ensures made { IsHomeCall K.eq K.word V.weight V.answers
+            (home_at K.word key self.now.layout) (call.DropKey key now) reply.Dropped
+            pass.old pass.new notices.old notices.new result }
     {
         self.shards.drop_key(rt, pass, key, now, notices)
     }

@@ -9,6 +9,7 @@
 ghost use Rattle.std.specs.Prelude.{◌≡◌, ◌≤◌, true, IsTrue, IfOk, IfErr};
 ghost use Rattle.wt_flights.specs.Outcomes.{outcome_answers};
 ghost use Rattle.wt_shards.specs.Asked.{LandAnswers};
+ghost use Rattle.wt_shards.specs.Passes.{SeenMore};
 ghost use Rattle.wt_core.specs.declared.calls.Land.{Land as Landing};
 ghost use Rattle.wt_core.specs.declared.calls.Land.TheVariants as land;
 ghost use Rattle.wt_cache.specs.Contract.{IsLandCall};
@@ -78,7 +79,7 @@ impl<
     fn land<R: Wait>(
         &self,
         rt: &R,
-        pass: &mut Pass<B>,
+        pass: &mut Pass<K, V, B>,
         lead: &Lead<K, V>,
         what: Land<V>,
         notices: &mut Notices<K, V>,
@@ -97,7 +98,7 @@ impl<
     fn land_value<R: Wait>(
         &self,
         rt: &R,
-        pass: &mut Pass<B>,
+        pass: &mut Pass<K, V, B>,
         lead: &Lead<K, V>,
         value: &V,
         notices: &mut Notices<K, V>,
@@ -121,14 +122,15 @@ impl<
     pub(crate) fn run<R: Wait>(
         &self,
         rt: &R,
-        pass: &mut Pass<B>,
+        pass: &mut Pass<K, V, B>,
         lead: Lead<K, V>,
         notices: &mut Notices<K, V>,
     ) -> Ran
         requires room { self.now.layout.config.entries ≤ notices.old.room }
         ensures made { (what : Landing V) × IsLandCall K.eq K.word V.weight V.answers
             self.now.layout lead what pass.old pass.new notices.old notices.new result.landed }
-        ensures few { HasLanded 1 pass.old pass.new }
+        ensures few { HasLanded 1 pass.old.counted pass.new.counted }
+        ensures more { SeenMore pass.old pass.new }
     {
         let key = lead.key();
         match self.loader.load(&key) {
@@ -156,7 +158,7 @@ impl<
     pub fn abandon<R: Wait>(
         &self,
         rt: &R,
-        pass: &mut Pass<B>,
+        pass: &mut Pass<K, V, B>,
         lead: Lead<K, V>,
         notices: &mut Notices<K, V>,
     ) -> Result<(), Fault>

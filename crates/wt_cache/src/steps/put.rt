@@ -25,7 +25,7 @@ impl<
     pub fn put<R: Wait>(
         &self,
         rt: &R,
-        pass: &mut Pass<B>,
+        pass: &mut Pass<K, V, B>,
         key: K,
         value: V,
         now: u64,

@@ -15,6 +15,7 @@
 // lock while it loads or waits.
 ghost use Rattle.std.specs.Prelude.{◌≡◌, ◌*◌, ◌≤◌, true, IsTrue, IfOk, IfErr, OnOk};
 ghost use Rattle.wt_core.specs.Faults.{is_step_fault};
+ghost use Rattle.wt_shards.specs.Passes.{SeenMore};
 ghost use Rattle.wt_shards.specs.Told.{HasTold};
 ghost use Rattle.wt_cache.specs.Gets.{IsSoughtIn, HasTriedIn, is_get_fault};
 ghost use Rattle.wt_cache.specs.Moves.{LandedSome, HasRunIn, HasRunIfAnyIn, HasGotIn, IsLaterIn};
@@ -58,7 +59,7 @@ impl<
     pub fn get<R: Wait>(
         &self,
         rt: &R,
-        pass: &mut Pass<B>,
+        pass: &mut Pass<K, V, B>,
         key: K,
         now: u64,
         notices: &mut Notices<K, V>,
@@ -66,16 +67,16 @@ impl<
         requires room { 2 * self.now.layout.config.entries ≤ notices.old.room }
 
         ensures answers { IfOk result (λ got. IsTrue (V.answers got.value key)) }
-        ensures moved { IfOk result (HasGotIn K.word key self.now pass.old pass.new) }
-        ensures later { IfOk result (IsLaterIn K.word key self.now pass.old) }
+        ensures moved { IfOk result (HasGotIn K.word key self.now pass.old.counted pass.new.counted) }
+        ensures later { IfOk result (IsLaterIn K.word key self.now pass.old.counted) }
         ensures sought { IfOk result (IsSoughtIn K.eq K.word V.weight V.answers key now self.now
-            notices.old notices.new) }
+            pass.old pass.new notices.old notices.new) }
 
         ensures told { HasTold (2 * self.now.layout.config.entries) notices.old notices.new }
         ensures faults { IfErr result (λ fault. is_get_fault fault ≡ true) }
         // Either the seek was refused, for a cause of its own and with nothing done, or it stands.
         ensures err { IfErr result (HasTriedIn K.eq K.word V.weight V.answers key now self.now
-            notices.old notices.new pass.old pass.new) }
+            pass.old pass.new notices.old notices.new) }
     {
         let done = self.shards.seek(rt, pass, key, now, notices)?;
         let step = done.step;
@@ -110,13 +111,14 @@ impl<
     fn hand_on<R: Wait>(
         &self,
         rt: &R,
-        pass: &mut Pass<B>,
+        pass: &mut Pass<K, V, B>,
         lead: Lead<K, V>,
         notices: &mut Notices<K, V>,
     ) -> Result<(), Fault>
         requires room { self.now.layout.config.entries ≤ notices.old.room }
-        ensures ran { OnOk result (HasRunIn K.word lead.key self.now pass.old pass.new) }
-        ensures some { HasRunIfAnyIn K.word lead.key self.now pass.old pass.new }
+        ensures ran { OnOk result (HasRunIn K.word lead.key self.now pass.old.counted pass.new.counted) }
+        ensures some { HasRunIfAnyIn K.word lead.key self.now pass.old.counted pass.new.counted }
+        ensures more { SeenMore pass.old pass.new }
         ensures told { HasTold self.now.layout.config.entries notices.old notices.new }
         ensures faults { IfErr result (λ fault. is_step_fault fault ≡ true) }
     {
@@ -144,13 +146,14 @@ impl<
     fn drain<R: Wait>(
         &self,
         rt: &R,
-        pass: &mut Pass<B>,
+        pass: &mut Pass<K, V, B>,
         line: &JobLine<K, V>,
         hand: &mut LinePass<K, V>,
         aside: &mut Notices<K, V>,
     )
         requires room { self.now.layout.config.entries ≤ aside.old.room }
-        ensures moved { LandedSome pass.old pass.new }
+        ensures moved { LandedSome pass.old.counted pass.new.counted }
+        ensures more { SeenMore pass.old pass.new }
     {
         for _ in rt.forever() {
             let Some(lead) = line.take(rt, hand) else {

@@ -16,7 +16,7 @@ pub fn versions<N: Names, R: Wait + Abort>(
     rt: &R,
     alloc: Global,
     cache: &Cache<N>,
-    pass: &mut Pass<Of<N>>,
+    pass: &mut Pass<u64, Version, Of<N>>,
     home: usize,
 ) -> Result<(), Fault> {
     let four = Version { key: 1, line: 4 };
@@ -77,7 +77,7 @@ pub fn failures<N: Names, R: Wait + Abort>(
     rt: &R,
     alloc: Global,
     cache: &Cache<N>,
-    pass: &mut Pass<Of<N>>,
+    pass: &mut Pass<u64, Version, Of<N>>,
 ) -> Result<(), Fault> {
     let fault = Fault::LoadFailed { code: 300 };
     same(
@@ -113,7 +113,7 @@ pub fn refreshes<N: Names, R: Wait + Abort>(
     rt: &R,
     alloc: Global,
     cache: &Cache<N>,
-    pass: &mut Pass<Of<N>>,
+    pass: &mut Pass<u64, Version, Of<N>>,
     home: usize,
 ) -> Result<(), Fault> {
     let five = Version { key: 1, line: 5 };

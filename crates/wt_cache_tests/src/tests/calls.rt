@@ -16,7 +16,7 @@ pub fn led<N: Names, R: Wait>(
     rt: &R,
     alloc: Global,
     shards: &Plain<N>,
-    pass: &mut Pass<Of<N>>,
+    pass: &mut Pass<u64, Version, Of<N>>,
     key: u64,
 ) -> Result<Led, Fault> {
     let mut notices = Notices::new(alloc, shards.entries() as usize)?;
@@ -32,7 +32,7 @@ pub fn present<N: Names, R: Wait>(
     rt: &R,
     alloc: Global,
     cache: &Cache<N>,
-    pass: &mut Pass<Of<N>>,
+    pass: &mut Pass<u64, Version, Of<N>>,
     key: u64,
 ) -> Result<(Option<u64>, u64), Fault> {
     let mut notices = Notices::new(alloc, cache.entries() as usize)?;
@@ -48,7 +48,7 @@ pub fn invalidate<N: Names, R: Wait>(
     rt: &R,
     alloc: Global,
     cache: &Cache<N>,
-    pass: &mut Pass<Of<N>>,
+    pass: &mut Pass<u64, Version, Of<N>>,
     key: u64,
 ) -> Result<bool, Fault> {
     let mut notices = Notices::new(alloc, cache.entries() as usize)?;
@@ -61,7 +61,7 @@ pub fn forget<N: Names, R: Wait>(
     rt: &R,
     alloc: Global,
     cache: &Cache<N>,
-    pass: &mut Pass<Of<N>>,
+    pass: &mut Pass<u64, Version, Of<N>>,
     key: u64,
 ) -> Result<bool, Fault> {
     let mut notices = Notices::new(alloc, cache.entries() as usize)?;
@@ -74,7 +74,7 @@ pub fn abandon<N: Names, R: Wait>(
     rt: &R,
     alloc: Global,
     cache: &Cache<N>,
-    pass: &mut Pass<Of<N>>,
+    pass: &mut Pass<u64, Version, Of<N>>,
     lead: Lead<u64, Version>,
 ) -> Result<(), Fault> {
     let mut notices = Notices::new(alloc, cache.entries() as usize)?;
@@ -86,7 +86,7 @@ pub fn get<N: Names, R: Wait>(
     rt: &R,
     alloc: Global,
     cache: &Cache<N>,
-    pass: &mut Pass<Of<N>>,
+    pass: &mut Pass<u64, Version, Of<N>>,
     key: u64,
     now: u64,
 ) -> Result<(How, u64, u64), Fault> {
@@ -100,7 +100,7 @@ pub fn put<N: Names, R: Wait>(
     rt: &R,
     alloc: Global,
     cache: &Cache<N>,
-    pass: &mut Pass<Of<N>>,
+    pass: &mut Pass<u64, Version, Of<N>>,
     version: Version,
     now: u64,
 ) -> Result<u64, Fault> {
@@ -114,7 +114,7 @@ pub fn settled<N: Names, R: Wait>(
     rt: &R,
     alloc: Global,
     cache: Cache<N>,
-    pass: Pass<Of<N>>,
+    pass: Pass<u64, Version, Of<N>>,
     home: usize,
 ) -> Result<(u64, u64), Fault> {
     let mut passes = Vec::with_capacity(alloc, 1)?;
@@ -144,7 +144,7 @@ pub fn sweep<N: Names, R: Wait>(
     rt: &R,
     alloc: Global,
     cache: &Cache<N>,
-    pass: &mut Pass<Of<N>>,
+    pass: &mut Pass<u64, Version, Of<N>>,
 ) -> Result<(Told, Told), Fault> {
     let shards = cache.shards();
     if shards > 4 {

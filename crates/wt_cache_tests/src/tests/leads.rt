@@ -18,7 +18,7 @@ fn expect_full<N: Names, R: Wait + Abort>(
     rt: &R,
     alloc: Global,
     cache: &Cache<N>,
-    pass: &mut Pass<Of<N>>,
+    pass: &mut Pass<u64, Version, Of<N>>,
 ) {
     let full = Fault::TooManyFlights { limit: 1 };
     same(
@@ -34,7 +34,7 @@ pub fn dropped<N: Names, R: Wait + Abort>(
     rt: &R,
     alloc: Global,
     cache: &Cache<N>,
-    pass: &mut Pass<Of<N>>,
+    pass: &mut Pass<u64, Version, Of<N>>,
     open: Led,
 ) -> Result<(), Fault> {
     let Some((lead, mut ticket)) = open else {
@@ -56,7 +56,7 @@ pub fn given_up<N: Names, R: Wait + Abort>(
     rt: &R,
     alloc: Global,
     cache: &Cache<N>,
-    pass: &mut Pass<Of<N>>,
+    pass: &mut Pass<u64, Version, Of<N>>,
     open: Led,
 ) -> Result<(), Fault> {
     let Some((lead, mut ticket)) = open else {
@@ -102,7 +102,7 @@ pub fn forgets<N: Names, R: Wait + Abort>(
     rt: &R,
     alloc: Global,
     cache: &Cache<N>,
-    pass: &mut Pass<Of<N>>,
+    pass: &mut Pass<u64, Version, Of<N>>,
     open: &Led,
 ) {
     holds(rt, "a load is open", open.is_some());
@@ -141,7 +141,7 @@ fn puts_two<N: Names, R: Wait + Abort>(
     rt: &R,
     alloc: Global,
     cache: &Cache<N>,
-    pass: &mut Pass<Of<N>>,
+    pass: &mut Pass<u64, Version, Of<N>>,
 ) {
     let two = Version { key: 2, line: 5 };
     holds(

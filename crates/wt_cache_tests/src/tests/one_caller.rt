@@ -7,7 +7,7 @@ use crate::tests::callers::{failures, refreshes, versions};
 use crate::tests::calls::{Led, led, settled};
 use crate::tests::compare::same;
 use crate::tests::leads::{dropped, forgets, given_up};
-use crate::tests::stage::{Cache, Plain, Rules, Way, new_marks};
+use crate::tests::stage::{Cache, Plain, Rules, Version, Way, new_marks};
 use std::alloc::Global;
 use std::marker::Brand;
 use std::process::Abort;
@@ -33,7 +33,7 @@ fn led_for<N: Names, R: Wait>(
     rt: &R,
     alloc: Global,
     shards: &Plain<N>,
-    pass: &mut Pass<Of<N>>,
+    pass: &mut Pass<u64, Version, Of<N>>,
     play: Play,
 ) -> Result<Led, Fault> {
     match play {
@@ -47,7 +47,7 @@ fn act<N: Names, R: Wait + Abort>(
     rt: &R,
     alloc: Global,
     cache: &Cache<N>,
-    pass: &mut Pass<Of<N>>,
+    pass: &mut Pass<u64, Version, Of<N>>,
     open: Led,
     play: Play,
     home: usize,
@@ -69,13 +69,13 @@ fn act<N: Names, R: Wait + Abort>(
 fn played<N: Names, R: Wait + Abort>(
     rt: &R,
     alloc: Global,
-    blanks: Blanks,
+    blanks: Blanks<u64, Version>,
     config: &Config,
     count: usize,
     play: Play,
 ) -> Result<(), Fault>
     requires layout { N.layout ≡ record { shards = count; config = config.now } }
-    requires blanks { AreBlanksOf N.name blanks }
+    requires blanks { AreBlanksOf N.name N.book blanks }
 {
     let way = if play == Play::Failures {
         Way::FailsOne

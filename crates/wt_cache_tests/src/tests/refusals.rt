@@ -21,7 +21,7 @@ use wt_shards::{Blanks, Names, Of, Pass, Shards};
 // What is seen of a cache of one shard, and of the caller's pass.
 type Seen = (Stats, u64, u64);
 
-fn seen<N: Names, R: Wait>(rt: &R, cache: &Cache<N>, pass: &Pass<Of<N>>) -> Seen {
+fn seen<N: Names, R: Wait>(rt: &R, cache: &Cache<N>, pass: &Pass<u64, Version, Of<N>>) -> Seen {
     (cache.stats(rt), pass.steps(0), pass.hits(0))
 }
 
@@ -30,7 +30,7 @@ fn insist<N: Names, R: Wait + Abort>(
     rt: &R,
     alloc: Global,
     cache: &Cache<N>,
-    pass: &mut Pass<Of<N>>,
+    pass: &mut Pass<u64, Version, Of<N>>,
     key: u64,
 ) -> Result<(How, u64), Fault> {
     let before = seen(rt, cache, pass);
@@ -64,7 +64,7 @@ fn make<N: Names, R: Wait>(
     rt: &R,
     alloc: Global,
     cache: &Cache<N>,
-    pass: &mut Pass<Of<N>>,
+    pass: &mut Pass<u64, Version, Of<N>>,
     call: Call,
     key: u64,
 ) -> Result<bool, Fault> {
@@ -102,7 +102,7 @@ fn make_all<N: Names, R: Wait + Abort>(
     rt: &R,
     alloc: Global,
     cache: &Cache<N>,
-    pass: &mut Pass<Of<N>>,
+    pass: &mut Pass<u64, Version, Of<N>>,
 ) {
     for (call, key, found) in calls() {
         let before = seen(rt, cache, pass);
@@ -130,7 +130,7 @@ fn loads_of<N: Names, R: Wait + Abort>(
     rt: &R,
     alloc: Global,
     cache: &Cache<N>,
-    pass: &mut Pass<Of<N>>,
+    pass: &mut Pass<u64, Version, Of<N>>,
     key: u64,
 ) -> u64 {
     let before = cache.stats(rt).loads;
@@ -155,7 +155,7 @@ fn loads_itself<N: Names, R: Wait + Abort>(
     rt: &R,
     alloc: Global,
     cache: &Cache<N>,
-    pass: &mut Pass<Of<N>>,
+    pass: &mut Pass<u64, Version, Of<N>>,
 ) {
     for key in 3..9u64 {
         let loads = loads_of(rt, alloc, cache, pass, key);
@@ -168,7 +168,7 @@ fn shares<N: Names, R: Wait + Abort>(
     rt: &R,
     alloc: Global,
     cache: &Cache<N>,
-    pass: &mut Pass<Of<N>>,
+    pass: &mut Pass<u64, Version, Of<N>>,
     open: Led,
 ) {
     let Some((lead, _ticket)) = open else {
@@ -194,7 +194,7 @@ fn work<N: Names, R: Wait>(
     rt: &R,
     alloc: Global,
     cache: &Cache<N>,
-    pass: &mut Pass<Of<N>>,
+    pass: &mut Pass<u64, Version, Of<N>>,
 ) -> Result<(u64, u64, u64), Fault> {
     let Some(line) = cache.line() else {
         return Err(Fault::LineClosed);
@@ -210,7 +210,7 @@ fn works<N: Names, R: Wait + Abort>(
     rt: &R,
     alloc: Global,
     cache: &Cache<N>,
-    pass: &mut Pass<Of<N>>,
+    pass: &mut Pass<u64, Version, Of<N>>,
     open: Led,
 ) {
     let Some((lead, mut ticket)) = open else {
@@ -252,7 +252,7 @@ fn settled<N: Names, R: Wait>(
     rt: &R,
     alloc: Global,
     cache: Cache<N>,
-    pass: Pass<Of<N>>,
+    pass: Pass<u64, Version, Of<N>>,
 ) -> Result<Option<(u64, u64)>, Fault> {
     let mut passes = match Vec::with_capacity(alloc, 1) {
         Ok(passes) => passes,
@@ -280,7 +280,7 @@ fn plays_on<N: Names, R: Wait + Abort>(
     rt: &R,
     alloc: Global,
     cache: &Cache<N>,
-    pass: &mut Pass<Of<N>>,
+    pass: &mut Pass<u64, Version, Of<N>>,
     (posted, told): (Led, Led),
 ) {
     if cache.line().is_some() {
@@ -295,12 +295,12 @@ fn plays_on<N: Names, R: Wait + Abort>(
 fn played<N: Names, R: Wait + Abort>(
     rt: &R,
     alloc: Global,
-    blanks: Blanks,
+    blanks: Blanks<u64, Version>,
     config: &Config,
     lined: bool,
 ) -> Result<(), Fault>
     requires layout { N.layout ≡ record { shards = 1; config = config.now } }
-    requires blanks { AreBlanksOf N.name blanks }
+    requires blanks { AreBlanksOf N.name N.book blanks }
 {
     let way = Way::Plain;
     let marks = new_marks(alloc)?;

@@ -43,7 +43,7 @@ fn call<N: Names, R: Wait>(
     rt: &R,
     alloc: Global,
     cache: &Cache<N>,
-    pass: &mut Pass<Of<N>>,
+    pass: &mut Pass<u64, Version, Of<N>>,
     line: u64,
     draw: u64,
     now: u64,
@@ -71,7 +71,7 @@ fn calls<N: Names, R: Wait>(
     rt: &R,
     alloc: Global,
     cache: &Cache<N>,
-    pass: &mut Pass<Of<N>>,
+    pass: &mut Pass<u64, Version, Of<N>>,
     line: u64,
 ) -> Result<u64, Fault> {
     let mut draw = line;
@@ -86,7 +86,7 @@ fn calls<N: Names, R: Wait>(
 }
 
 // What a thread hands back: its pass, and how many values were strange.
-type Ran<N> = Result<(Pass<Of<N>>, u64), Fault>;
+type Ran<N> = Result<(Pass<u64, Version, Of<N>>, u64), Fault>;
 
 // A caller with a pass of its own.
 fn caller<N: Names, R: Wait>(rt: &R, alloc: Global, cache: &Cache<N>, number: usize) -> Ran<N> {
@@ -142,7 +142,10 @@ fn work_all<N: Names + Send + Sync, R: Threads + Wait + Sync>(
 }
 
 // Adds what threads handed back to the passes: how many values were strange.
-fn gather<N: Names>(ran: Vec<Ran<N>>, passes: &mut Vec<Pass<Of<N>>>) -> Result<u64, Fault> {
+fn gather<N: Names>(
+    ran: Vec<Ran<N>>,
+    passes: &mut Vec<Pass<u64, Version, Of<N>>>,
+) -> Result<u64, Fault> {
     let mut found = 0u64;
     for one in ran {
         let (pass, strange) = one?;
@@ -157,7 +160,7 @@ fn run_all<N: Names + Send + Sync, R: Threads + Wait + Sync>(
     rt: &R,
     alloc: Global,
     cache: &Cache<N>,
-    passes: &mut Vec<Pass<Of<N>>>,
+    passes: &mut Vec<Pass<u64, Version, Of<N>>>,
 ) -> Result<u64, Fault> {
     let (called, worked) = thread::join(
         rt,
@@ -174,7 +177,7 @@ fn opens<N: Names, R: Wait>(
     rt: &R,
     alloc: Global,
     shards: &Plain<N>,
-    pass: &mut Pass<Of<N>>,
+    pass: &mut Pass<u64, Version, Of<N>>,
     key: u64,
 ) -> Result<u64, Fault> {
     match led(rt, alloc, shards, pass, key) {
@@ -189,7 +192,7 @@ fn opens_all<N: Names, R: Wait>(
     rt: &R,
     alloc: Global,
     shards: &Plain<N>,
-    pass: &mut Pass<Of<N>>,
+    pass: &mut Pass<u64, Version, Of<N>>,
 ) -> Result<u64, Fault> {
     let mut opened = 0u64;
     for key in 1000..1064u64 {
@@ -203,7 +206,7 @@ fn end<N: Names, R: Wait>(
     rt: &R,
     alloc: Global,
     shards: Plain<N>,
-    mut passes: Vec<Pass<Of<N>>>,
+    mut passes: Vec<Pass<u64, Version, Of<N>>>,
 ) -> Result<u64, Fault> {
     let mut pass = shards.pass(rt, alloc)?;
     let opened = opens_all(rt, alloc, &shards, &mut pass);
@@ -219,11 +222,11 @@ fn end<N: Names, R: Wait>(
 fn soak<N: Names + Send + Sync, R: Threads + Wait + Sync>(
     rt: &R,
     alloc: Global,
-    blanks: Blanks,
+    blanks: Blanks<u64, Version>,
     config: &Config,
 ) -> Result<(u64, u64, u64), Fault>
     requires layout { N.layout ≡ record { shards = 4; config = config.now } }
-    requires blanks { AreBlanksOf N.name blanks }
+    requires blanks { AreBlanksOf N.name N.book blanks }
 {
     let marks = new_marks(alloc)?;
     let rules = Rules {

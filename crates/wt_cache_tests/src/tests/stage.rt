@@ -44,7 +44,7 @@ impl Answers<u64> for Version {
 pub struct Marks {
     /// How many loads were begun.
     pub begun: AtomicU64,
-    /// Above 0 once held loads may end.
+    /// How many held loads may end.
     pub released: AtomicU64,
 }
 
@@ -59,6 +59,8 @@ pub enum Way {
     HoldsOne,
     /// Each key once two loads have begun.
     InPairs,
+    /// Each key by an error whose code is the key, once as many loads are released as were begun.
+    FailsByKey,
     /// Every fifth load by an error of the greatest code, the others at once.
     FailsFifth,
 }
@@ -87,6 +89,10 @@ impl Loader<u64, Version> for Rules {
         let ends = match self.way {
             Way::Plain => true,
             Way::FailsOne if *key == 1 => return Err(300),
+            Way::FailsByKey if rises(&self.marks.released, before.saturating_add(1)) => {
+                return Err(u32::try_from(*key).unwrap_or(99));
+            }
+            Way::FailsByKey => false,
             Way::FailsFifth if before % 5 == 4 => return Err(u32::MAX),
             Way::HoldsOne if *key == 1 => rises(&self.marks.released, 1),
             Way::InPairs => rises(&self.marks.begun, 2),

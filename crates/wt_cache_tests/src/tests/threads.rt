@@ -15,19 +15,27 @@ use wt_flights::Lead;
 use wt_keys::Fault;
 use wt_shards::Names;
 
-// Gets key 1 once its load has begun.
-fn gets_later<N: Names, R: Wait>(rt: &R, alloc: Global, cache: &Cache<N>, marks: &Marks) -> Answer {
-    if !rises(&marks.begun, 1) {
+// Gets a key once its load has begun, which is the one of this number.
+fn gets_later<N: Names, R: Wait>(
+    rt: &R,
+    alloc: Global,
+    cache: &Cache<N>,
+    marks: &Marks,
+    key: u64,
+    load: u64,
+) -> Answer {
+    if !rises(&marks.begun, load) {
         return Err(Fault::Mixed);
     }
-    gets(rt, alloc, cache, 1)
+    gets(rt, alloc, cache, key)
 }
 
-// Releases the held load once two look-ups have missed, within 10,000,000 turns.
-fn releases<N: Names, R: Wait>(rt: &R, cache: &Cache<N>, marks: &Marks) -> bool {
+// Releases the load of this number once two look-ups for each load have missed, within 10,000,000
+// turns.
+fn releases<N: Names, R: Wait>(rt: &R, cache: &Cache<N>, marks: &Marks, load: u64) -> bool {
     for _ in 0..10_000_000u64 {
-        if cache.stats(rt).misses == 2 {
-            marks.released.store(1, Ordering::SeqCst);
+        if cache.stats(rt).misses == load.wrapping_mul(2) {
+            marks.released.store(load, Ordering::SeqCst);
             return true;
         }
         thread::yield_now();
@@ -41,12 +49,33 @@ fn ask_twice<N: Names + Send + Sync, R: Threads + Wait + Sync>(
     alloc: Global,
     cache: &Cache<N>,
     marks: &Marks,
+    key: u64,
+    load: u64,
 ) -> (Answer, Answer) {
     thread::join(
         rt,
-        || gets(rt, alloc, cache, 1),
-        || gets_later(rt, alloc, cache, marks),
+        || gets(rt, alloc, cache, key),
+        || gets_later(rt, alloc, cache, marks, key, load),
     )
+}
+
+/// Two callers ask for a key while its load is held, which is the one of this number, from 1: what
+/// the caller that loads gets, and the one that joins.
+pub fn shares<N: Names + Send + Sync, R: Threads + Wait + Abort + Sync>(
+    rt: &R,
+    alloc: Global,
+    cache: &Cache<N>,
+    marks: &Marks,
+    key: u64,
+    load: u64,
+) -> (Answer, Answer) {
+    let (answers, released) = thread::join(
+        rt,
+        || ask_twice(rt, alloc, cache, marks, key, load),
+        || releases(rt, cache, marks, load),
+    );
+    holds(rt, "the held load is released", released);
+    answers
 }
 
 /// Two callers ask for one key while its load is held.
@@ -56,12 +85,7 @@ pub fn one_load<N: Names + Send + Sync, R: Threads + Wait + Abort + Sync>(
     cache: &Cache<N>,
     marks: &Marks,
 ) -> Result<(), Fault> {
-    let (answers, released) = thread::join(
-        rt,
-        || ask_twice(rt, alloc, cache, marks),
-        || releases(rt, cache, marks),
-    );
-    holds(rt, "the held load is released", released);
+    let answers = shares(rt, alloc, cache, marks, 1, 1);
     same(rt, "the caller that loads", answers.0, Ok((How::Loaded, 0)));
     same(rt, "the caller that joins", answers.1, Ok((How::Joined, 0)));
     same(

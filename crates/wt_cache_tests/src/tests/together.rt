@@ -4,6 +4,7 @@ ghost use Rattle.wt_shards.specs.Opening.{AreBlanksOf};
 
 use crate::tests::asleep::sleepers;
 use crate::tests::calls::{Led, get, led};
+use crate::tests::codes::{failed_jobs, failed_shares};
 use crate::tests::stage::{Cache, Marks, Plain, Rules, Version, Way, new_marks};
 use crate::tests::threads::{given_up, one_load, put_beside_load};
 use crate::tests::workers::{full_line, many_loads, one_worker, refresh, two_workers};
@@ -38,6 +39,10 @@ pub enum Scene {
     Sleepers,
     /// A load is given up for which a caller waits.
     GivenUp,
+    /// Two callers share each of three loads, which fail.
+    FailedShares,
+    /// One worker runs three loads, which fail.
+    FailedJobs,
 }
 
 impl Scene {
@@ -52,14 +57,19 @@ impl Scene {
             | Scene::Sleepers => Way::Plain,
             Scene::OneWorker => Way::FailsOne,
             Scene::TwoWorkers => Way::InPairs,
+            Scene::FailedShares | Scene::FailedJobs => Way::FailsByKey,
         }
     }
 
     // The places of the line, 0 for none.
     fn places(self) -> u32 {
         match self {
-            Scene::OneLoad | Scene::PutBesideLoad | Scene::GivenUp => 0,
-            Scene::FullLine | Scene::OneWorker | Scene::ManyLoads | Scene::Refresh => 1,
+            Scene::OneLoad | Scene::PutBesideLoad | Scene::GivenUp | Scene::FailedShares => 0,
+            Scene::FullLine
+            | Scene::OneWorker
+            | Scene::ManyLoads
+            | Scene::Refresh
+            | Scene::FailedJobs => 1,
             Scene::TwoWorkers | Scene::Sleepers => 2,
         }
     }
@@ -126,6 +136,8 @@ fn act<N: Names + Send + Sync, R: Threads + Wait + Abort + Sync>(
         Scene::Refresh => refresh(rt, alloc, cache),
         Scene::Sleepers => sleepers(rt, alloc, cache),
         Scene::GivenUp => given_up(rt, alloc, cache, open),
+        Scene::FailedShares => failed_shares(rt, alloc, cache, marks),
+        Scene::FailedJobs => failed_jobs(rt, alloc, cache, marks),
     }
 }
 
@@ -133,13 +145,13 @@ fn act<N: Names + Send + Sync, R: Threads + Wait + Abort + Sync>(
 fn played<N: Names + Send + Sync, R: Threads + Wait + Abort + Sync>(
     rt: &R,
     alloc: Global,
-    blanks: Blanks,
+    blanks: Blanks<u64, Version>,
     config: &Config,
     count: usize,
     scene: Scene,
 ) -> Result<(), Fault>
     requires layout { N.layout ≡ record { shards = count; config = config.now } }
-    requires blanks { AreBlanksOf N.name blanks }
+    requires blanks { AreBlanksOf N.name N.book blanks }
 {
     let way = scene.way();
     let marks = new_marks(alloc)?;

@@ -18,8 +18,8 @@ use wt_shards::Names;
 /// What a worker reports: its jobs, the failed ones, and what left.
 pub type Report = Result<(u64, u64, u64), Fault>;
 
-// A worker with passes of its own runs until the line is closed and empty.
-fn works<N: Names, R: Wait>(rt: &R, alloc: Global, cache: &Cache<N>) -> Report {
+/// A worker with passes of its own runs until the line is closed and empty.
+pub fn works<N: Names, R: Wait>(rt: &R, alloc: Global, cache: &Cache<N>) -> Report {
     let mut pass = cache.pass(rt, alloc)?;
     let mut notices = Notices::new(alloc, cache.entries() as usize)?;
     let Some(line) = cache.line() else {

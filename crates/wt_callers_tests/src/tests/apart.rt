@@ -18,7 +18,7 @@ use wt_tests::{Gate, Gated};
 
 // A loader of values whose shares wait for nothing.
 #[derive(Drop)]
-struct Freely {}
+pub(super) struct Freely {}
 
 impl Loader<u64, Gated> for Freely {
     fn load(&self, _key: &u64) -> Result<Gated, u32> {
@@ -32,7 +32,7 @@ fn is_present<N: Names, R: Wait>(
     rt: &R,
     alloc: Global,
     cache: &GatedCache<N>,
-    pass: &mut Pass<Of<N>>,
+    pass: &mut Pass<u64, Gated, Of<N>>,
     key: u64,
 ) -> Result<bool, Fault> {
     let mut notices = Notices::new(alloc, cache.entries() as usize)?;
@@ -44,7 +44,7 @@ fn put<N: Names, R: Wait>(
     rt: &R,
     alloc: Global,
     cache: &GatedCache<N>,
-    pass: &mut Pass<Of<N>>,
+    pass: &mut Pass<u64, Gated, Of<N>>,
     key: u64,
     value: Gated,
 ) -> Result<(), Fault> {
@@ -57,7 +57,7 @@ fn gets<N: Names, R: Wait>(
     rt: &R,
     alloc: Global,
     cache: &GatedCache<N>,
-    pass: &mut Pass<Of<N>>,
+    pass: &mut Pass<u64, Gated, Of<N>>,
     key: u64,
 ) -> Result<How, Fault> {
     let mut notices = Notices::new(alloc, 2 * cache.entries() as usize)?;
@@ -69,7 +69,7 @@ fn drops<N: Names, R: Wait>(
     rt: &R,
     alloc: Global,
     cache: &GatedCache<N>,
-    pass: &mut Pass<Of<N>>,
+    pass: &mut Pass<u64, Gated, Of<N>>,
     key: u64,
 ) -> Result<bool, Fault> {
     let mut notices = Notices::new(alloc, cache.entries() as usize)?;
@@ -81,7 +81,7 @@ fn forgets<N: Names, R: Wait>(
     rt: &R,
     alloc: Global,
     cache: &GatedCache<N>,
-    pass: &mut Pass<Of<N>>,
+    pass: &mut Pass<u64, Gated, Of<N>>,
     key: u64,
 ) -> Result<bool, Fault> {
     let mut notices = Notices::new(alloc, cache.entries() as usize)?;
@@ -94,7 +94,7 @@ fn calls_meet<N: Names, R: Wait>(
     rt: &R,
     alloc: Global,
     cache: &GatedCache<N>,
-    pass: &mut Pass<Of<N>>,
+    pass: &mut Pass<u64, Gated, Of<N>>,
     key: u64,
 ) -> Result<bool, Fault> {
     let loaded = gets(rt, alloc, cache, pass, key)?;
@@ -111,7 +111,7 @@ fn calls_beside<N: Names, R: Wait>(
     rt: &R,
     alloc: Global,
     cache: &GatedCache<N>,
-    pass: &mut Pass<Of<N>>,
+    pass: &mut Pass<u64, Gated, Of<N>>,
     gate: &Gate,
 ) -> Result<bool, Fault> {
     let begun = gate.begins();
@@ -125,7 +125,7 @@ fn looks_apart<N: Names + Send + Sync, R: Threads + Wait + Sync>(
     rt: &R,
     alloc: Global,
     cache: &GatedCache<N>,
-    (a, b): (&mut Pass<Of<N>>, &mut Pass<Of<N>>),
+    (a, b): (&mut Pass<u64, Gated, Of<N>>, &mut Pass<u64, Gated, Of<N>>),
     gate: &Gate,
     gated: Gated,
 ) -> Result<(bool, bool), Fault> {
@@ -141,11 +141,11 @@ fn looks_apart<N: Names + Send + Sync, R: Threads + Wait + Sync>(
 fn look_apart<N: Names + Send + Sync, R: Threads + Wait + Sync>(
     rt: &R,
     alloc: Global,
-    blanks: Blanks,
+    blanks: Blanks<u64, Gated>,
     limits: &Config,
 ) -> Result<(bool, bool), Fault>
     requires layout { N.layout ≡ record { shards = 4; config = limits.now } }
-    requires blanks { AreBlanksOf N.name blanks }
+    requires blanks { AreBlanksOf N.name N.book blanks }
 {
     let gate = Gate::new(alloc)?;
     let gated = Gated::by(Arc::try_clone(&gate)?);

@@ -14,16 +14,16 @@ use wt_keys::Fault;
 use wt_shards::{Blanks, Names, Of, Pass, Shards, Sought};
 use wt_tests::Loaded;
 
-// A loader of values that weigh 4.
+// A loader of values that weigh as much as all others together.
 #[derive(Drop)]
-struct Heavily {}
+struct Heavily {
+    weight: u32,
+}
 
 impl Loader<u64, Loaded> for Heavily {
     fn load(&self, _key: &u64) -> Result<Loaded, u32> {
-        Ok(Loaded {
-            version: 0,
-            weight: 4,
-        })
+        let weight = self.weight;
+        Ok(Loaded { version: 0, weight })
     }
 }
 
@@ -32,7 +32,7 @@ fn put<N: Names, R: Wait>(
     rt: &R,
     alloc: Global,
     shards: &Shards<u64, Loaded, Of<N>>,
-    pass: &mut Pass<Of<N>>,
+    pass: &mut Pass<u64, Loaded, Of<N>>,
     key: u64,
 ) -> Result<(), Fault> {
     let mut notices = Notices::new(alloc, shards.entries() as usize)?;
@@ -49,7 +49,7 @@ fn led<N: Names, R: Wait>(
     rt: &R,
     alloc: Global,
     shards: &Shards<u64, Loaded, Of<N>>,
-    pass: &mut Pass<Of<N>>,
+    pass: &mut Pass<u64, Loaded, Of<N>>,
     key: u64,
 ) -> Result<Lead<u64, Loaded>, Fault> {
     let mut notices = Notices::new(alloc, shards.entries() as usize)?;
@@ -60,52 +60,68 @@ fn led<N: Names, R: Wait>(
     }
 }
 
-// Puts two entries that weigh 2 each, and opens a load.
+// Puts as many entries, which weigh 2 each, and opens a load.
 fn filled<N: Names, R: Wait>(
     rt: &R,
     alloc: Global,
     shards: &Shards<u64, Loaded, Of<N>>,
-    pass: &mut Pass<Of<N>>,
+    pass: &mut Pass<u64, Loaded, Of<N>>,
+    entries: u32,
 ) -> Result<Lead<u64, Loaded>, Fault> {
-    put(rt, alloc, shards, pass, 5)?;
-    put(rt, alloc, shards, pass, 9)?;
-    led(rt, alloc, shards, pass, 1)
+    for place in 0..entries {
+        put(rt, alloc, shards, pass, u64::from(place))?;
+    }
+    led(rt, alloc, shards, pass, 9)
 }
 
-// The weights are bounded by 4. Two entries weigh 2 each, until a load brings a third.
+// As many entries weigh 2 each and, together, all that they may, until a load brings as much.
 fn drives_out<N: Names, R: Wait>(
     rt: &R,
     alloc: Global,
-    blanks: Blanks,
+    blanks: Blanks<u64, Loaded>,
     limits: &Config,
+    entries: u32,
 ) -> Result<WorkerReport, Fault>
     requires layout { N.layout ≡ record { shards = 1; config = limits.now } }
-    requires blanks { AreBlanksOf N.name blanks }
+    requires blanks { AreBlanksOf N.name N.book blanks }
 {
     let mut notices = Notices::new(alloc, limits.entries as usize)?;
     let line = JobLine::new(rt, alloc, 1)?;
     let mut hand = line.pass(rt)?;
     let shards: Shards<u64, Loaded, Of<N>> = Shards::new(rt, alloc, blanks, limits, 1)?;
     let mut pass = shards.pass(rt, alloc)?;
-    let lead = filled(rt, alloc, &shards, &mut pass)?;
+    let lead = filled(rt, alloc, &shards, &mut pass, entries)?;
     let posted = line.post(rt, &mut hand, lead);
     line.close(rt);
     if posted.is_err() {
         return Err(Fault::LineFull);
     }
-    let cache = LoadingCache::new(shards, Heavily {}, Some(line));
+    let weight = entries.wrapping_mul(2);
+    let cache = LoadingCache::new(shards, Heavily { weight }, Some(line));
     Ok(cache.run_worker(rt, &mut pass, &mut hand, &mut notices))
+}
+
+// The one place that names the ledgers of these caches.
+fn drives_out_at<R: Wait>(
+    rt: &R,
+    alloc: Global,
+    limits: &Config,
+    entries: u32,
+) -> Result<WorkerReport, Fault> {
+    drives_out::<Brand, R>(rt, alloc, Blanks::new(), limits, entries)
 }
 
 #[test]
 fn a_worker_counts_each_entry_that_leaves(rt: HostRuntime) -> Result<(), Fail> {
-    let limits = Config::of(4).with_bound(4);
-    let report = drives_out::<Brand, HostRuntime>(&rt, rt.alloc(), Blanks::new(), &limits);
-    let counted = WorkerReport {
-        jobs: 1,
-        failed: 0,
-        removed: 2,
-    };
-    same(&rt, "the worker's report", report, Ok(counted));
+    for (entries, bound, removed) in [(1, 2, 1), (2, 4, 2), (3, 6, 3)] {
+        let limits = Config::of(4).with_bound(bound);
+        let report = drives_out_at(&rt, rt.alloc(), &limits, entries);
+        let counted = WorkerReport {
+            jobs: 1,
+            failed: 0,
+            removed,
+        };
+        same(&rt, "the worker's report", report, Ok(counted));
+    }
     Ok(())
 }

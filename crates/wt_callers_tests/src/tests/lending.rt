@@ -3,6 +3,7 @@
 ghost use Rattle.std.specs.Prelude.{◌≡◌};
 ghost use Rattle.wt_shards.specs.Opening.{AreBlanksOf};
 
+use super::at_once::all_at_once;
 use super::compare::{holds, same};
 use std::alloc::Global;
 use std::marker::Brand;
@@ -17,11 +18,11 @@ use wt_keys::Fault;
 use wt_shards::{Blanks, Names, Of, Shards};
 
 // A number that knows its key.
-type Number = Keyed<u64, u64>;
+pub(super) type Number = Keyed<u64, u64>;
 
 // A source that has 0 for each key.
 #[derive(Drop)]
-struct Zeros {}
+pub(super) struct Zeros {}
 
 impl Loader<u64, Number> for Zeros {
     fn load(&self, key: &u64) -> Result<Number, u32> {
@@ -31,23 +32,26 @@ impl Loader<u64, Number> for Zeros {
 }
 
 // A cache of numbers that lends callers.
-type Lender<N> = Callers<u64, Number, Zeros, Of<N>>;
+pub(super) type Lender<N> = Callers<u64, Number, Zeros, Of<N>>;
 
 // A caller of it.
 type Lent<'c, N, R> = Caller<'c, u64, Number, Zeros, Of<N>, R>;
 
 // What is done with the callers.
 #[derive(Clone, Copy, Debug, PartialEq, Eq)]
-enum Play {
+pub(super) enum Play {
     InARow,
-    AtOnce,
+    // All passes but one are taken by hand.
+    Scarce,
+    // So many callers, each of another thread.
+    AtOnce(usize),
     Calls,
     Beside,
     Refused,
 }
 
 // What a cache ended with: its passes, and the steps and hits of the settled books.
-type Ended = (usize, u64, u64);
+pub(super) type Ended = (usize, u64, u64);
 
 // Gets the number of a key by a caller that is lent for it.
 fn ask<N: Names, R: Wait>(rt: &R, callers: &Lender<N>, key: u64) -> Result<u64, Fault> {
@@ -77,7 +81,7 @@ fn spent<N: Names, R: Wait>(rt: &R, callers: &Lender<N>) -> bool {
 }
 
 // Takes all passes but one by hand. While the last one is lent there is no caller.
-fn at_once<N: Names, R: Wait + Abort>(
+fn scarce<N: Names, R: Wait + Abort>(
     rt: &R,
     alloc: Global,
     callers: &Lender<N>,
@@ -257,19 +261,20 @@ fn ended<N: Names, R: Wait>(
 fn played<N: Names + Send + Sync, R: Threads + Wait + Abort + Sync>(
     rt: &R,
     alloc: Global,
-    blanks: Blanks,
+    blanks: Blanks<u64, Number>,
     config: &Config,
     count: usize,
     play: Play,
 ) -> Result<Ended, Fault>
     requires layout { N.layout ≡ record { shards = count; config = config.now } }
-    requires blanks { AreBlanksOf N.name blanks }
+    requires blanks { AreBlanksOf N.name N.book blanks }
 {
     let shards: Shards<u64, Number, Of<N>> = Shards::new(rt, alloc, blanks, config, count)?;
     let callers: Lender<N> = Callers::new(alloc, LoadingCache::new(shards, Zeros {}, None));
     match play {
         Play::InARow => in_a_row(rt, &callers)?,
-        Play::AtOnce => at_once(rt, alloc, &callers)?,
+        Play::Scarce => scarce(rt, alloc, &callers)?,
+        Play::AtOnce(threads) => all_at_once(rt, alloc, &callers, threads)?,
         Play::Calls => calls(rt, alloc, &callers)?,
         Play::Beside => beside(rt, alloc, &callers)?,
         Play::Refused => refused(rt, &callers)?,
@@ -289,7 +294,7 @@ fn plays_at<R: Threads + Wait + Abort + Sync>(
 }
 
 // Plays on one shard and on four: what both ended with.
-fn plays<R: Threads + Wait + Abort + Sync>(
+pub(super) fn plays<R: Threads + Wait + Abort + Sync>(
     rt: &R,
     alloc: Global,
     play: Play,
@@ -316,7 +321,7 @@ fn more_callers_are_lent_in_a_row_than_there_are_passes(rt: HostRuntime) -> Resu
 
 #[test]
 fn callers_are_refused_while_all_passes_are_lent(rt: HostRuntime) -> Result<(), Fail> {
-    let ends = plays(&rt, rt.alloc(), Play::AtOnce)?;
+    let ends = plays(&rt, rt.alloc(), Play::Scarce)?;
     same(&rt, "passes, steps and hits", ends, [(1, 0, 0), (1, 0, 0)]);
     Ok(())
 }

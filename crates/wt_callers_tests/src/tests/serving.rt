@@ -1,4 +1,5 @@
 // A service: what its threads return, and which settings are refused.
+use super::at_once::all_come;
 use super::compare::{holds, same};
 use std::alloc::Global;
 use std::sync::Wait;
@@ -91,6 +92,49 @@ fn serve_returns_what_each_thread_returned(rt: HostRuntime) -> Result<(), Fail> 
     }
     let none = served(&rt, rt.alloc(), 8, 1, 0, &Tens::new())?;
     same(&rt, "no thread returned", none.len(), 0);
+    Ok(())
+}
+
+// A service each of whose threads waits until all have come.
+#[derive(Drop)]
+struct Meeting {
+    come: AtomicU64,
+    threads: usize,
+}
+
+impl Loader<u64, Number> for Meeting {
+    fn load(&self, key: &u64) -> Result<Number, u32> {
+        let key = *key;
+        Ok(Keyed { key, value: 0 })
+    }
+}
+
+impl Service<u64, Number> for Meeting {
+    type Answer = bool;
+
+    // Whether all have come.
+    fn work<B: Books, R: Wait>(
+        &self,
+        _thread: usize,
+        _caller: &mut Caller<u64, Number, &Meeting, B, R>,
+    ) -> Result<bool, Fault> {
+        Ok(all_come(&self.come, self.threads))
+    }
+}
+
+#[test]
+fn threads_of_a_service_may_wait_for_each_other(rt: HostRuntime) -> Result<(), Fail> {
+    for (shards, threads) in [(1, 2), (2, 3), (4, 8)] {
+        let meeting = Meeting {
+            come: AtomicU64::new(0),
+            threads,
+        };
+        let met = serve(&rt, rt.alloc(), &Config::of(8), shards, threads, &meeting)?;
+        same(&rt, "how many threads returned", met.len(), threads);
+        for all in met {
+            same(&rt, "whether all threads came", all, Ok(true));
+        }
+    }
     Ok(())
 }
 

@@ -158,7 +158,7 @@ fn put<N: Names, R: Wait>(
     rt: &R,
     alloc: Global,
     shards: &Shards<u64, Scarce, Of<N>>,
-    pass: &mut Pass<Of<N>>,
+    pass: &mut Pass<u64, Scarce, Of<N>>,
     key: u64,
     left: &Left,
 ) -> Result<(), Fault> {
@@ -173,7 +173,7 @@ fn led<N: Names, R: Wait>(
     rt: &R,
     alloc: Global,
     shards: &Shards<u64, Scarce, Of<N>>,
-    pass: &mut Pass<Of<N>>,
+    pass: &mut Pass<u64, Scarce, Of<N>>,
 ) -> Result<Open, Fault> {
     let mut notices = Notices::new(alloc, shards.entries() as usize)?;
     let done = shards.seek(rt, pass, 1, 0, &mut notices)?;
@@ -188,7 +188,7 @@ fn begin<N: Names, R: Wait>(
     rt: &R,
     alloc: Global,
     shards: &Shards<u64, Scarce, Of<N>>,
-    pass: &mut Pass<Of<N>>,
+    pass: &mut Pass<u64, Scarce, Of<N>>,
     who: Who,
     left: &Left,
 ) -> Result<Open, Fault> {
@@ -208,7 +208,7 @@ fn gets<N: Names, R: Wait>(
     rt: &R,
     alloc: Global,
     cache: &Scarcity<N>,
-    pass: &mut Pass<Of<N>>,
+    pass: &mut Pass<u64, Scarce, Of<N>>,
     now: u64,
 ) -> Answer {
     let mut notices = Notices::new(alloc, 2 * cache.entries() as usize)?;
@@ -230,7 +230,7 @@ fn works<N: Names, R: Wait>(
     rt: &R,
     alloc: Global,
     cache: &Scarcity<N>,
-    pass: &mut Pass<Of<N>>,
+    pass: &mut Pass<u64, Scarce, Of<N>>,
     lead: Lead<u64, Scarce>,
 ) -> Result<WorkerReport, Fault> {
     let Some(line) = cache.line() else {
@@ -251,7 +251,7 @@ fn first<N: Names, R: Wait>(
     rt: &R,
     alloc: Global,
     cache: &Scarcity<N>,
-    pass: &mut Pass<Of<N>>,
+    pass: &mut Pass<u64, Scarce, Of<N>>,
     who: Who,
     open: Open,
     left: &Left,
@@ -289,7 +289,7 @@ fn asked<N: Names, R: Wait + Abort>(
     rt: &R,
     alloc: Global,
     cache: &Scarcity<N>,
-    pass: &mut Pass<Of<N>>,
+    pass: &mut Pass<u64, Scarce, Of<N>>,
     open: Open,
     left: &Left,
     row: Row,
@@ -342,13 +342,13 @@ fn line_for<R: Wait>(
 fn played<N: Names, R: Wait + Abort>(
     rt: &R,
     alloc: Global,
-    blanks: Blanks,
+    blanks: Blanks<u64, Scarce>,
     config: &Config,
     count: usize,
     row: Row,
 ) -> Result<(), Fault>
     requires layout { N.layout ≡ record { shards = count; config = config.now } }
-    requires blanks { AreBlanksOf N.name blanks }
+    requires blanks { AreBlanksOf N.name N.book blanks }
 {
     let left: Left = Arc::new(alloc, AtomicU64::new(0))?;
     let theirs = Arc::try_clone(&left)?;

@@ -83,20 +83,34 @@ fn two_tallies_add_up_and_a_count_stays_at_its_greatest(rt: HostRuntime) -> Resu
     Ok(())
 }
 
+// Each number is another one, so that none can stand for another.
+const UNLIKE: Tally = Tally {
+    hits: 1,
+    misses: 2,
+    joins: 3,
+    refreshes: 4,
+    loads: 5,
+    loose: 6,
+    failed: 7,
+    explicit: 8,
+    replaced: 9,
+    expired: 10,
+    size: 11,
+    no_memory: 12,
+    too_heavy: 13,
+    too_many_flights: 14,
+    other: 15,
+};
+
 #[test]
 fn a_tally_is_a_line_of_names_and_numbers(rt: HostRuntime) -> Result<(), Fail> {
-    let tally = Tally {
-        hits: 5,
-        too_many_flights: 7,
-        ..Tally::NOTHING
-    };
-    let text = format!(in rt.alloc(); "{tally}")?;
+    let text = format!(in rt.alloc(); "{UNLIKE}")?;
     same(
         &rt,
         "the tally by Display",
         text.as_str(),
-        "hits 5 misses 0 joins 0 refreshes 0 loads 0 loose 0 failed 0 explicit 0 replaced 0 \
-         expired 0 size 0 no-memory 0 too-heavy 0 too-many-flights 7 other 0",
+        "hits 1 misses 2 joins 3 refreshes 4 loads 5 loose 6 failed 7 explicit 8 replaced 9 \
+         expired 10 size 11 no-memory 12 too-heavy 13 too-many-flights 14 other 15",
     );
     Ok(())
 }

@@ -23,10 +23,10 @@ use wt_trace::{Gate, TraceKey, Version};
 const MOST_LOOKS: u32 = 10_000;
 
 /// What each thread handed back, or why it stopped.
-pub(crate) type Ran<B> = Vec<Result<Pass<B>, RunFault>>;
+pub(crate) type Ran<K, B> = Vec<Result<Pass<K, Version<K>, B>, RunFault>>;
 
 /// What each worker handed back, or its fault.
-pub(crate) type Worked<B> = Vec<Result<Pass<B>, Fault>>;
+pub(crate) type Worked<K, B> = Vec<Result<Pass<K, Version<K>, B>, Fault>>;
 
 // Closes the line of loads if no worker comes to it, so that each caller loads for itself.
 fn await_worker<K: TraceKey, N: Names + Send + Sync, R: Wait>(
@@ -54,7 +54,7 @@ fn handle_all<K: TraceKey, N: Names + Send + Sync, G: Gate, R: Threads + Wait + 
     deal: &Deal<'_, K>,
     gate: &G,
     manned: &AtomicBool,
-) -> Result<Ran<Of<N>>, AllocError>
+) -> Result<Ran<K, Of<N>>, AllocError>
     requires { cache.now.layout.shards ≤ 4 }
     ensures { HaveRan (keys_by K.eq K.word K.read K.shown) deal.now.loader.now.options cache.now
         (G.answers gate.now) deal.now.first deal.now.lines.now deal.now.threads result }
@@ -71,7 +71,7 @@ fn handle_all<K: TraceKey, N: Names + Send + Sync, G: Gate, R: Threads + Wait + 
         rt,
         alloc,
         threads,
-        &|t: usize| -> Result<Pass<Of<N>>, RunFault>
+        &|t: usize| -> Result<Pass<K, Version<K>, Of<N>>, RunFault>
             requires { IsManned cache.now.layout.shards first (length lines.now) threads
                 × (t < threads) }
             ensures { IsDone (keys_by K.eq K.word K.read K.shown) loader.entry.now.options
@@ -99,7 +99,7 @@ fn load_all<K: TraceKey, N: Names + Send + Sync, R: Threads + Wait + Sync>(
     cache: &LoadingCache<K, Version<K>, TraceLoader, Of<N>>,
     workers: usize,
     manned: &AtomicBool,
-) -> Result<Worked<Of<N>>, AllocError>
+) -> Result<Worked<K, Of<N>>, AllocError>
     ensures len { IfOk result (λ worked. vec_len worked ≡ workers) }
     ensures faults { IfOk result (λ worked. AreWorked worked.items) }
 {
@@ -107,7 +107,7 @@ fn load_all<K: TraceKey, N: Names + Send + Sync, R: Threads + Wait + Sync>(
         rt,
         alloc,
         workers,
-        &|_worker: usize| -> Result<Pass<Of<N>>, Fault>
+        &|_worker: usize| -> Result<Pass<K, Version<K>, Of<N>>, Fault>
             ensures { IfErr result (λ f. is_config_fault (fault.Cache f) ≡ false) }
         { run_loads(rt, alloc, cache, manned) },
     )
@@ -122,8 +122,8 @@ pub(crate) fn work_all<K: TraceKey, N: Names + Send + Sync, G: Gate, R: Threads 
     gate: &G,
     workers: usize,
 ) -> (
-    Result<Ran<Of<N>>, AllocError>,
-    Result<Worked<Of<N>>, AllocError>,
+    Result<Ran<K, Of<N>>, AllocError>,
+    Result<Worked<K, Of<N>>, AllocError>,
 )
     requires { cache.now.layout.shards ≤ 4 }
     ensures each { HaveRan (keys_by K.eq K.word K.read K.shown) deal.now.loader.now.options
@@ -141,7 +141,7 @@ pub(crate) fn work_all<K: TraceKey, N: Names + Send + Sync, G: Gate, R: Threads 
     } = *deal;
     thread::join(
         rt,
-        || -> Result<Ran<Of<N>>, AllocError>
+        || -> Result<Ran<K, Of<N>>, AllocError>
             requires { IsManned cache.now.layout.shards first (length lines.now) threads }
             ensures { IfOk result (λ ran. (vec_len ran ≡ threads)
                 × AreDone (keys_by K.eq K.word K.read K.shown) loader.entry.now.options
@@ -156,7 +156,7 @@ pub(crate) fn work_all<K: TraceKey, N: Names + Send + Sync, G: Gate, R: Threads 
             };
             handle_all(rt, alloc, cache, &deal, gate, &manned)
         },
-        || -> Result<Worked<Of<N>>, AllocError>
+        || -> Result<Worked<K, Of<N>>, AllocError>
             ensures { IfOk result (λ worked. (vec_len worked ≡ workers)
                 × AreWorked worked.items) }
         { load_all(rt, alloc, cache, workers, &manned) },

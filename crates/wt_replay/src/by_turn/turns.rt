@@ -66,7 +66,7 @@ fn act<K: TraceKey, B: Books, R: Wait>(
     rt: &R,
     cache: &LoadingCache<K, Version<K>, TraceLoader, B>,
     loader: &TraceLoader,
-    pass: &mut Pass<B>,
+    pass: &mut Pass<K, Version<K>, B>,
     n: u64,
     line: &Line<K>,
     notices: &mut Notices<K, Version<K>>,
@@ -124,7 +124,7 @@ impl<'a, K: TraceKey, B: Books> Turns<'a, K, B> {
         &self,
         rt: &R,
         gate: &G,
-        pass: &mut Pass<B>,
+        pass: &mut Pass<K, Version<K>, B>,
         n: u64,
         line: &Line<K>,
         notices: &mut Notices<K, Version<K>>,
@@ -157,7 +157,7 @@ impl<'a, K: TraceKey, B: Books> Turns<'a, K, B> {
         &self,
         rt: &R,
         gate: &G,
-        pass: &mut Pass<B>,
+        pass: &mut Pass<K, Version<K>, B>,
         notices: &mut Notices<K, Version<K>>,
     ) -> Result<(), RunFault>
         requires room { 4 * self.now.cache.now.layout.config.entries ≤ notices.old.room }
@@ -188,7 +188,7 @@ pub(crate) fn run_thread<K: TraceKey, B: Books, G: Gate, R: Wait>(
     deal: &Deal<'_, K>,
     t: usize,
     gate: &G,
-) -> Result<Pass<B>, RunFault>
+) -> Result<Pass<K, Version<K>, B>, RunFault>
     requires few { cache.now.layout.shards ≤ 4 }
     ensures made { IsDone (keys_by K.eq K.word K.read K.shown) deal.now.loader.now.options cache.now
         (G.answers gate.now) deal.now.first deal.now.lines.now deal.now.threads t result }
@@ -217,7 +217,7 @@ pub(crate) fn run_loads<K: TraceKey, B: Books, R: Wait>(
     alloc: Global,
     cache: &LoadingCache<K, Version<K>, TraceLoader, B>,
     manned: &AtomicBool,
-) -> Result<Pass<B>, Fault>
+) -> Result<Pass<K, Version<K>, B>, Fault>
     ensures faults { IfErr result (λ f. is_config_fault (fault.Cache f) ≡ false) }
 {
     let mut pass = match cache.pass(rt, alloc) {

@@ -2,13 +2,13 @@
 ghost use Rattle.std.specs.Prelude.{◌≡◌, ◌<◌, ◌≤◌, ◌^◌, ◌↔◌, ℕ, sum_by, IfOk, IfErr, OnOk, IfSome, IfNone, IsSome};
 ghost use Rattle.wt_keys.specs.declared.fault.Fault.TheVariants as fault;
 ghost use Rattle.wt_shards.specs.Place.{place_of};
-ghost use Rattle.wt_shards.specs.Passes.{steps_at, hits_at};
+ghost use Rattle.wt_shards.specs.Passes.{steps_in, hits_in};
 ghost use Rattle.wt_shards.specs.Totals.{AddUp, IsTotal, IsMissing, AreTotals, AddUpBelow};
 
 use crate::books::Books;
 use crate::closed::Closed;
 use crate::pass::Pass;
-use crate::shard::Shard;
+use crate::recorded::Recorded;
 use crate::shard_ledger::ShardLedger;
 use crate::shards::Shards;
 use crate::totals::Totals;
@@ -20,9 +20,9 @@ use wt_keys::{Answers, CacheKey, Fault, Share};
 
 // The sum of the passes' steps at a shard, if it fits.
 #[tactic(auto, using(std::proofs::lemmas::List::Sums::sum_by_more_le))]
-fn steps_sum<B: Books>(passes: &Vec<Pass<B>>, shard: usize) -> Option<u64>
-    ensures sum { IfSome result (λ n. n ≡ sum_by (steps_at shard) passes.now.items) }
-    ensures large { IfNone result (2 ^ 64 ≤ sum_by (steps_at shard) passes.now.items) }
+fn steps_sum<K, V, B: Books>(passes: &Vec<Pass<K, V, B>>, shard: usize) -> Option<u64>
+    ensures sum { IfSome result (λ n. n ≡ sum_by (steps_in shard) passes.now.items) }
+    ensures large { IfNone result (2 ^ 64 ≤ sum_by (steps_in shard) passes.now.items) }
 {
     let mut sum = 0u64;
     for pass in passes {
@@ -36,9 +36,9 @@ fn steps_sum<B: Books>(passes: &Vec<Pass<B>>, shard: usize) -> Option<u64>
 
 // The sum of the passes' hits at a shard, if it fits.
 #[tactic(auto, using(std::proofs::lemmas::List::Sums::sum_by_more_le))]
-fn hits_sum<B: Books>(passes: &Vec<Pass<B>>, shard: usize) -> Option<u64>
-    ensures sum { IfSome result (λ n. n ≡ sum_by (hits_at shard) passes.now.items) }
-    ensures large { IfNone result (2 ^ 64 ≤ sum_by (hits_at shard) passes.now.items) }
+fn hits_sum<K, V, B: Books>(passes: &Vec<Pass<K, V, B>>, shard: usize) -> Option<u64>
+    ensures sum { IfSome result (λ n. n ≡ sum_by (hits_in shard) passes.now.items) }
+    ensures large { IfNone result (2 ^ 64 ≤ sum_by (hits_in shard) passes.now.items) }
 {
     let mut sum = 0u64;
     for pass in passes {
@@ -59,8 +59,8 @@ fn settle_at<
     H: Ledger,
     B: Books,
 >(
-    shard: Option<Mutex<Shard<K, V, S, H>>>,
-    passes: &Vec<Pass<B>>,
+    shard: Option<Mutex<Recorded<K, V, S, H>>>,
+    passes: &Vec<Pass<K, V, B>>,
     number: u32,
 ) -> Result<Option<Closed<S, H>>, Fault>
     requires number { IsSome shard → number ≡ S.ShardLedger.place.index }
@@ -101,7 +101,7 @@ impl<K: CacheKey, V: Share + Weighs + Answers<K> + Send + Sync, B: Books> Shards
         self,
         _rt: &R,
         _alloc: Global,
-        passes: Vec<Pass<B>>,
+        passes: Vec<Pass<K, V, B>>,
     ) -> Result<Totals<B>, Fault>
         ensures shards { IfOk result (λ totals. totals.shards ≡ self.shards) }
         ensures totals { IfOk result (λ totals.

@@ -1,22 +1,24 @@
 // How shards and passes are made.
-ghost use Rattle.std.specs.Prelude.{◌≡◌, ◌+◌, ◌<◌, ◌↔◌, None, IfOk, IfErr, OnOk, IsSome, IsOkUnless, MatchOption, Ok, Err};
+ghost use Rattle.std.specs.Prelude.{◌≡◌, ◌+◌, ◌<◌, ◌↔◌, [], None, IfOk, IfErr, OnOk, IsSome, IsOkUnless, MatchOption, Ok, Err};
 ghost use Rattle.wt_keys.specs.declared.fault.Fault.TheVariants as fault;
 ghost use Rattle.wt_shards.specs.Counts.{IsBlankOf, no_steps};
 ghost use Rattle.wt_shards.specs.Opening.{AreBlanks, ArePlacesOf, layout_fault};
-ghost use Rattle.wt_shards.specs.Passes.{counts_of, new_pass};
+ghost use Rattle.wt_shards.specs.Passes.{counts_of, front_of, new_pass};
 ghost use Rattle.wt_shards.specs.Place.{place_of};
 
 use crate::books::{Blanks, Books};
 use crate::hold::hold;
+use crate::mine::Mine;
 use crate::pass::Pass;
+use crate::recorded::Recorded;
 use crate::shard::Shard;
 use crate::shard_ledger::ShardLedger;
 use crate::shards::Shards;
-use crate::shares::Shares;
 use std::alloc::Global;
 use std::sync::ledger::{Blank, Ledger};
 use std::sync::{Mutex, Wait};
-use wt_core::{Config, Weighs};
+use wt_core::{Call, Config, Weighs};
+use wt_history::Fresh;
 use wt_keys::{Answers, CacheKey, Fault, Field, NoMemory, Share};
 
 // Checks the number of shards, and then the configuration.
@@ -41,39 +43,45 @@ fn locked<K: CacheKey, V: Share + Weighs + Answers<K> + Send + Sync, S: ShardLed
     shards: usize,
     steps: Blank,
     hits: Blank,
-) -> Result<Option<Mutex<Shard<K, V, S, H>>>, NoMemory>
+    calls: Fresh<Call<K, V>>,
+) -> Result<Option<Mutex<Recorded<K, V, S, H>>>, NoMemory>
     requires place { index < shards
         → S.ShardLedger.place ≡ place_of index (record { shards = shards; config = config.now }) }
     requires steps { IsBlankOf steps S.Ledger.name S.Ledger.parts }
     requires hits { IsBlankOf hits H.name H.parts }
+    requires histories { calls ≡ S.Naming.book }
     ensures there { IfOk result (λ shard. (index < shards) ↔ IsSome shard) }
 {
     if index >= shards {
         return Ok(None);
     }
     match Shard::new(alloc, config, index, shards, steps, hits) {
-        Ok(shard) => Ok(Some(Mutex::new(shard))),
+        Ok(shard) => Ok(Some(Mutex::new(Recorded {
+            shard,
+            history: calls.named::<S>(),
+        }))),
         Err(_) => Err(NoMemory),
     }
 }
 
-// Shares of the books of one shard, if there is one.
-fn shares_at<
+// A caller's part at one shard, if there is one.
+fn mine_at<
     K: CacheKey,
     V: Share + Weighs + Answers<K> + Send + Sync,
     S: ShardLedger,
     H: Ledger,
     R: Wait,
->(rt: &R, shard: &Option<Mutex<Shard<K, V, S, H>>>) -> Result<Option<Shares<S, H>>, Fault>
-    ensures there { IfOk result (λ shares. IsSome shares ↔ IsSome shard.now) }
-    ensures none { IfOk result (λ shares. counts_of shares ≡ no_steps) }
+>(rt: &R, shard: &Option<Mutex<Recorded<K, V, S, H>>>) -> Result<Option<Mine<K, V, S, H>>, Fault>
+    ensures there { IfOk result (λ mine. IsSome mine ↔ IsSome shard.now) }
+    ensures counts { IfOk result (λ mine. counts_of mine ≡ no_steps) }
+    ensures front { IfOk result (λ mine. front_of mine ≡ []) }
     ensures spent { IfErr result (λ f. f ≡ fault.PassesSpent) }
 {
     let Some(shard) = shard else {
         return Ok(None);
     };
-    match hold(rt, shard).shares() {
-        Ok(shares) => Ok(Some(shares)),
+    match hold(rt, shard).mine() {
+        Ok(mine) => Ok(Some(mine)),
         Err(fault) => Err(fault),
     }
 }
@@ -87,7 +95,7 @@ impl<K: CacheKey, V: Share + Weighs + Answers<K> + Send + Sync, B: Books> Shards
     pub fn new<R>(
         _rt: &R,
         alloc: Global,
-        blanks: Blanks,
+        blanks: Blanks<K, V>,
         config: &Config,
         shards: usize,
     ) -> Result<Shards<K, V, B>, Fault>
@@ -98,6 +106,8 @@ impl<K: CacheKey, V: Share + Weighs + Answers<K> + Send + Sync, B: Books> Shards
             × AreBlanks B.S1.Ledger.name B.S1.Ledger.parts B.H1.name B.H1.parts blanks.s1 blanks.h1
             × AreBlanks B.S2.Ledger.name B.S2.Ledger.parts B.H2.name B.H2.parts blanks.s2 blanks.h2
             × AreBlanks B.S3.Ledger.name B.S3.Ledger.parts B.H3.name B.H3.parts blanks.s3 blanks.h3 }
+        requires histories { (blanks.c0 ≡ B.S0.Naming.book) × (blanks.c1 ≡ B.S1.Naming.book)
+            × (blanks.c2 ≡ B.S2.Naming.book) × (blanks.c3 ≡ B.S3.Naming.book) }
         ensures ok { IfOk result (λ made. made ≡ record { shards = shards; config = config.now }) }
         ensures refusal { MatchOption (layout_fault shards config.now)
             (IsOkUnless result fault.NoMemory) (λ field. result ≡ Err (fault.BadConfig field)) }
@@ -108,17 +118,21 @@ impl<K: CacheKey, V: Share + Weighs + Answers<K> + Send + Sync, B: Books> Shards
         let Blanks {
             s0,
             h0,
+            c0,
             s1,
             h1,
+            c1,
             s2,
             h2,
+            c2,
             s3,
             h3,
+            c3,
         } = blanks;
-        let zero = locked(alloc, config, 0, shards, s0, h0)?;
-        let one = locked(alloc, config, 1, shards, s1, h1)?;
-        let two = locked(alloc, config, 2, shards, s2, h2)?;
-        let three = locked(alloc, config, 3, shards, s3, h3)?;
+        let zero = locked(alloc, config, 0, shards, s0, h0, c0)?;
+        let one = locked(alloc, config, 1, shards, s1, h1, c1)?;
+        let two = locked(alloc, config, 2, shards, s2, h2, c2)?;
+        let three = locked(alloc, config, 3, shards, s3, h3, c3)?;
         Ok(Shards {
             shards,
             config: *config,
@@ -129,19 +143,19 @@ impl<K: CacheKey, V: Share + Weighs + Answers<K> + Send + Sync, B: Books> Shards
         })
     }
 
-    /// Returns a caller's shares of the books of each shard, of nothing yet.
+    /// Returns a caller's part at each shard, of nothing yet.
     ///
     /// `PassesSpent` comes only once a shard has given out 65,535 of them, and is the only fault.
     /// Takes no memory, `alloc` isn't used. Takes each shard's lock in turn, and is no step.
     /// O(shards). Not promised: that it returns.
-    pub fn pass<R: Wait>(&self, rt: &R, _alloc: Global) -> Result<Pass<B>, Fault>
+    pub fn pass<R: Wait>(&self, rt: &R, _alloc: Global) -> Result<Pass<K, V, B>, Fault>
         ensures ok { IfOk result (λ pass. pass ≡ new_pass self.now.shards) }
         ensures spent { IfErr result (λ f. f ≡ fault.PassesSpent) }
     {
-        let zero = shares_at(rt, &self.zero)?;
-        let one = shares_at(rt, &self.one)?;
-        let two = shares_at(rt, &self.two)?;
-        let three = shares_at(rt, &self.three)?;
+        let zero = mine_at(rt, &self.zero)?;
+        let one = mine_at(rt, &self.one)?;
+        let two = mine_at(rt, &self.two)?;
+        let three = mine_at(rt, &self.three)?;
         Ok(Pass {
             shards: self.shards,
             zero,

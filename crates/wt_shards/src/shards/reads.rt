@@ -4,7 +4,7 @@ ghost use Rattle.wt_core.specs.Lawful.{AreSmall};
 
 use crate::books::Books;
 use crate::hold::hold;
-use crate::shard::Shard;
+use crate::recorded::Recorded;
 use crate::shard_ledger::ShardLedger;
 use crate::shards::Shards;
 use std::sync::ledger::Ledger;
@@ -19,17 +19,17 @@ fn stats_at<
     S: ShardLedger,
     H: Ledger,
     R: Wait,
->(rt: &R, shard: &Option<Mutex<Shard<K, V, S, H>>>) -> Stats
+>(rt: &R, shard: &Option<Mutex<Recorded<K, V, S, H>>>) -> Stats
     ensures small { AreSmall result }
     ensures looked { result.hits + result.misses ≡ result.lookups }
 {
     let Some(shard) = shard else {
         return Stats::NOTHING;
     };
-    let shard = hold(rt, shard);
+    let held = hold(rt, shard);
     // For the prover: shows what holds of the shard.
-    let _steps = shard.steps();
-    shard.stats()
+    let _steps = held.shard.steps();
+    held.shard.stats()
 }
 
 impl<K: CacheKey, V: Share + Weighs + Answers<K> + Send + Sync, B: Books> Shards<K, V, B> {

@@ -1,5 +1,5 @@
-// Shards have locks of their own: while one look holds its shard, each call at another shard goes on,
-// and a clear that waits for it holds no other.
+// Shards have locks of their own: while a look holds one of four shards, each call at each other one
+// goes on, and a clear that waits for it holds no other.
 ghost use Rattle.std.specs.Prelude.{◌≡◌};
 ghost use Rattle.wt_shards.specs.Opening.{AreBlanksOf};
 
@@ -17,11 +17,14 @@ use wt_keys::Fault;
 use wt_shards::{Blanks, Books, Names, Of, Pass, Shards, Sought};
 use wt_tests::{Gate, Gated};
 
-fn is_hit<B: Books, R: Wait>(
+// The key of each of four shards, from the first to the last.
+pub(super) const KEYS: [u64; 4] = [4, 3, 2, 1];
+
+pub(super) fn is_hit<B: Books, R: Wait>(
     rt: &R,
     alloc: Global,
     shards: &Shards<u64, Gated, B>,
-    pass: &mut Pass<B>,
+    pass: &mut Pass<u64, Gated, B>,
     key: u64,
 ) -> Result<bool, Fault> {
     let mut notices = Notices::new(alloc, shards.entries() as usize)?;
@@ -34,11 +37,11 @@ fn is_hit<B: Books, R: Wait>(
     }
 }
 
-fn put<B: Books, R: Wait>(
+pub(super) fn put<B: Books, R: Wait>(
     rt: &R,
     alloc: Global,
     shards: &Shards<u64, Gated, B>,
-    pass: &mut Pass<B>,
+    pass: &mut Pass<u64, Gated, B>,
     key: u64,
     value: Gated,
 ) -> Result<(), Fault> {
@@ -53,7 +56,7 @@ fn drops<B: Books, R: Wait>(
     rt: &R,
     alloc: Global,
     shards: &Shards<u64, Gated, B>,
-    pass: &mut Pass<B>,
+    pass: &mut Pass<u64, Gated, B>,
     key: u64,
 ) -> Result<bool, Fault> {
     let mut notices = Notices::new(alloc, shards.entries() as usize)?;
@@ -65,7 +68,7 @@ fn seek<B: Books, R: Wait>(
     rt: &R,
     alloc: Global,
     shards: &Shards<u64, Gated, B>,
-    pass: &mut Pass<B>,
+    pass: &mut Pass<u64, Gated, B>,
     key: u64,
 ) -> Result<Sought<u64, Gated>, Fault> {
     let mut notices = Notices::new(alloc, shards.entries() as usize)?;
@@ -77,7 +80,7 @@ fn joins<B: Books, R: Wait>(
     rt: &R,
     alloc: Global,
     shards: &Shards<u64, Gated, B>,
-    pass: &mut Pass<B>,
+    pass: &mut Pass<u64, Gated, B>,
     key: u64,
 ) -> Result<bool, Fault> {
     Ok(matches!(seek(rt, alloc, shards, pass, key)?, Sought::Join(_)))
@@ -87,7 +90,7 @@ fn forgets<B: Books, R: Wait>(
     rt: &R,
     alloc: Global,
     shards: &Shards<u64, Gated, B>,
-    pass: &mut Pass<B>,
+    pass: &mut Pass<u64, Gated, B>,
     key: u64,
 ) -> Result<bool, Fault> {
     let mut notices = Notices::new(alloc, shards.entries() as usize)?;
@@ -100,7 +103,7 @@ fn fails<B: Books, R: Wait>(
     rt: &R,
     alloc: Global,
     shards: &Shards<u64, Gated, B>,
-    pass: &mut Pass<B>,
+    pass: &mut Pass<u64, Gated, B>,
     lead: &Lead<u64, Gated>,
 ) -> Result<bool, Fault> {
     let mut notices = Notices::new(alloc, shards.entries() as usize)?;
@@ -108,15 +111,16 @@ fn fails<B: Books, R: Wait>(
     Ok(matches!(done.reply, Reply::Failed(2)))
 }
 
-// Whether each call on a key but a look meets what it is to meet: the key has an entry first.
+// Whether each call on a key that isn't there meets what it is to meet.
 fn calls_meet<B: Books, R: Wait>(
     rt: &R,
     alloc: Global,
     shards: &Shards<u64, Gated, B>,
-    pass: &mut Pass<B>,
+    pass: &mut Pass<u64, Gated, B>,
     key: u64,
 ) -> Result<bool, Fault> {
     put(rt, alloc, shards, pass, key, Gated::free())?;
+    let hit = is_hit(rt, alloc, shards, pass, key)?;
     let dropped = drops(rt, alloc, shards, pass, key)?;
     let Sought::Lead(lead, _ticket) = seek(rt, alloc, shards, pass, key)? else {
         return Ok(false);
@@ -124,41 +128,55 @@ fn calls_meet<B: Books, R: Wait>(
     let joined = joins(rt, alloc, shards, pass, key)?;
     let forgot = forgets(rt, alloc, shards, pass, key)?;
     let failed = fails(rt, alloc, shards, pass, &lead)?;
-    Ok(dropped && joined && forgot && failed)
+    Ok(hit && dropped && joined && forgot && failed)
 }
 
-// Makes each call on key 3 once the gate is reached, and then opens it.
+// Whether each call at each shard but that of the held key meets what it is to meet.
+fn others_meet<B: Books, R: Wait>(
+    rt: &R,
+    alloc: Global,
+    shards: &Shards<u64, Gated, B>,
+    pass: &mut Pass<u64, Gated, B>,
+    held: u64,
+) -> Result<bool, Fault> {
+    for key in KEYS {
+        if key != held && !calls_meet(rt, alloc, shards, pass, key)? {
+            return Ok(false);
+        }
+    }
+    Ok(true)
+}
+
+// Makes each call at the other shards once the gate is reached, and then opens it.
 fn calls_beside<B: Books, R: Wait>(
     rt: &R,
     alloc: Global,
     shards: &Shards<u64, Gated, B>,
-    pass: &mut Pass<B>,
+    pass: &mut Pass<u64, Gated, B>,
+    held: u64,
     gate: &Gate,
 ) -> Result<bool, Fault> {
     let begun = gate.begins();
-    let met = calls_meet(rt, alloc, shards, pass, 3);
-    let put = put(rt, alloc, shards, pass, 3, Gated::free());
-    let hit = is_hit(rt, alloc, shards, pass, 3);
+    let met = others_meet(rt, alloc, shards, pass, held);
     gate.open();
-    put?;
-    Ok(begun && met? && hit?)
+    Ok(begun && met?)
 }
 
-// Of four shards key 4 is of number 0, key 3 of number 1.
+// A look holds the shard of its key beside the calls at the others.
 fn looks_apart<N: Names + Send + Sync, R: Threads + Wait + Sync>(
     rt: &R,
     alloc: Global,
     shards: &Shards<u64, Gated, Of<N>>,
-    (a, b): (&mut Pass<Of<N>>, &mut Pass<Of<N>>),
+    (a, b): (&mut Pass<u64, Gated, Of<N>>, &mut Pass<u64, Gated, Of<N>>),
+    held: u64,
     gate: &Gate,
     gated: Gated,
 ) -> Result<(bool, bool), Fault> {
-    put(rt, alloc, shards, a, 4, gated)?;
-    put(rt, alloc, shards, a, 3, Gated::free())?;
+    put(rt, alloc, shards, a, held, gated)?;
     let (hit, met) = thread::join(
         rt,
-        || is_hit(rt, alloc, shards, a, 4),
-        || calls_beside(rt, alloc, shards, b, gate),
+        || is_hit(rt, alloc, shards, a, held),
+        || calls_beside(rt, alloc, shards, b, held, gate),
     );
     Ok((hit?, met?))
 }
@@ -166,38 +184,51 @@ fn looks_apart<N: Names + Send + Sync, R: Threads + Wait + Sync>(
 fn look_apart<N: Names + Send + Sync, R: Threads + Wait + Sync>(
     rt: &R,
     alloc: Global,
-    blanks: Blanks,
+    blanks: Blanks<u64, Gated>,
     limits: &Config,
+    held: u64,
 ) -> Result<(bool, bool), Fault>
     requires layout { N.layout ≡ record { shards = 4; config = limits.now } }
-    requires blanks { AreBlanksOf N.name blanks }
+    requires blanks { AreBlanksOf N.name N.book blanks }
 {
     let gate = Gate::new(alloc)?;
     let gated = Gated::by(Arc::try_clone(&gate)?);
     let shards: Shards<u64, Gated, Of<N>> = Shards::new(rt, alloc, blanks, limits, 4)?;
     let mut a = shards.pass(rt, alloc)?;
     let mut b = shards.pass(rt, alloc)?;
-    looks_apart(rt, alloc, &shards, (&mut a, &mut b), &gate, gated)
+    looks_apart(rt, alloc, &shards, (&mut a, &mut b), held, &gate, gated)
+}
+
+// The one place that names the ledgers of these shards.
+fn look_apart_at<R: Threads + Wait + Sync>(
+    rt: &R,
+    alloc: Global,
+    limits: &Config,
+    held: u64,
+) -> Result<(bool, bool), Fault> {
+    look_apart::<Brand, R>(rt, alloc, Blanks::new(), limits, held)
 }
 
 #[test]
 fn shards_have_locks_of_their_own(rt: HostRuntime) -> Result<(), Fail> {
-    let hits = look_apart::<Brand, HostRuntime>(&rt, rt.alloc(), Blanks::new(), &config(1000));
-    same(
-        &rt,
-        "the hit at one shard, and the calls at another",
-        hits,
-        Ok((true, true)),
-    );
+    for held in KEYS {
+        let seen = look_apart_at(&rt, rt.alloc(), &config(1000), held);
+        same(
+            &rt,
+            "the key at the held shard, the hit there, and the calls at the others",
+            (held, seen),
+            (held, Ok((true, true))),
+        );
+    }
     Ok(())
 }
 
 // Takes out all that is in the four shards.
-fn clear<B: Books, R: Wait>(
+pub(super) fn clear<B: Books, R: Wait>(
     rt: &R,
     alloc: Global,
     shards: &Shards<u64, Gated, B>,
-    pass: &mut Pass<B>,
+    pass: &mut Pass<u64, Gated, B>,
 ) -> Result<(), Fault> {
     let count = shards.shards();
     if count > 4 {
@@ -212,7 +243,7 @@ fn leaves<B: Books, R: Wait>(
     rt: &R,
     alloc: Global,
     shards: &Shards<u64, Gated, B>,
-    pass: &mut Pass<B>,
+    pass: &mut Pass<u64, Gated, B>,
     key: u64,
 ) -> Result<bool, Fault> {
     for _ in 0..10_000_000u32 {
@@ -229,7 +260,7 @@ fn clears<B: Books, R: Wait>(
     rt: &R,
     alloc: Global,
     shards: &Shards<u64, Gated, B>,
-    pass: &mut Pass<B>,
+    pass: &mut Pass<u64, Gated, B>,
     gate: &Gate,
 ) -> Result<bool, Fault> {
     let begun = gate.begins();
@@ -242,7 +273,7 @@ fn opens<B: Books, R: Wait>(
     rt: &R,
     alloc: Global,
     shards: &Shards<u64, Gated, B>,
-    pass: &mut Pass<B>,
+    pass: &mut Pass<u64, Gated, B>,
     gate: &Gate,
 ) -> Result<bool, Fault> {
     let gone = leaves(rt, alloc, shards, pass, 2);
@@ -255,7 +286,11 @@ fn clears_apart<N: Names + Send + Sync, R: Threads + Wait + Sync>(
     rt: &R,
     alloc: Global,
     shards: &Shards<u64, Gated, Of<N>>,
-    (a, b, c): (&mut Pass<Of<N>>, &mut Pass<Of<N>>, &mut Pass<Of<N>>),
+    (a, b, c): (
+        &mut Pass<u64, Gated, Of<N>>,
+        &mut Pass<u64, Gated, Of<N>>,
+        &mut Pass<u64, Gated, Of<N>>,
+    ),
     gate: &Gate,
     gated: Gated,
 ) -> Result<(bool, bool), Fault> {
@@ -278,11 +313,11 @@ fn clears_apart<N: Names + Send + Sync, R: Threads + Wait + Sync>(
 fn clear_apart<N: Names + Send + Sync, R: Threads + Wait + Sync>(
     rt: &R,
     alloc: Global,
-    blanks: Blanks,
+    blanks: Blanks<u64, Gated>,
     limits: &Config,
 ) -> Result<(bool, bool), Fault>
     requires layout { N.layout ≡ record { shards = 4; config = limits.now } }
-    requires blanks { AreBlanksOf N.name blanks }
+    requires blanks { AreBlanksOf N.name N.book blanks }
 {
     let gate = Gate::new(alloc)?;
     let gated = Gated::by(Arc::try_clone(&gate)?);

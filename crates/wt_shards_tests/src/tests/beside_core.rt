@@ -195,12 +195,12 @@ fn play_beside<N: Names>(
 fn play<N: Names>(
     rt: &impl Abort,
     alloc: Global,
-    blanks: Blanks,
+    blanks: Blanks<u64, Loaded>,
     limits: &Config,
     keys: u64,
 ) -> Result<(), Fault>
     requires layout { N.layout ≡ record { shards = 1; config = limits.now } }
-    requires blanks { AreBlanksOf N.name blanks }
+    requires blanks { AreBlanksOf N.name N.book blanks }
 {
     let mut run: Run<Loaded, N> = Run::new(alloc, limits, blanks)?;
     play_beside(rt, alloc, limits, &mut run, keys)

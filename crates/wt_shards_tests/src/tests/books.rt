@@ -45,11 +45,11 @@ fn spend_shares<N: Names>(rt: &impl Abort, run: &mut Run<Loaded, N>) {
 fn take_all<N: Names>(
     rt: &impl Abort,
     alloc: Global,
-    blanks: Blanks,
+    blanks: Blanks<u64, Loaded>,
     limits: &Config,
 ) -> Result<(), Fault>
     requires layout { N.layout ≡ record { shards = 1; config = limits.now } }
-    requires blanks { AreBlanksOf N.name blanks }
+    requires blanks { AreBlanksOf N.name N.book blanks }
 {
     let mut run: Run<Loaded, N> = Run::new(alloc, limits, blanks)?;
     spend_shares(rt, &mut run);
@@ -81,11 +81,11 @@ fn spend_passes<N: Names, R: Wait + Abort>(
 fn take_passes<N: Names, R: Wait + Abort>(
     rt: &R,
     alloc: Global,
-    blanks: Blanks,
+    blanks: Blanks<u64, Loaded>,
     limits: &Config,
 ) -> Result<(), Fault>
     requires layout { N.layout ≡ record { shards = 4; config = limits.now } }
-    requires blanks { AreBlanksOf N.name blanks }
+    requires blanks { AreBlanksOf N.name N.book blanks }
 {
     let shards: Shards<u64, Loaded, Of<N>> = Shards::new(rt, alloc, blanks, limits, 4)?;
     spend_passes(rt, alloc, &shards);

@@ -17,7 +17,7 @@ use wt_tests::{Do, Loaded, Said};
 // The notices are those of its latest step alone. A lead stays until it is landed.
 #[derive(Drop)]
 pub struct Caller<B: Books> {
-    pass: Pass<B>,
+    pass: Pass<u64, Loaded, B>,
     notices: Notices<u64, Loaded>,
     leads: Vec<Lead<u64, Loaded>>,
 }
@@ -97,7 +97,7 @@ impl<B: Books> Caller<B> {
         (self.pass.steps(shard), self.pass.hits(shard))
     }
 
-    pub fn into_pass(self) -> Pass<B> {
+    pub fn into_pass(self) -> Pass<u64, Loaded, B> {
         let Caller { pass, .. } = self;
         pass
     }

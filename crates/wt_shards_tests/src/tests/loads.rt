@@ -152,12 +152,12 @@ fn tell_all<N: Names>(
 fn share_a_load<N: Names>(
     rt: &impl Abort,
     alloc: Global,
-    blanks: Blanks,
+    blanks: Blanks<u64, Loaded>,
     limits: &Config,
     rows: &[(Act, u64, u64, Told)],
 ) -> Result<(), Fault>
     requires layout { N.layout ≡ record { shards = 1; config = limits.now } }
-    requires blanks { AreBlanksOf N.name blanks }
+    requires blanks { AreBlanksOf N.name N.book blanks }
 {
     let mut loads = Loads::new(alloc);
     let mut run: Run<Loaded, N> = Run::new(alloc, limits, blanks)?;
@@ -235,11 +235,11 @@ fn owners<N: Names>(
 
 fn share_and_drop<N: Names>(
     alloc: Global,
-    blanks: Blanks,
+    blanks: Blanks<u64, Fussy>,
     limits: &Config,
 ) -> Result<(bool, usize, usize), Fault>
     requires layout { N.layout ≡ record { shards = 1; config = limits.now } }
-    requires blanks { AreBlanksOf N.name blanks }
+    requires blanks { AreBlanksOf N.name N.book blanks }
 {
     let owned = counter(alloc)?;
     let mut run: Run<Fussy, N> = Run::new(alloc, limits, blanks)?;

@@ -144,13 +144,13 @@ fn play_rows<N: Names, R: Wait + Abort>(
 fn play<N: Names, R: Wait + Abort>(
     rt: &R,
     alloc: Global,
-    blanks: Blanks,
+    blanks: Blanks<u64, Loaded>,
     limits: &Config,
     shards: usize,
     rows: &[Row],
 ) -> Result<(), Fault>
     requires layout { N.layout ≡ record { shards = shards; config = limits.now } }
-    requires blanks { AreBlanksOf N.name blanks }
+    requires blanks { AreBlanksOf N.name N.book blanks }
 {
     let mut plains = Plains::new(alloc, limits, shards)?;
     let cache: Shards<u64, Loaded, Of<N>> = Shards::new(rt, alloc, blanks, limits, shards)?;

@@ -129,11 +129,11 @@ fn insist_on_all<N: Names>(rt: &impl Abort, run: &mut Run<Fussy, N>, left: &Rc<C
 fn refuse_shares<N: Names>(
     rt: &impl Abort,
     alloc: Global,
-    blanks: Blanks,
+    blanks: Blanks<u64, Fussy>,
     limits: &Config,
 ) -> Result<(), Fault>
     requires layout { N.layout ≡ record { shards = 1; config = limits.now } }
-    requires blanks { AreBlanksOf N.name blanks }
+    requires blanks { AreBlanksOf N.name N.book blanks }
 {
     let left = counter(alloc)?;
     // With no memory for the shard there is nothing to see.
@@ -281,11 +281,11 @@ fn ask_all<N: Names>(rt: &impl Abort, alloc: Global, limits: &Config, run: &mut 
 fn refuse_memory<N: Names>(
     rt: &impl Abort,
     alloc: Global,
-    blanks: Blanks,
+    blanks: Blanks<u64, Loaded>,
     limits: &Config,
 ) -> Result<(), Fault>
     requires layout { N.layout ≡ record { shards = 1; config = limits.now } }
-    requires blanks { AreBlanksOf N.name blanks }
+    requires blanks { AreBlanksOf N.name N.book blanks }
 {
     if let Ok(mut run) = Run::<Loaded, N>::new(alloc, limits, blanks) {
         ask_all(rt, alloc, limits, &mut run);

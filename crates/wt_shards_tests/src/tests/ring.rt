@@ -34,12 +34,12 @@ fn play_rows<N: Names>(rt: &impl Abort, run: &mut Run<Loaded, N>, rows: &[Row]) 
 fn play<N: Names>(
     rt: &impl Abort,
     alloc: Global,
-    blanks: Blanks,
+    blanks: Blanks<u64, Loaded>,
     limits: &Config,
     rows: &[Row],
 ) -> Result<(), Fault>
     requires layout { N.layout ≡ record { shards = 1; config = limits.now } }
-    requires blanks { AreBlanksOf N.name blanks }
+    requires blanks { AreBlanksOf N.name N.book blanks }
 {
     let mut run: Run<Loaded, N> = Run::new(alloc, limits, blanks)?;
     play_rows(rt, &mut run, rows);

@@ -31,9 +31,9 @@ impl<V: Share + Weighs + Answers<u64>, N: Names> Model for Run<V, N> {
 }
 
 impl<V: Share + Weighs + Answers<u64>, N: Names> Run<V, N> {
-    pub fn new(alloc: Global, config: &Config, blanks: Blanks) -> Result<Run<V, N>, Fault>
+    pub fn new(alloc: Global, config: &Config, blanks: Blanks<u64, V>) -> Result<Run<V, N>, Fault>
         requires layout { N.layout ≡ record { shards = 1; config = config.now } }
-        requires blanks { AreBlanksOf N.name blanks }
+        requires blanks { AreBlanksOf N.name N.book blanks }
         requires answers { (v : V) (k : ℕ) → IsTrue (V.answers v k) }
     {
         let Blanks { s0, h0, .. } = blanks;

@@ -52,7 +52,7 @@ fn passes_of_one<N: Names, R: Wait + Abort>(
     alloc: Global,
     shards: &Shards<u64, Loaded, Of<N>>,
     handed_back: bool,
-) -> Result<Vec<Pass<Of<N>>>, Fault> {
+) -> Result<Vec<Pass<u64, Loaded, Of<N>>>, Fault> {
     let mut passes = Vec::new(alloc);
     let mut caller = Caller::new(rt, alloc, shards)?;
     play(rt, shards, &mut caller);
@@ -67,7 +67,7 @@ fn counts<N: Names, R: Wait + Abort>(
     rt: &R,
     alloc: Global,
     shards: Shards<u64, Loaded, Of<N>>,
-    passes: Vec<Pass<Of<N>>>,
+    passes: Vec<Pass<u64, Loaded, Of<N>>>,
 ) -> Result<Counts, Fault> {
     let totals = match shards.settle(rt, alloc, passes) {
         Ok(totals) => totals,
@@ -81,12 +81,12 @@ fn counts<N: Names, R: Wait + Abort>(
 fn one_caller<N: Names, R: Wait + Abort>(
     rt: &R,
     alloc: Global,
-    blanks: Blanks,
+    blanks: Blanks<u64, Loaded>,
     limits: &Config,
     handed_back: bool,
 ) -> Result<Counts, Fault>
     requires layout { N.layout ≡ record { shards = 4; config = limits.now } }
-    requires blanks { AreBlanksOf N.name blanks }
+    requires blanks { AreBlanksOf N.name N.book blanks }
 {
     let shards: Shards<u64, Loaded, Of<N>> = Shards::new(rt, alloc, blanks, limits, 4)?;
     let passes = passes_of_one(rt, alloc, &shards, handed_back)?;
@@ -151,7 +151,7 @@ fn call<N: Names, R: Wait + Abort>(
     alloc: Global,
     shards: &Shards<u64, Loaded, Of<N>>,
     from: u64,
-) -> Result<Pass<Of<N>>, Fault> {
+) -> Result<Pass<u64, Loaded, Of<N>>, Fault> {
     let mut caller = Caller::new(rt, alloc, shards)?;
     put_and_look(rt, shards, &mut caller, from);
     Ok(caller.into_pass())
@@ -162,7 +162,7 @@ fn passes_of_two<N: Names + Send + Sync, R: Threads + Wait + Abort + Sync>(
     rt: &R,
     alloc: Global,
     shards: &Shards<u64, Loaded, Of<N>>,
-) -> Result<Vec<Pass<Of<N>>>, Fault> {
+) -> Result<Vec<Pass<u64, Loaded, Of<N>>>, Fault> {
     let mut passes = Vec::with_capacity(alloc, 2)?;
     let (a, b) = thread::join(
         rt,
@@ -177,11 +177,11 @@ fn passes_of_two<N: Names + Send + Sync, R: Threads + Wait + Abort + Sync>(
 fn two_callers<N: Names + Send + Sync, R: Threads + Wait + Abort + Sync>(
     rt: &R,
     alloc: Global,
-    blanks: Blanks,
+    blanks: Blanks<u64, Loaded>,
     limits: &Config,
 ) -> Result<(u64, u64), Fault>
     requires layout { N.layout ≡ record { shards = 4; config = limits.now } }
-    requires blanks { AreBlanksOf N.name blanks }
+    requires blanks { AreBlanksOf N.name N.book blanks }
 {
     let shards: Shards<u64, Loaded, Of<N>> = Shards::new(rt, alloc, blanks, limits, 4)?;
     let passes = passes_of_two(rt, alloc, &shards)?;

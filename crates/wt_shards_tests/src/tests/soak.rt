@@ -63,7 +63,7 @@ fn take_turns<N: Names, R: Wait + Abort>(
 }
 
 // What a thread hands back: its pass, and how many steps its answers told of.
-type Ran<N> = Result<(Pass<Of<N>>, u64), Fault>;
+type Ran<N> = Result<(Pass<u64, Loaded, Of<N>>, u64), Fault>;
 
 // A thread's work, with a caller of its own.
 fn call<N: Names, R: Wait + Abort>(
@@ -93,7 +93,10 @@ fn call_all<N: Names + Send + Sync, R: Threads + Wait + Abort + Sync>(
 }
 
 // Adds what the threads handed back to the passes: how many steps they told of.
-fn gather<N: Names>(ran: Vec<Ran<N>>, passes: &mut Vec<Pass<Of<N>>>) -> Result<u64, Fault> {
+fn gather<N: Names>(
+    ran: Vec<Ran<N>>,
+    passes: &mut Vec<Pass<u64, Loaded, Of<N>>>,
+) -> Result<u64, Fault> {
     let mut told = 0u64;
     for one in ran {
         let (pass, steps) = one?;
@@ -117,7 +120,7 @@ fn settled<N: Names, R: Wait + Abort>(
     rt: &R,
     alloc: Global,
     shards: Shards<u64, Loaded, Of<N>>,
-    passes: Vec<Pass<Of<N>>>,
+    passes: Vec<Pass<u64, Loaded, Of<N>>>,
 ) -> Result<u64, Fault> {
     let totals = match shards.settle(rt, alloc, passes) {
         Ok(totals) => totals,
@@ -137,12 +140,12 @@ fn settled<N: Names, R: Wait + Abort>(
 fn soak<N: Names + Send + Sync, R: Threads + Wait + Abort + Sync>(
     rt: &R,
     alloc: Global,
-    blanks: Blanks,
+    blanks: Blanks<u64, Loaded>,
     limits: &Config,
     shards: usize,
 ) -> Result<(u64, u64), Fault>
     requires layout { N.layout ≡ record { shards = shards; config = limits.now } }
-    requires blanks { AreBlanksOf N.name blanks }
+    requires blanks { AreBlanksOf N.name N.book blanks }
 {
     let cache: Shards<u64, Loaded, Of<N>> = Shards::new(rt, alloc, blanks, limits, shards)?;
     let ran = call_all(rt, alloc, &cache)?;

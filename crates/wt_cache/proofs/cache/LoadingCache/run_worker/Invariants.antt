@@ -9,6 +9,6 @@ invariant-loop g l = record {
   notices : l.notices ≡ l.initial.notices;
   failed : l.report.failed ≤ l.report.jobs;
   jobs : l.report.jobs ≤ 2 ^ 40;
-  landed : HasLanded l.report.jobs l.initial.pass l.pass;
+  landed : HasLanded l.report.jobs l.initial.pass.counted l.pass.counted;
   taken : HasTaken l.report.jobs l.initial.hand l.hand;
 }

@@ -1,6 +1,6 @@
-use Rattle.wt_shards.specs.Opening.{names_of}
+use Rattle.wt_shards.specs.Opening.{books_of, names_of}
 use Rattle.wt_cache_tests.proofs.tests.soak.soaks.Given as goal
 
 -- the ledgers of a test's cache: named by its blanks, and laid out as it is made
 abbrev pub ghosts-soak : goal.ghosts-soak
-ghosts-soak g a = record { name = names_of a.blanks; layout = record { shards = 4; config = a.config.now } }
+ghosts-soak g a = record { name = names_of a.blanks; book = books_of a.blanks; layout = record { shards = 4; config = a.config.now } }

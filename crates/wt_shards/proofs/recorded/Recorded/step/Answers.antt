@@ -1,0 +1,41 @@
+use Rattle.std.proofs.Common.{rules, ◌≡◌, List, [], ◌∷◌, ◌++◌, length, ap, sym, subst, ◌∙◌, refl}
+use Rattle.wt_core.specs.declared.calls.Call.{Call}
+use Rattle.wt_shards.specs.Audited.{Audited}
+use mathlib.Core.List.{IsPrefix}
+use Rattle.wt_shards.specs.History.{state_after}
+use Rattle.wt_shards.specs.Passes.{Mine}
+use Rattle.wt_shards.proofs.Histories.{made-behind, recorded-after}
+use Rattle.wt_shards.proofs.recorded.Recorded.step.Goals as goal
+
+pub invariant_of-self : goal.invariant_of-self
+invariant_of-self g c =
+    let K = g.row.K.Denot in
+    let V = g.row.V.Denot in
+    let config = g.S.ShardLedger.place.config in
+    let call : Call K V = c.args.call in
+    let calls : List (Call K V) = c.self.inside.history in
+    let made = c.in-Ok.ensures.made in
+    let grown : c.write.new.self ≡ calls ++ call ∷ [] = c.write.ensures.state ∙ ap (λ (e : Call K V). calls ++ e ∷ []) c.ask-asked.ensures in
+    let after = ap (λ (x : Audited K V). x.core) made.state in
+    let kept = recorded-after g.K.PartialEq.eq g.K.CacheKey.word g.V.Weighs.weight config calls c.self.inside.shard.core c.step.new.self.core call c.self.invariant.0 c.self.invariant.1 made.allowed after in
+    subst (λ (w : List (Call K V)). (c.step.new.self.core ≡ state_after g.K.PartialEq.eq g.K.CacheKey.word g.V.Weighs.weight config w) × (c.step.new.self.core.step ≡ length w)) (sym grown) kept
+
+pub returns-in-Ok-clause-made : goal.returns-in-Ok-clause-made
+returns-in-Ok-clause-made g c =
+    let K = g.row.K.Denot in
+    let V = g.row.V.Denot in
+    let call : Call K V = c.args.call in
+    let calls : List (Call K V) = c.self.inside.history in
+    let made = c.in-Ok.ensures.made in
+    let grown : c.write.new.mine ≡ calls ++ call ∷ [] = c.write.ensures.seen ∙ c.write.ensures.state ∙ ap (λ (e : Call K V). calls ++ e ∷ []) c.ask-asked.ensures in
+    let before = subst (λ (w : List (Call K V)). IsPrefix w calls) (ap (λ (m : Mine K V). m.front) c.mine.view_is) c.write.ensures.before in
+    record {
+      moved = search rules;
+      later = search rules;
+      step = made-behind g.K.PartialEq.eq g.K.CacheKey.word g.V.Weighs.weight g.V.Answers.answers g.S.ShardLedger.place call c.self.inside.shard.core calls _ _ _ _ _ _ c.self.invariant.0 c.self.invariant.1 c.steps-step.ensures.lawful
+          before grown made.allowed made.answer made.notices (search rules);
+      faults = tt;
+      cause = tt;
+      told = made.told;
+      err = tt;
+    }

@@ -1,0 +1,146 @@
+// A shard with the history of its calls, as it lies behind its lock.
+//
+// What is behind a lock has to be described by its type alone. So the shard's state isn't known to
+// a caller, but that it is the outcome of the history is, and the caller's own front shows a
+// beginning of that.
+ghost use Rattle.std.specs.Prelude.{◌≡◌, ◌+◌, ◌≤◌, length, IfOk, IfErr, false};
+ghost use Rattle.wt_keys.specs.declared.fault.Fault.TheVariants as fault;
+ghost use Rattle.wt_core.specs.declared.calls.Call.TheVariants as call;
+ghost use Rattle.wt_shards.specs.Asked.{AnswersAsked, MayAsk, ReplyAnswers, is_seek};
+ghost use Rattle.wt_shards.specs.Contract.{IsLockedCall};
+ghost use Rattle.wt_shards.specs.History.{state_after};
+ghost use Rattle.wt_shards.specs.Outer.{IsOfKey};
+ghost use Rattle.wt_shards.specs.Passes.{new_mine};
+ghost use Rattle.wt_shards.specs.Sought.{reply_of};
+ghost use Rattle.wt_shards.specs.Totals.{IsHistory, total_of};
+ghost use Rattle.wt_core.specs.Lawful.{AreSmall};
+
+use crate::closed::Closed;
+use crate::done::Done;
+use crate::mine::Mine;
+use crate::shard::Shard;
+use crate::shard_ledger::ShardLedger;
+use crate::sought::Sought;
+use std::marker::Model;
+use std::sync::Wait;
+use std::sync::ledger::Ledger;
+use wt_core::{Call, Notices, Reply, Weighs};
+use wt_history::History;
+use wt_keys::{Answers, CacheKey, Fault, Share};
+
+/// A shard, and the history that its state is the outcome of.
+#[derive(Drop)]
+pub(crate) struct Recorded<K: CacheKey, V: Share + Weighs + Answers<K>, S: ShardLedger, H: Ledger> {
+    pub(crate) shard: Shard<K, V, S, H>,
+    pub(crate) history: History<Call<K, V>, S>,
+}
+
+impl<K: CacheKey, V: Share + Weighs + Answers<K>, S: ShardLedger, H: Ledger> Model
+    for Recorded<K, V, S, H> {
+    ghost use Rattle.std.specs.Prelude.{◌≡◌, List, length};
+    ghost use Rattle.wt_core.specs.declared.calls.Call.{Call};
+    ghost use Rattle.wt_shards.specs.History.{state_after};
+
+    ghost Value = { List (Call K V) };
+
+    ghost view = { λ r. r.history };
+
+    ghost invariant = { λ r.
+        (r.shard.core ≡ state_after K.eq K.word V.weight S.ShardLedger.place.config r.history)
+        × (r.shard.core.step ≡ length r.history) };
+}
+
+impl<K: CacheKey, V: Share + Weighs + Answers<K>, S: ShardLedger, H: Ledger> Recorded<K, V, S, H> {
+    // A caller's part, of nothing yet.
+    pub(crate) fn mine(&mut self) -> Result<Mine<K, V, S, H>, Fault>
+        ensures ok { IfOk result (λ mine. mine ≡ new_mine) }
+        ensures spent { IfErr result (λ f. f ≡ fault.PassesSpent) }
+    {
+        let front = self.history.front();
+        match self.shard.shares() {
+            Ok(shares) => Ok(Mine { shares, front }),
+            Err(fault) => Err(fault),
+        }
+    }
+
+    // One call, which isn't a seek.
+    #[inline(always)]
+    pub(crate) fn step<R: Wait>(
+        &mut self,
+        rt: &R,
+        mine: &mut Mine<K, V, S, H>,
+        call: Call<K, V>,
+        notices: &mut Notices<K, V>,
+    ) -> Result<Done<Reply<V>>, Fault>
+        requires asked { MayAsk V.answers K.word S.ShardLedger.place call notices.old }
+        requires plain { is_seek call ≡ false }
+        ensures made { IsLockedCall K.eq K.word V.weight V.answers S.ShardLedger.place call
+            (λ reply. reply) mine.old mine.new notices.old notices.new result }
+        ensures answers { IfOk result (λ done. AnswersAsked V.answers call done.reply) }
+    {
+        let step = self.shard.steps();
+        let asked = self.history.ask(&call);
+        match self.shard.step(&mut mine.shares, call, notices) {
+            Ok(reply) => {
+                self.history.write(rt, &mut mine.front, asked, step);
+                return Ok(Done {
+                    step: step + 1,
+                    reply,
+                });
+            }
+            Err(fault) => {
+                self.history.show(rt, &mut mine.front, asked, step);
+                return Err(fault);
+            }
+        }
+    }
+
+    // One seek.
+    #[inline(always)]
+    pub(crate) fn seek<R: Wait>(
+        &mut self,
+        rt: &R,
+        mine: &mut Mine<K, V, S, H>,
+        key: K,
+        now: u64,
+        notices: &mut Notices<K, V>,
+    ) -> Result<Done<Sought<K, V>>, Fault>
+        requires asked { MayAsk V.answers K.word S.ShardLedger.place
+            (call.Seek key now) notices.old }
+        ensures made { IsLockedCall K.eq K.word V.weight V.answers S.ShardLedger.place
+            (call.Seek key now) reply_of mine.old mine.new notices.old notices.new result }
+        ensures answers { IfOk result (λ done. ReplyAnswers V.answers key (reply_of done.reply)) }
+        ensures asked { IfOk result (λ done. IsOfKey key now done.reply) }
+    {
+        let step = self.shard.steps();
+        let asked = self.history.ask(&Call::Seek(key, now));
+        match self.shard.seek(&mut mine.shares, key, now, notices) {
+            Ok(reply) => {
+                self.history.write(rt, &mut mine.front, asked, step);
+                return Ok(Done {
+                    step: step + 1,
+                    reply,
+                });
+            }
+            Err(fault) => {
+                self.history.show(rt, &mut mine.front, asked, step);
+                return Err(fault);
+            }
+        }
+    }
+
+    // Ends the shard and closes its books.
+    pub(crate) fn close(self) -> Closed<S, H>
+        // What held of the shard at all times.
+        ensures whole { IsHistory K.eq K.word V.weight V.answers S.ShardLedger.place self }
+        ensures total { result
+            ≡ total_of (state_after K.eq K.word V.weight S.ShardLedger.place.config self) }
+        ensures steps { result.steps ≡ length self }
+        ensures sound { (result.stats.hits + result.stats.misses ≡ result.stats.lookups)
+            × (result.stats.weight ≤ S.ShardLedger.place.config.bound) }
+        ensures small { AreSmall result.stats }
+    {
+        let Recorded { shard, history: _ } = self;
+        shard.close()
+    }
+}

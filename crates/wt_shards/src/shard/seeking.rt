@@ -1,0 +1,96 @@
+// The seek of a shard: a look-up that opens or joins a load.
+ghost use Rattle.std.specs.Prelude.{IfOk};
+ghost use Rattle.wt_core.specs.declared.calls.Call.TheVariants as call;
+ghost use Rattle.wt_shards.specs.Asked.{MayAsk, ReplyAnswers};
+ghost use Rattle.wt_shards.specs.Contract.{IsShardCall};
+ghost use Rattle.wt_shards.specs.Sought.{reply_of};
+
+use crate::kept::{Kept, find_kept};
+use crate::shard::Shard;
+use crate::shard_ledger::ShardLedger;
+use crate::shares::Shares;
+use crate::sought::Sought;
+use std::sync::ledger::Ledger;
+use wt_core::{Call, Foreseen, Notices, Reply, Weighs};
+use wt_keys::{Answers, CacheKey, Fault, Share};
+
+impl<K: CacheKey, V: Share + Weighs + Answers<K>, S: ShardLedger, H: Ledger> Shard<K, V, S, H> {
+    ghost use Rattle.wt_shards.specs.Sought.{IsOfLandings, opened_by};
+
+    /// Looks the key up at the moment `now`; if it isn't there, joins its current load or opens
+    /// one.
+    ///
+    /// Returns `Hit`, a `Join` with a ticket, or a `Lead` with the right to load and a ticket; or
+    /// `HitLead`, if the entry is due. Leads and tickets are of the landing that the shard keeps
+    /// for the load; the lead's moment is `now`, in milliseconds. `StepsSpent` comes before
+    /// `TooManyFlights`, and both before memory is asked for. Expected O(1), unless an attacker
+    /// chooses the keys (see `Seeded`); O(log(open loads)) on a join; and what the dropped records
+    /// cost.
+    #[tactic(auto, using(crate::proofs::Told::told_none))]
+    pub fn seek(
+        &mut self,
+        mine: &mut Shares<S, H>,
+        key: K,
+        now: u64,
+        notices: &mut Notices<K, V>,
+    ) -> Result<Sought<K, V>, Fault>
+        requires asked { MayAsk V.answers K.word S.ShardLedger.place
+            (call.Seek key now) notices.old }
+        ensures made { IsShardCall K.eq K.word V.weight S.ShardLedger.place.config.entries
+            (call.Seek key now) reply_of opened_by self.old self.new mine.old mine.new notices.old
+            notices.new result }
+        ensures landings { IfOk result (IsOfLandings key now self.new.landings) }
+        ensures answers { IfOk result (λ sought. ReplyAnswers V.answers key (reply_of sought)) }
+    {
+        let met = self.core.foresee(key, now);
+        let rows = match self.core.open_met(key, now, &met) {
+            Ok(rows) => rows,
+            Err(fault) => return Err(fault),
+        };
+        match met {
+            Foreseen::Hit => {
+                let reply = self.make_allowed(mine, Call::Seek(key, now), rows, None, notices)?;
+                let Reply::Hit(value) = reply else {
+                    unreachable!()
+                };
+                Ok(Sought::Hit(value))
+            }
+            Foreseen::Join(id) => {
+                let Some(kept) = find_kept(&self.landings, id) else {
+                    unreachable!()
+                };
+                let Ok(ticket) = kept.ticket() else {
+                    self.stay(&Call::Seek(key, now));
+                    return Err(Fault::NoMemory);
+                };
+                self.make_allowed(mine, Call::Seek(key, now), rows, None, notices)?;
+                Ok(Sought::Join(ticket))
+            }
+            Foreseen::Lead(id) => {
+                let Ok((kept, lead, ticket)) = Kept::start(self.alloc, id, key, now) else {
+                    self.stay(&Call::Seek(key, now));
+                    return Err(Fault::NoMemory);
+                };
+                self.make_allowed(mine, Call::Seek(key, now), rows, Some(kept), notices)?;
+                Ok(Sought::Lead(lead, ticket))
+            }
+            Foreseen::HitLead(id) => {
+                let Ok((kept, lead, ticket)) = Kept::start(self.alloc, id, key, now) else {
+                    self.stay(&Call::Seek(key, now));
+                    return Err(Fault::NoMemory);
+                };
+                let reply = self.make_allowed(
+                    mine,
+                    Call::Seek(key, now),
+                    rows,
+                    Some(kept),
+                    notices,
+                )?;
+                let Reply::HitLead(value, _) = reply else {
+                    unreachable!()
+                };
+                Ok(Sought::HitLead(value, lead, ticket))
+            }
+        }
+    }
+}
