@@ -143,6 +143,13 @@ typedef struct rd_name_notice {
     uint32_t cause;
 } rd_name_notice;
 
+/* One of the look-ups that rd_look_many makes. */
+typedef struct rd_looked {
+    uint64_t key;
+    uint64_t now;     /* its moment */
+    rd_answer answer; /* written by the call */
+} rd_looked;
+
 /* The numbers of a cache. At all times hits and misses together are the look-ups, entries and weight are within the
  * setup's entries and bound, flights is within its flights, and no number wraps. */
 typedef struct rd_numbers {
@@ -224,7 +231,25 @@ uint64_t rd_put_name(rd_cache *cache, const rd_name *key, rd_token value, uint64
 uint64_t rd_drop_name(rd_cache *cache, const rd_name *key, uint64_t now, rd_answer *answer);
 uint64_t rd_forget_name(rd_cache *cache, const rd_name *key, uint64_t now, rd_answer *answer);
 
-/* Tells notice i, from 0, of the latest of these eighteen calls; RD_NO_SUCH_NOTICE where there is none. */
+/* The three that nearly always tell a notice, each also with its first one: it does what its namesake does, and where that told a
+ * notice it writes the first one, which rd_get_notice would tell as number 0, and else leaves it as it was. */
+uint64_t rd_put_with_notice(rd_cache *cache, uint64_t key, rd_token value, uint64_t now, rd_answer *answer, rd_notice *first);
+uint64_t rd_land_keep_with_notice(rd_cache *cache, uint64_t id, uint64_t key, rd_token value, uint64_t now,
+                                  rd_answer *answer, rd_notice *first);
+uint64_t rd_drop_key_with_notice(rd_cache *cache, uint64_t key, uint64_t now, rd_answer *answer, rd_notice *first);
+uint64_t rd_put_name_with_notice(rd_cache *cache, const rd_name *key, rd_token value, uint64_t now, rd_answer *answer,
+                                 rd_name_notice *first);
+uint64_t rd_land_keep_name_with_notice(rd_cache *cache, uint64_t id, const rd_name *key, rd_token value, uint64_t now,
+                                       rd_answer *answer, rd_name_notice *first);
+uint64_t rd_drop_name_with_notice(rd_cache *cache, const rd_name *key, uint64_t now, rd_answer *answer,
+                                  rd_name_notice *first);
+
+/* Makes n look-ups, one after another, as rd_look does. It stops after one that is refused, whose fault it returns, and after
+ * one that tells a notice, since rd_get_notice tells those of the last one. made: how many were made, that last one included;
+ * the answers of the others stay as they were. looks isn't null even if n is 0. RD_CLOSED and RD_OTHER_KEYS write nothing. */
+uint64_t rd_look_many(rd_cache *cache, rd_looked *looks, size_t n, uint64_t *made);
+
+/* Tells notice i, from 0, of the latest of these calls; RD_NO_SUCH_NOTICE where there is none. */
 uint64_t rd_get_notice(rd_cache *cache, uint64_t i, rd_notice *notice);
 
 /* The same of a cache of names. Each of the two returns RD_OTHER_KEYS on a cache of the other kind. */

@@ -16,7 +16,14 @@ int main(void) {
     rd_cache cache = RD_CACHE_INIT;
     rd_answer a;
     rd_notice n;
+    rd_looked looks[] = {{1, 0, {77, 0, 0, 0, 0}}, {2, 0, {77, 0, 0, 0, 0}}};
+    uint64_t made = 77;
     CHECK(rd_look(&cache, 1, 0, &a) == RD_CLOSED);
+    CHECK(rd_look_many(&cache, looks, 2, &made) == RD_CLOSED && looks[0].answer.kind == 77 && made == 77);
+    n.token = 77;
+    CHECK(rd_put_with_notice(&cache, 1, (rd_token){7, 2}, 0, &a, &n) == RD_CLOSED && n.token == 77);
+    CHECK(rd_land_keep_with_notice(&cache, 1, 1, (rd_token){7, 2}, 0, &a, &n) == RD_CLOSED && n.token == 77);
+    CHECK(rd_drop_key_with_notice(&cache, 1, 0, &a, &n) == RD_CLOSED && n.token == 77);
     CHECK(rd_close(&cache) == RD_CLOSED);
     CHECK(rd_check(&setup) == 0);
     CHECK(rd_open(&setup, &cache) == 0 && cache.is_open);
@@ -25,6 +32,9 @@ int main(void) {
     CHECK(rd_put(&cache, 1, (rd_token){7, 2}, 0, &a) == 0 && a.kind == RD_STORED && a.notices == 0);
     CHECK(rd_look(&cache, 1, 0, &a) == 0 && a.kind == RD_HIT && a.token == 7 && a.weight == 2);
     CHECK(rd_look(&cache, 2, 0, &a) == 0 && a.kind == RD_ABSENT);
+    CHECK(rd_look_many(&cache, looks, 2, &made) == 0 && made == 2);
+    CHECK(looks[0].answer.kind == RD_HIT && looks[0].answer.token == 7 && looks[1].answer.kind == RD_ABSENT);
+    CHECK(rd_look_many(&cache, looks, 0, &made) == 0 && made == 0);
     /* a load that two share */
     CHECK(rd_seek(&cache, 3, 1, &a) == 0 && a.kind == RD_LEAD && a.number == 1);
     CHECK(rd_seek(&cache, 3, 2, &a) == 0 && a.kind == RD_JOIN && a.number == 1);
@@ -48,12 +58,23 @@ int main(void) {
     CHECK(rd_land_loose(&cache, 4, 51, 72, &a) == 0 && a.kind == RD_LOOSE);
     CHECK(rd_clean(&cache, 200, &a) == 0 && a.kind == RD_CLEANED && a.notices == 2);
     CHECK(rd_get_notice(&cache, 1, &n) == 0 && n.cause == RD_EXPIRED);
+    n.token = 77;
+    CHECK(rd_put_with_notice(&cache, 1, (rd_token){1, 1}, 200, &a, &n) == 0 && a.notices == 0 && n.token == 77);
+    CHECK(rd_put_with_notice(&cache, 1, (rd_token){2, 1}, 200, &a, &n) == 0 && a.notices == 1 && n.token == 1 &&
+          n.key == 1 && n.weight == 1 && n.cause == RD_REPLACED);
+    CHECK(rd_seek(&cache, 2, 200, &a) == 0 && a.kind == RD_LEAD);
+    CHECK(rd_land_keep_with_notice(&cache, a.number, 2, (rd_token){3, 100}, 200, &a, &n) == 0 && a.kind == RD_KEPT);
+    CHECK(a.notices == 1 && n.cause == RD_SIZE);
+    CHECK(rd_put(&cache, 1, (rd_token){1, 0}, 200, &a) == 0);
+    CHECK(rd_drop_key_with_notice(&cache, 1, 200, &a, &n) == 0 && a.kind == RD_DROPPED && n.token == 1 &&
+          n.cause == RD_EXPLICIT);
+    CHECK(rd_clear(&cache, 200, &a) == 0);
     CHECK(rd_put(&cache, 1, (rd_token){1, 1}, 200, &a) == 0);
     CHECK(rd_drop_key(&cache, 1, 200, &a) == 0 && a.kind == RD_DROPPED && a.number == 1 && a.notices == 1);
     CHECK(rd_clear(&cache, 200, &a) == 0 && a.kind == RD_CLEARED && a.notices == 0);
     rd_numbers t;
-    /* one load was stored and two were not; one failed, and one landing came too late */
-    CHECK(rd_get_numbers(&cache, &t) == 0 && t.loads == 3 && t.failed == 1);
+    /* two loads were stored and two were not; one failed, and one landing came too late */
+    CHECK(rd_get_numbers(&cache, &t) == 0 && t.loads == 4 && t.failed == 1);
     printf("lookups %llu hits %llu misses %llu loads %llu failed %llu evicted %llu entries %llu weight %llu "
            "step %llu latest %llu flights %llu\n",
            (unsigned long long)t.lookups, (unsigned long long)t.hits, (unsigned long long)t.misses,

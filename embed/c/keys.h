@@ -25,21 +25,29 @@ static rd_name spelled(uint64_t k) {
 #define LAND_FAILED CALL(rd_land_failed, rd_land_failed_name)
 #define DROP CALL(rd_drop_key, rd_drop_name)
 #define FORGET CALL(rd_forget, rd_forget_name)
+#define LAND_KEEP_WITH_NOTICE CALL(rd_land_keep_with_notice, rd_land_keep_name_with_notice)
+#define PUT_WITH_NOTICE CALL(rd_put_with_notice, rd_put_name_with_notice)
+#define DROP_WITH_NOTICE CALL(rd_drop_key_with_notice, rd_drop_name_with_notice)
 
 /* A notice, its key as a number. */
-static inline uint64_t get_notice(rd_cache *cache, uint64_t i, rd_notice *notice) {
 #ifdef NAMES
-    rd_name_notice told;
-    uint64_t fault = rd_get_notice_name(cache, i, &told);
-    if (fault) return fault;
+typedef rd_name_notice any_notice;
+static inline rd_notice by_number(any_notice told) {
     char text[25] = {0};
     for (uint64_t j = 0; j < told.key.length && j < 24; j++)
         text[j] = (char)told.key.bytes[j];
     for (uint64_t j = told.key.length; j < 24; j++)
-        if (told.key.bytes[j]) return 99;
-    *notice = (rd_notice){strtoull(text + 1, 0, 10), told.token, told.weight, told.cause};
-    return 0;
+        if (told.key.bytes[j]) return (rd_notice){UINT64_MAX, 0, 0, 0};
+    return (rd_notice){strtoull(text + 1, 0, 10), told.token, told.weight, told.cause};
+}
 #else
-    return rd_get_notice(cache, i, notice);
+typedef rd_notice any_notice;
+static inline rd_notice by_number(any_notice told) { return told; }
 #endif
+
+static inline uint64_t get_notice(rd_cache *cache, uint64_t i, rd_notice *notice) {
+    any_notice told;
+    uint64_t fault = CALL(rd_get_notice, rd_get_notice_name)(cache, i, &told);
+    if (!fault) *notice = by_number(told);
+    return fault;
 }

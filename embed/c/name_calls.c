@@ -14,6 +14,7 @@ static const rd_setup setup = {.entries = 32, .window = 4, .flights = 2, .bound 
 /* Each call by name, on a cache that is to refuse it; answers the number that all of them returned, or 0. */
 static uint64_t refused(rd_cache *cache, const rd_name *key) {
     rd_answer a = {77, 77, 77, 77, 77};
+    rd_name_notice n = {.token = 77, .weight = 77, .cause = 77};
     uint64_t told[] = {rd_look_name(cache, key, 0, &a),
                        rd_seek_name(cache, key, 0, &a),
                        rd_land_keep_name(cache, 1, key, (rd_token){1, 1}, 0, &a),
@@ -21,10 +22,13 @@ static uint64_t refused(rd_cache *cache, const rd_name *key) {
                        rd_land_failed_name(cache, 1, key, 0, &a),
                        rd_put_name(cache, key, (rd_token){1, 1}, 0, &a),
                        rd_drop_name(cache, key, 0, &a),
-                       rd_forget_name(cache, key, 0, &a)};
-    for (int i = 0; i < 8; i++)
+                       rd_forget_name(cache, key, 0, &a),
+                       rd_land_keep_name_with_notice(cache, 1, key, (rd_token){1, 1}, 0, &a, &n),
+                       rd_put_name_with_notice(cache, key, (rd_token){1, 1}, 0, &a, &n),
+                       rd_drop_name_with_notice(cache, key, 0, &a, &n)};
+    for (size_t i = 0; i < sizeof told / sizeof *told; i++)
         if (told[i] != told[0]) return 0;
-    return a.kind == 77 && a.weight == 77 && a.token == 77 && a.number == 77 && a.notices == 77 ? told[0] : 0;
+    return n.token == 77 && n.weight == 77 && n.cause == 77 && a.kind == 77 && a.weight == 77 && a.token == 77 && a.number == 77 && a.notices == 77 ? told[0] : 0;
 }
 
 static int first_rows(rd_cache *cache) {
@@ -38,6 +42,13 @@ static int first_rows(rd_cache *cache) {
     CHECK(rd_seek_name(cache, &bob, 1, &a) == 0 && a.kind == RD_JOIN && a.number == 1);
     CHECK(rd_land_keep_name(cache, 1, &alice, (rd_token){8, 1}, 1, &a) == 0 && a.kind == RD_GONE);
     CHECK(rd_land_keep_name(cache, 1, &bob, (rd_token){8, 1}, 1, &a) == 0 && a.kind == RD_KEPT && a.number == 2);
+    n.token = 77;
+    CHECK(rd_put_name_with_notice(cache, &alice, (rd_token){6, 1}, 2, &a, &n) == 0 && a.notices == 1);
+    CHECK(n.token == 7 && n.weight == 2 && n.cause == RD_REPLACED && n.key.length == 5);
+    /* A name that is too long makes no call, so the notice of the call before isn't handed back either. */
+    rd_name longer = rd_name_of("abcdefghijklmnopqrstuvwxyz", 25);
+    CHECK(refused(cache, &longer) == RD_NAME_TOO_LONG);
+    CHECK(rd_put_name(cache, &alice, (rd_token){7, 2}, 2, &a) == 0 && a.notices == 1);
     CHECK(rd_put_name(cache, &alice, (rd_token){9, 1}, 2, &a) == 0 && a.notices == 1);
     CHECK(rd_get_notice_name(cache, 0, &n) == 0 && n.token == 7 && n.weight == 2 && n.cause == RD_REPLACED);
     CHECK(n.key.length == 5 && !memcmp(n.key.bytes, "alice\0\0\0\0\0\0\0\0\0\0\0\0\0\0\0\0\0\0\0", 24));
@@ -73,6 +84,8 @@ int main(void) {
     rd_name_notice n = {.token = 77};
     rd_notice of_number = {.token = 77};
     rd_answer a = {.kind = 77};
+    rd_looked look = {1, 0, a};
+    uint64_t made = 77;
     CHECK(refused(&names, &alice) == RD_CLOSED && rd_get_notice_name(&names, 0, &n) == RD_CLOSED);
     CHECK(refused(&names, &longer) == RD_NAME_TOO_LONG);
     CHECK(rd_open_names(&(rd_setup){.entries = 0}, &names) == RD_BAD_SETUP && !names.is_open);
@@ -85,7 +98,11 @@ int main(void) {
     CHECK(rd_put(&names, 1, (rd_token){1, 1}, 0, &a) == RD_OTHER_KEYS && rd_forget(&names, 1, 0, &a) == RD_OTHER_KEYS);
     CHECK(rd_land_keep(&names, 1, 1, (rd_token){1, 1}, 0, &a) == RD_OTHER_KEYS);
     CHECK(rd_land_loose(&names, 1, 1, 0, &a) == RD_OTHER_KEYS && rd_land_failed(&names, 1, 1, 0, &a) == RD_OTHER_KEYS);
-    CHECK(rd_drop_key(&names, 1, 0, &a) == RD_OTHER_KEYS && a.kind == 77);
+    CHECK(rd_drop_key(&names, 1, 0, &a) == RD_OTHER_KEYS);
+    CHECK(rd_put_with_notice(&names, 1, (rd_token){1, 1}, 0, &a, &of_number) == RD_OTHER_KEYS);
+    CHECK(rd_land_keep_with_notice(&names, 1, 1, (rd_token){1, 1}, 0, &a, &of_number) == RD_OTHER_KEYS);
+    CHECK(rd_drop_key_with_notice(&names, 1, 0, &a, &of_number) == RD_OTHER_KEYS && a.kind == 77);
+    CHECK(rd_look_many(&names, &look, 1, &made) == RD_OTHER_KEYS && look.answer.kind == 77 && made == 77);
     CHECK(rd_get_notice(&names, 0, &of_number) == RD_OTHER_KEYS && of_number.token == 77);
     CHECK(rd_get_notice_name(&numbers, 0, &n) == RD_OTHER_KEYS && n.token == 77);
     rd_numbers t;

@@ -1,5 +1,6 @@
 /* A million random operations beside a plain model of what must hold: the model keeps the tokens by key, in
- * step with the notices, and compares each hit, each number and each notice with it. */
+ * step with the notices, and compares each hit, each number and each notice with it. Half of the puts, landings
+ * and drops hand their first notice back, which is compared with the one that is told. */
 #include "keys.h"
 #define KEYS 512
 #define CHECK(x)                                                                                             \
@@ -36,7 +37,7 @@ int main(int argc, char **argv) {
     rd_cache cache = RD_CACHE_INIT;
     if (OPEN(&setup, &cache)) return 1;
     uint64_t now = 0, latest = 0, token = 1, hits = 0, left = 0, entries = 0, weight = 0, refused = 0,
-             evicted = 0, misses = 0;
+             evicted = 0, misses = 0, handed_back = 0;
     for (i = 0; i < n; i++) {
         now += next() % 4;
         uint64_t k = next() % KEYS;
@@ -46,7 +47,9 @@ int main(int argc, char **argv) {
         uint64_t f;
         rd_token v = {token, (uint32_t)(next() % 40)};
         if (next() % 500 == 0) v.weight = 5000;
-        bool stores = false;
+        bool stores = false, hands_back = false;
+        any_notice first;
+        memset(&first, 77, sizeof first);
         if (what < 45) {
             f = LOOK(&cache, GIVEN(k), now, &a);
             CHECK(f == 0);
@@ -76,7 +79,9 @@ int main(int argc, char **argv) {
             int j = next() % loads;
             k = key_of[j];
             if (what < 80) {
-                f = LAND_KEEP(&cache, load_left[j], GIVEN(k), v, now, &a);
+                hands_back = next() % 2;
+                f = hands_back ? LAND_KEEP_WITH_NOTICE(&cache, load_left[j], GIVEN(k), v, now, &a, &first)
+                               : LAND_KEEP(&cache, load_left[j], GIVEN(k), v, now, &a);
                 stores = a.kind == RD_KEPT;
                 CHECK(a.kind == RD_KEPT || a.kind == RD_LOOSE);
                 if (stores) token++;
@@ -93,7 +98,9 @@ int main(int argc, char **argv) {
             key_of[j] = key_of[loads];
             sharers[j] = sharers[loads];
         } else if (what < 96) {
-            f = PUT(&cache, GIVEN(k), v, now, &a);
+            hands_back = next() % 2;
+            f = hands_back ? PUT_WITH_NOTICE(&cache, GIVEN(k), v, now, &a, &first)
+                           : PUT(&cache, GIVEN(k), v, now, &a);
             if (v.weight > 900) {
                 CHECK(f == RD_TOO_HEAVY && a.kind == RD_REFUSED);
                 refused++;
@@ -103,7 +110,9 @@ int main(int argc, char **argv) {
                 token++;
             }
         } else if (what < 98) {
-            f = DROP(&cache, GIVEN(k), now, &a);
+            hands_back = next() % 2;
+            f = hands_back ? DROP_WITH_NOTICE(&cache, GIVEN(k), now, &a, &first)
+                           : DROP(&cache, GIVEN(k), now, &a);
             CHECK(f == 0 && a.kind == RD_DROPPED);
         } else if (what < 99) {
             f = FORGET(&cache, GIVEN(k), now, &a);
@@ -120,6 +129,17 @@ int main(int argc, char **argv) {
             CHECK(in[k] && held[k] == a.token && weigh[k] == a.weight);
         }
         if (a.kind == RD_ABSENT || a.kind == RD_LEAD || a.kind == RD_JOIN) misses++;
+        if (hands_back && !f && a.notices) {
+            rd_notice told;
+            CHECK(get_notice(&cache, 0, &told) == 0);
+            rd_notice handed = by_number(first);
+            CHECK(!memcmp(&handed, &told, sizeof told));
+            handed_back++;
+        } else {
+            any_notice untouched;
+            memset(&untouched, 77, sizeof untouched);
+            CHECK(!memcmp(&first, &untouched, sizeof first));
+        }
         /* a store's own key: first what leaves under it, then the new one, which may leave too */
         for (uint64_t j = 0; j < (f ? 0 : a.notices); j++) {
             rd_notice m;
@@ -159,5 +179,5 @@ int main(int argc, char **argv) {
     printf("%ld operations: hits %llu misses %llu left %llu refused %llu entries %llu weight %llu\n", n,
            (unsigned long long)hits, (unsigned long long)misses, (unsigned long long)left,
            (unsigned long long)refused, (unsigned long long)entries, (unsigned long long)weight);
-    return rd_close(&cache) != 0;
+    return handed_back == 0 || rd_close(&cache) != 0;
 }

@@ -44,6 +44,14 @@ static uint64_t op(rd_cache *c, unsigned what, uint64_t k, uint64_t id, rd_token
     if (what < 98) return DROP(c, GIVEN(k), now, a);
     return rd_clean(c, now, a);
 }
+/* The same, by the calls that hand their first notice back where there is one. */
+static uint64_t op_with_notice(rd_cache *c, unsigned what, uint64_t k, uint64_t id, rd_token v, uint64_t now,
+                               rd_answer *a, any_notice *first) {
+    if (60 <= what && what < 75) return LAND_KEEP_WITH_NOTICE(c, id, GIVEN(k), v, now, a, first);
+    if (75 <= what && what < 95) return PUT_WITH_NOTICE(c, GIVEN(k), v, now, a, first);
+    if (95 <= what && what < 98) return DROP_WITH_NOTICE(c, GIVEN(k), now, a, first);
+    return op(c, what, k, id, v, now, a);
+}
 int main(void) {
     rd_setup setup = {
         .entries = 32, .window = 4, .flights = 8, .bound = 300, .after_write = 2000, .refresh = 500};
@@ -75,11 +83,12 @@ int main(void) {
         rd_get_numbers(&c, &s);
         for (long at = 0;; at++) {
             fail_in = at;
-            uint64_t f = op(&c, what, k, l, v, now, &a);
-            bool hit = fail_in < 0;
+            any_notice first, untouched;
+            memset(&first, 77, sizeof first);
+            memset(&untouched, 77, sizeof untouched);
+            uint64_t f = op_with_notice(&c, what, k, l, v, now, &a, &first);
             fail_in = -1;
             if (a.kind != RD_NO_MEMORY) {
-                (void)hit;
                 uint64_t g = op(&twin, what, k, l, v, now, &b);
                 CHECK(f == g && !memcmp(&a, &b, sizeof a));
                 break;
@@ -87,6 +96,7 @@ int main(void) {
             refused++;
             CHECK(what < 95); /* the last two take no memory */
             CHECK(f == 1 && a.number == 1 && a.notices == 0);
+            CHECK(!memcmp(&first, &untouched, sizeof first));
             rd_get_numbers(&c, &t);
             CHECK(!memcmp(&s, &t, sizeof s));
         }

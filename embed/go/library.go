@@ -12,21 +12,23 @@ typedef struct {
 	rd_answer answer;
 	rd_notice notices[COPIED];
 	uint64_t hits;
-	struct { uint64_t key, now; } hit[HITS];
+	rd_looked hit[HITS];
 } side;
 
-// Tells the hits in their order, before each other call. One that is refused memory was served all the same.
+// Tells the hits in their order, before each other call. After one that is refused memory, which was served all the same, it goes on
+// with the next.
 static rd_cache *at(side *s) {
-	for (uint64_t i = 0; i < s->hits; i++)
-		rd_look(&s->of.cache, s->hit[i].key, s->hit[i].now, &s->answer);
+	uint64_t made = 0;
+	for (uint64_t from = 0; from < s->hits; from += made)
+		if (rd_look_many(&s->of.cache, s->hit + from, s->hits - from, &made) >= RD_CLOSED) break;
 	s->hits = 0;
 	return &s->of.cache;
 }
 
-// Copies the notices of the latest call, from one on.
+// Copies notices of the latest call, from one on, until the next would need the place of the first.
 static void copy_notices(side *s, uint64_t from) {
-	for (uint64_t i = 0; i < COPIED && from + i < s->answer.notices; i++)
-		rd_get_notice(&s->of.cache, from + i, &s->notices[i]);
+	for (uint64_t i = from; i < s->answer.notices && (i == from || i % COPIED != 0); i++)
+		rd_get_notice(&s->of.cache, i, &s->notices[i % COPIED]);
 }
 
 // Ends each call below, so that it takes one crossing with the first notices. A refused call told none.
@@ -36,18 +38,28 @@ static uint64_t told(side *s, uint64_t fault) {
 	return fault;
 }
 
+// The same of a call that has handed its first notice back.
+static uint64_t told_with_notice(side *s, uint64_t fault) {
+	if (fault) s->answer.notices = 0;
+	copy_notices(s, 1);
+	return fault;
+}
+
 static uint64_t open_side(const rd_setup *setup, side *s) { return rd_open(setup, &s->of.cache); }
 static uint64_t close_side(side *s) { return rd_close(at(s)); }
 static uint64_t numbers_of(side *s, rd_numbers *n) { return rd_get_numbers(at(s), n); }
 static uint64_t look(side *s, uint64_t key, uint64_t now) { return told(s, rd_look(at(s), key, now, &s->answer)); }
 static uint64_t seek(side *s, uint64_t key, uint64_t now) { return told(s, rd_seek(at(s), key, now, &s->answer)); }
-static uint64_t drop(side *s, uint64_t key, uint64_t now) { return told(s, rd_drop_key(at(s), key, now, &s->answer)); }
 static uint64_t forget(side *s, uint64_t key, uint64_t now) { return told(s, rd_forget(at(s), key, now, &s->answer)); }
 static uint64_t clear(side *s, uint64_t now) { return told(s, rd_clear(at(s), now, &s->answer)); }
 static uint64_t clean(side *s, uint64_t now) { return told(s, rd_clean(at(s), now, &s->answer)); }
 
+static uint64_t drop(side *s, uint64_t key, uint64_t now) {
+	return told_with_notice(s, rd_drop_key_with_notice(at(s), key, now, &s->answer, s->notices));
+}
+
 static uint64_t put(side *s, uint64_t key, uint64_t token, uint32_t weight, uint64_t now) {
-	return told(s, rd_put(at(s), key, (rd_token){token, weight}, now, &s->answer));
+	return told_with_notice(s, rd_put_with_notice(at(s), key, (rd_token){token, weight}, now, &s->answer, s->notices));
 }
 
 static void tell_hits(side *s) { at(s); }
@@ -58,9 +70,8 @@ static uint64_t land_failed(side *s, uint64_t id, uint64_t key, uint64_t now) {
 
 // Where memory is refused the value isn't stored, and the load is closed.
 static uint64_t land(side *s, uint64_t id, uint64_t key, uint64_t token, uint32_t weight, uint64_t now) {
-	uint64_t fault = rd_land_keep(at(s), id, key, (rd_token){token, weight}, now, &s->answer);
-	if (fault) fault = rd_land_loose(at(s), id, key, now, &s->answer);
-	return told(s, fault);
+	if (!rd_land_keep_with_notice(at(s), id, key, (rd_token){token, weight}, now, &s->answer, s->notices)) return told_with_notice(s, 0);
+	return told(s, rd_land_loose(at(s), id, key, now, &s->answer));
 }
 */
 import "C"

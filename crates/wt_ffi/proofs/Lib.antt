@@ -1,3 +1,5 @@
 pub mod Walks
 pub mod AsBox
 pub mod Refusals
+pub mod Told
+pub mod LooksMade

@@ -1,22 +1,39 @@
--- What C's calls promise that come twice or more: one record for steps by number, one for steps by name, one for sweeps, one for
--- openings, one for notices. `told` is what is told after the call and `before` what stood there, `old` and `new` are the handle.
-use Rattle.std.specs.Prelude.{◌≡◌, ◌<◌, ℕ, List, Option, IfSome, IsNone, IsSome}
+-- What C's calls promise that come twice or more: one record for the steps of an open cache, one for steps by number, one for steps by
+-- name, one for sweeps, one for openings, one for notices, one for several look-ups. `told` is what is told after the call and `before` what stood there, `old` and `new` are the handle.
+use Rattle.std.specs.Prelude.{◌≡◌, ◌<◌, ℕ, Bool, List, Option, IfSome, IsNone, IsSome}
 use Rattle.wt_core.specs.State.{config_fault}
 use Rattle.wt_core.specs.declared.calls.Call.{Call}
 use Rattle.wt_ffi.specs.declared.answer.Answer.{Answer}
 use Rattle.wt_ffi.specs.declared.handle.Handle.{Handle}
 use Rattle.wt_ffi.specs.declared.opened.Opened.{Opened}
 use Rattle.wt_ffi.specs.declared.setup.Setup.{Setup}
+use Rattle.wt_ffi.specs.declared.steps.look_many.Looked.{Looked}
 use Rattle.wt_ffi.specs.declared.sweeps.Sweep.{Sweep}
 use Rattle.wt_ffi.specs.declared.text.Text.{Text}
 use Rattle.wt_ffi.specs.declared.token.Token.{Token}
+use Rattle.wt_ffi.specs.Calls as calls
 use Rattle.wt_ffi.specs.Handle.{cache_of, Has, HasNumbers, HasNames, IfOpen, IfNumbers, IsIdleIfClosed, IsIdleIfNames}
+use Rattle.wt_ffi.specs.Looks.{looked_through, AreAnswered}
 use Rattle.wt_ffi.specs.Named as by_name
 use Rattle.wt_ffi.specs.Names.{asked, IfAsked, number_unasked}
 use Rattle.wt_ffi.specs.Numbered as by_number
+use Rattle.wt_ffi.specs.Open.{Open}
 use Rattle.wt_ffi.specs.Setups.{Opens, config_of}
 use Rattle.wt_ffi.specs.Shows.{Reads}
 use Rattle.wt_ffi.specs.Sweeps as by_sweep
+
+-- a step of an open cache, whose keys are compared by eq and counted by their words
+pub record IsStepMade {K : Type 0} (eq : K → K → Bool) (word : K → ℕ) (call : Call K Token) (old new : Open K) (told : Answer) (result : ℕ) : Type 0 where
+  -- the cache after the step; kind 0 stands for a refusal of memory, which changes nothing but the notices
+  pub state : new ≡ calls.after eq word told.kind call old
+  -- the number that is returned: 0, or the fault's
+  pub number : result ≡ calls.number_after eq word told.kind call old
+  -- what is told of the step
+  pub answer : told ≡ calls.answer_after eq word told.kind call old
+  -- what the state refuses is refused whatever the memory does
+  pub refusal : calls.IsRefused eq word call old → 0 < told.kind
+  -- a call that takes no memory isn't refused any
+  pub memory : calls.IsFree eq call old → 0 < told.kind
 
 -- a call by number: on an open cache of numbers the definition's step, and else nothing, which the number returned tells
 pub record IsCall (call : ℕ → ℕ → Call ℕ Token) (key now : ℕ) (old new : Handle) (before told : Answer) (result : ℕ) : Type 0 where
@@ -86,3 +103,19 @@ pub record IsNoticeRead {L : Type 0} (found : Handle → Option (Option L)) (old
   pub other : IsSome (cache_of old) → IsNone (found old) → (result ≡ 103) × (told ≡ before)
   -- the cache stays as it is
   pub same : cache_of new ≡ cache_of old
+
+-- several look-ups by number: on an open cache of numbers they are made up to the first that is refused or tells a notice, and else
+-- nothing happens, which the number returned tells. `asked` are they before the call and `told` after it
+pub record IsLookedThrough (asked told : List Looked) (old new : Handle) (was count result : ℕ) : Type 0 where
+  -- the cache after them
+  pub state : IfNumbers old (λ c. HasNumbers new (looked_through told c).cache)
+  -- how many were made
+  pub made : IfNumbers old (λ c. count ≡ (looked_through told c).made)
+  -- the number that is returned: that of the last one's fault, or 0
+  pub number : IfNumbers old (λ c. result ≡ (looked_through told c).number)
+  -- the answer of each
+  pub answers : IfNumbers old (λ c. AreAnswered asked told c)
+  -- nothing happens if the cache is closed
+  pub closed : IsIdleIfClosed {T = List Looked × ℕ} old new (asked, was) (told, count) result
+  -- nor if its keys are names
+  pub other : IsIdleIfNames {T = List Looked × ℕ} old new (asked, was) (told, count) result

@@ -22,6 +22,7 @@ pub struct Answer {
 }
 
 // The answer, as it is told to C.
+#[inline(always)]
 pub(crate) fn answer_of(reply: &Reply<Token>, notices: u64) -> Answer
     ensures { result ≡ answer_of reply.now notices }
 {
@@ -86,6 +87,7 @@ pub(crate) fn answer_of(reply: &Reply<Token>, notices: u64) -> Answer
 }
 
 // The number that a call returns: the fault's, or 0.
+#[inline(always)]
 pub(crate) fn number_of(reply: &Reply<Token>) -> u64
     ensures { result ≡ number_of reply.now }
 {

@@ -1,8 +1,7 @@
 // A cache with the notices of its latest call.
-ghost use Rattle.std.specs.Prelude.{◌≡◌, ◌<◌};
-ghost use Rattle.wt_ffi.specs.Calls.{after, number_after, answer_after, IsRefused, IsFree};
+ghost use Rattle.wt_ffi.specs.Contract.{IsStepMade};
 
-use crate::answer::{Answer, answer_of, number_of};
+use crate::answer::Answer;
 use crate::token::Token;
 use std::marker::Model;
 use wt_core::{Call, Core};
@@ -29,24 +28,40 @@ impl<K: CacheKey> Model for Cached<K> {
 }
 
 impl<K: CacheKey> Cached<K> {
-    // Makes the call, and answers its fault's number, or 0. A memory refusal is kind 0 and number
-    // 1.
+    // Makes the call, and returns its fault's number, or 0. If memory was refused the answer's kind is
+    // 0 and the number 1.
+    //
+    // Each kind of call is a function in its own file of `steps`. Inlined, so that a caller that
+    // knows the kind leads straight to its function.
+    #[inline(always)]
     pub(crate) fn call(&mut self, call: Call<K, Token>, answer: &mut Answer) -> u64
-        ensures state { self.new ≡ after K.eq K.word answer.new.kind call self.old }
-        ensures number { result ≡ number_after K.eq K.word answer.new.kind call self.old }
-        ensures answer { answer.new ≡ answer_after K.eq K.word answer.new.kind call self.old }
-        ensures refusal { IsRefused K.eq K.word call self.old → 0 < answer.new.kind }
-        ensures memory { IsFree K.eq call self.old → 0 < answer.new.kind }
+        ensures made { IsStepMade K.eq K.word call self.old self.new answer.new result }
     {
-        self.notices.empty();
-        match self.core.take(call, &mut self.notices) {
-            Ok(reply) => {
-                let told = self.notices.list().len() as u64;
-                *answer = answer_of(&reply, told);
+        match call {
+            Call::Look(key, now) => self.look(key, now, answer),
+            Call::Seek(key, now) => self.seek(key, now, answer),
+            Call::Land(id, key, what, now) => self.land(id, key, what, now, answer),
+            Call::Put(key, value, now) => self.put(key, value, now, answer),
+            Call::DropKey(key, now) => self.drop_key(key, now, answer),
+            Call::Clear(now) => self.clear(now, answer),
+            Call::Forget(key, now) => self.forget(key, now, answer),
+            Call::Clean(now) => self.clean(now, answer),
+        }
+    }
+}
+
+// Writes what a step of the cache told, and is the number that the call returns.
+macro_rules! answered {
+    ($cache:expr, $answer:expr, $made:expr, $of:pat => $reply:expr) => {
+        match $made {
+            Ok($of) => {
+                let reply = $reply;
+                let told = $cache.notices.list().len() as u64;
+                *$answer = answer_of(&reply, told);
                 number_of(&reply)
             }
-            Err(_refused) => {
-                *answer = Answer {
+            Err(Fault::NoMemory) => {
+                *$answer = Answer {
                     kind: 0,
                     weight: 0,
                     token: 0,
@@ -55,6 +70,13 @@ impl<K: CacheKey> Cached<K> {
                 };
                 1
             }
+            Err(fault) => {
+                let reply = Reply::Refused(fault);
+                *$answer = answer_of(&reply, 0);
+                number_of(&reply)
+            }
         }
-    }
+    };
 }
+
+pub(crate) use answered;

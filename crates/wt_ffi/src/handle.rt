@@ -33,6 +33,7 @@ pub struct Handle {
 
 impl Handle {
     // Takes the cache out, if it is open, and leaves the handle closed.
+    #[inline(always)]
     pub(crate) fn take(&mut self, alloc: Global) -> Option<Box<Opened, Global>>
         ensures found { option_map (λ b. b.value) result ≡ self.old.pointer.cache }
         ensures closed { self.new.pointer.cache ≡ None }
@@ -49,6 +50,7 @@ impl Handle {
     }
 
     // Puts a cache in. The handle is to be closed: what was there would never be freed.
+    #[inline(always)]
     pub(crate) fn give(&mut self, opened: Box<Opened, Global>)
         requires { IsNone self.old.pointer.cache }
         ensures { self.new.pointer.cache ≡ Some opened.value }

@@ -21,5 +21,6 @@ pub use handle::Handle;
 pub use names::NameLeft;
 pub use setup::Setup;
 pub use shows::{Left, Numbers};
+pub use steps::look_many::Looked;
 pub use text::Text;
 pub use token::Token;

@@ -12,6 +12,7 @@ use wt_core::Call;
 
 // Makes a call on the handle's cache of numbers. Where it is closed or one of names nothing
 // happens, and `CLOSED` or `OTHER_KEYS` is returned.
+#[inline(always)]
 pub(crate) fn make(
     alloc: Global,
     handle: &mut Handle,

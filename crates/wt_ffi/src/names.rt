@@ -48,7 +48,7 @@ pub struct NameLeft {
     pub cause: u32,
 }
 
-fn name_left_of(notice: &Notice<Name, Token>) -> NameLeft
+pub(crate) fn name_left_of(notice: &Notice<Name, Token>) -> NameLeft
     ensures { result ≡ name_left_of notice.now }
 {
     NameLeft {
@@ -85,6 +85,7 @@ pub extern "C" fn rd_get_notice_name(
 
 // Makes a call on the handle's cache of names. Where it is closed or one of numbers nothing
 // happens, and `CLOSED` or `OTHER_KEYS` is returned.
+#[inline(always)]
 pub(crate) fn make_named(
     alloc: Global,
     handle: &mut Handle,

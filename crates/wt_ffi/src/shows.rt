@@ -66,7 +66,8 @@ pub(crate) fn cause_number(cause: Cause) -> u32
     }
 }
 
-fn left_of(notice: &Notice<u64, Token>) -> Left
+// The notice, as it is told to C.
+pub(crate) fn left_of(notice: &Notice<u64, Token>) -> Left
     ensures { result ≡ left_of notice.now }
 {
     Left {

@@ -31,6 +31,7 @@ fn call_of<K>(sweep: Sweep, now: u64) -> Call<K, Token>
 
 // Makes the call on the handle's cache. Where that is closed nothing happens, and `CLOSED` is
 // returned.
+#[inline(always)]
 pub(crate) fn make_sweep(
     alloc: Global,
     handle: &mut Handle,

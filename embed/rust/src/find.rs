@@ -103,23 +103,24 @@ impl<K, V, E, S> Loading<K, V, E, S> {
         Q: Eq + ToOwned<Owned = K> + ?Sized,
     {
         let (shard, at) = self.found(shard, hash, key);
+        if are_plain::<K, Q>() {
+            let new = || shard.store.table.new_place(hash, Arc::new(key.to_owned()));
+            let place = at.map_or_else(new, Place::At);
+            return (shard, place, None);
+        }
         match at {
             Some(at) => (shard, Place::At(at), None),
             None => self.new_place(shard, hash, key),
         }
     }
 
-    // The place of a key that isn't in use, or wasn't before it was cloned.
+    // The place of a key that isn't in use, or wasn't before it was cloned with no lock held.
     #[inline(never)]
     fn new_place<'a, Q>(&'a self, shard: Locked<'a, K, V, E>, hash: u64, key: &Q) -> Placed<'a, K, V, E>
     where
         K: Borrow<Q>,
         Q: Eq + ToOwned<Owned = K> + ?Sized,
     {
-        if are_plain::<K, Q>() {
-            let place = shard.store.table.new_place(hash, Arc::new(key.to_owned()));
-            return (shard, place, None);
-        }
         drop(shard);
         let owned = Arc::new(key.to_owned());
         let (shard, at) = self.found(self.shard(hash).take(), hash, key);

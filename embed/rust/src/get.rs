@@ -63,15 +63,16 @@ impl<K: Hash + Eq, V, E, S: BuildHasher> Loading<K, V, E, S> {
     {
         let hash = self.hash(key);
         let got = loop {
-            match self.seek(hash, key, now).map_err(GetError::Refused)? {
-                Sought::Value(value) => break Ok(value),
-                Sought::Lead(lead) => return lead.make(load),
-                Sought::Join(flight) => match flight.wait() {
+            match self.seek(hash, key, now) {
+                Ok(Sought::Value(value)) => break Ok(value),
+                Ok(Sought::Lead(lead)) => return lead.make(load),
+                Ok(Sought::Join(flight)) => match flight.wait() {
                     Ok(Outcome::Value(value)) => break Ok(value),
                     Ok(Outcome::Failed(error)) => break Err(GetError::Load(error)),
                     Ok(Outcome::Again) => {}
                     Err(_) => break Err(GetError::WaitsForItself),
                 },
+                Err(fault) => break Err(GetError::Refused(fault)),
             }
         };
         // What the loader owns may panic as it is dropped. Rust would never drop what this call had returned by then.

@@ -15,15 +15,30 @@ pub trait Key: sealed::Sealed + Copy + Default {
     #[doc(hidden)]
     unsafe fn seek(cache: *mut Handle, key: Self, now: u64, answer: *mut Answer) -> u64;
     #[doc(hidden)]
-    unsafe fn put(cache: *mut Handle, key: Self, value: Token, now: u64, answer: *mut Answer) -> u64;
+    unsafe fn put(
+        cache: *mut Handle,
+        key: Self,
+        value: Token,
+        now: u64,
+        answer: *mut Answer,
+        first: *mut Notice<Self>,
+    ) -> u64;
     #[doc(hidden)]
-    unsafe fn land_keep(cache: *mut Handle, id: u64, key: Self, value: Token, now: u64, answer: *mut Answer) -> u64;
+    unsafe fn land_keep(
+        cache: *mut Handle,
+        id: u64,
+        key: Self,
+        value: Token,
+        now: u64,
+        answer: *mut Answer,
+        first: *mut Notice<Self>,
+    ) -> u64;
     #[doc(hidden)]
     unsafe fn land_loose(cache: *mut Handle, id: u64, key: Self, now: u64, answer: *mut Answer) -> u64;
     #[doc(hidden)]
     unsafe fn land_failed(cache: *mut Handle, id: u64, key: Self, now: u64, answer: *mut Answer) -> u64;
     #[doc(hidden)]
-    unsafe fn drop_key(cache: *mut Handle, key: Self, now: u64, answer: *mut Answer) -> u64;
+    unsafe fn drop_key(cache: *mut Handle, key: Self, now: u64, answer: *mut Answer, first: *mut Notice<Self>) -> u64;
     #[doc(hidden)]
     unsafe fn forget(cache: *mut Handle, key: Self, now: u64, answer: *mut Answer) -> u64;
     #[doc(hidden)]
@@ -46,8 +61,15 @@ macro_rules! key {
             unsafe fn seek(cache: *mut Handle, key: Self, now: u64, answer: *mut Answer) -> u64 {
                 sys::$seek(cache, $given(&key), now, answer)
             }
-            unsafe fn put(cache: *mut Handle, key: Self, value: Token, now: u64, answer: *mut Answer) -> u64 {
-                sys::$put(cache, $given(&key), value, now, answer)
+            unsafe fn put(
+                cache: *mut Handle,
+                key: Self,
+                value: Token,
+                now: u64,
+                answer: *mut Answer,
+                first: *mut Notice<Self>,
+            ) -> u64 {
+                sys::$put(cache, $given(&key), value, now, answer, first)
             }
             unsafe fn land_keep(
                 cache: *mut Handle,
@@ -56,8 +78,9 @@ macro_rules! key {
                 value: Token,
                 now: u64,
                 answer: *mut Answer,
+                first: *mut Notice<Self>,
             ) -> u64 {
-                sys::$keep(cache, id, $given(&key), value, now, answer)
+                sys::$keep(cache, id, $given(&key), value, now, answer, first)
             }
             unsafe fn land_loose(cache: *mut Handle, id: u64, key: Self, now: u64, answer: *mut Answer) -> u64 {
                 sys::$loose(cache, id, $given(&key), now, answer)
@@ -65,8 +88,14 @@ macro_rules! key {
             unsafe fn land_failed(cache: *mut Handle, id: u64, key: Self, now: u64, answer: *mut Answer) -> u64 {
                 sys::$failed(cache, id, $given(&key), now, answer)
             }
-            unsafe fn drop_key(cache: *mut Handle, key: Self, now: u64, answer: *mut Answer) -> u64 {
-                sys::$drop(cache, $given(&key), now, answer)
+            unsafe fn drop_key(
+                cache: *mut Handle,
+                key: Self,
+                now: u64,
+                answer: *mut Answer,
+                first: *mut Notice<Self>,
+            ) -> u64 {
+                sys::$drop(cache, $given(&key), now, answer, first)
             }
             unsafe fn forget(cache: *mut Handle, key: Self, now: u64, answer: *mut Answer) -> u64 {
                 sys::$forget(cache, $given(&key), now, answer)
@@ -84,11 +113,11 @@ key!(
     rd_open,
     rd_look,
     rd_seek,
-    rd_put,
-    rd_land_keep,
+    rd_put_with_notice,
+    rd_land_keep_with_notice,
     rd_land_loose,
     rd_land_failed,
-    rd_drop_key,
+    rd_drop_key_with_notice,
     rd_forget,
     rd_get_notice
 );
@@ -98,11 +127,11 @@ key!(
     rd_open_names,
     rd_look_name,
     rd_seek_name,
-    rd_put_name,
-    rd_land_keep_name,
+    rd_put_name_with_notice,
+    rd_land_keep_name_with_notice,
     rd_land_loose_name,
     rd_land_failed_name,
-    rd_drop_name,
+    rd_drop_name_with_notice,
     rd_forget_name,
     rd_get_notice_name
 );

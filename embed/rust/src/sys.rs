@@ -161,27 +161,62 @@ unsafe extern "C" {
     pub fn rd_close(cache: *mut Handle) -> u64;
     pub fn rd_look(cache: *mut Handle, key: u64, now: u64, answer: *mut Answer) -> u64;
     pub fn rd_seek(cache: *mut Handle, key: u64, now: u64, answer: *mut Answer) -> u64;
-    pub fn rd_land_keep(cache: *mut Handle, id: u64, key: u64, value: Token, now: u64, answer: *mut Answer) -> u64;
     pub fn rd_land_loose(cache: *mut Handle, id: u64, key: u64, now: u64, answer: *mut Answer) -> u64;
     pub fn rd_land_failed(cache: *mut Handle, id: u64, key: u64, now: u64, answer: *mut Answer) -> u64;
-    pub fn rd_put(cache: *mut Handle, key: u64, value: Token, now: u64, answer: *mut Answer) -> u64;
-    pub fn rd_drop_key(cache: *mut Handle, key: u64, now: u64, answer: *mut Answer) -> u64;
     pub fn rd_forget(cache: *mut Handle, key: u64, now: u64, answer: *mut Answer) -> u64;
     pub fn rd_look_name(cache: *mut Handle, key: *const Name, now: u64, answer: *mut Answer) -> u64;
     pub fn rd_seek_name(cache: *mut Handle, key: *const Name, now: u64, answer: *mut Answer) -> u64;
-    pub fn rd_land_keep_name(
+    pub fn rd_land_loose_name(cache: *mut Handle, id: u64, key: *const Name, now: u64, answer: *mut Answer) -> u64;
+    pub fn rd_land_failed_name(cache: *mut Handle, id: u64, key: *const Name, now: u64, answer: *mut Answer) -> u64;
+    pub fn rd_forget_name(cache: *mut Handle, key: *const Name, now: u64, answer: *mut Answer) -> u64;
+    pub fn rd_land_keep_with_notice(
+        cache: *mut Handle,
+        id: u64,
+        key: u64,
+        value: Token,
+        now: u64,
+        answer: *mut Answer,
+        first: *mut Notice<u64>,
+    ) -> u64;
+    pub fn rd_put_with_notice(
+        cache: *mut Handle,
+        key: u64,
+        value: Token,
+        now: u64,
+        answer: *mut Answer,
+        first: *mut Notice<u64>,
+    ) -> u64;
+    pub fn rd_drop_key_with_notice(
+        cache: *mut Handle,
+        key: u64,
+        now: u64,
+        answer: *mut Answer,
+        first: *mut Notice<u64>,
+    ) -> u64;
+    pub fn rd_land_keep_name_with_notice(
         cache: *mut Handle,
         id: u64,
         key: *const Name,
         value: Token,
         now: u64,
         answer: *mut Answer,
+        first: *mut Notice<Name>,
     ) -> u64;
-    pub fn rd_land_loose_name(cache: *mut Handle, id: u64, key: *const Name, now: u64, answer: *mut Answer) -> u64;
-    pub fn rd_land_failed_name(cache: *mut Handle, id: u64, key: *const Name, now: u64, answer: *mut Answer) -> u64;
-    pub fn rd_put_name(cache: *mut Handle, key: *const Name, value: Token, now: u64, answer: *mut Answer) -> u64;
-    pub fn rd_drop_name(cache: *mut Handle, key: *const Name, now: u64, answer: *mut Answer) -> u64;
-    pub fn rd_forget_name(cache: *mut Handle, key: *const Name, now: u64, answer: *mut Answer) -> u64;
+    pub fn rd_put_name_with_notice(
+        cache: *mut Handle,
+        key: *const Name,
+        value: Token,
+        now: u64,
+        answer: *mut Answer,
+        first: *mut Notice<Name>,
+    ) -> u64;
+    pub fn rd_drop_name_with_notice(
+        cache: *mut Handle,
+        key: *const Name,
+        now: u64,
+        answer: *mut Answer,
+        first: *mut Notice<Name>,
+    ) -> u64;
     pub fn rd_clear(cache: *mut Handle, now: u64, answer: *mut Answer) -> u64;
     pub fn rd_clean(cache: *mut Handle, now: u64, answer: *mut Answer) -> u64;
     pub fn rd_get_notice(cache: *mut Handle, i: u64, notice: *mut Notice<u64>) -> u64;

@@ -1,7 +1,6 @@
 //! A cache of tokens: safe calls over `rookdresser.h`.
 use crate::key::Key;
 use crate::sys::{self, Answer, Handle, Notice, Numbers, Setup, Token};
-use std::marker::PhantomData;
 
 /// Why a call was refused. A refused call changes nothing.
 #[derive(Clone, Copy, Debug, PartialEq, Eq, Hash)]
@@ -97,7 +96,9 @@ fn is_v2() -> bool {
 pub struct Tokens<K = u64> {
     handle: Handle,
     told: u64,
-    keys: PhantomData<K>,
+    // The first notice of the latest call, if that handed it back and told any.
+    first: Notice<K>,
+    has_first: bool,
 }
 
 // SAFETY: `Box<Opened>`, to which the handle leads, is proved `Send` (`cache_is_sendable` of wt_ffi), and each call
@@ -112,16 +113,30 @@ impl<K: Key> Tokens<K> {
         let mut handle = Handle { at: std::ptr::null_mut(), is_open: false };
         // SAFETY: both lead to whole values that are borrowed for the call, and the handle is closed: all bytes are zero.
         match unsafe { K::open(setup, &mut handle) } {
-            0 => Ok(Tokens { handle, told: 0, keys: PhantomData }),
+            0 => Ok(Tokens { handle, told: 0, first: Notice::default(), has_first: false }),
             number => Err(fault(number)),
         }
     }
 
-    // SAFETY of each call below: the handle was made by `rd_open`, is ours alone, and is lent for the call beside an
-    // answer of this function's own.
     fn made(&mut self, call: impl FnOnce(&mut Handle, &mut Answer) -> u64) -> Result<Answer, Fault> {
+        self.has_first = false;
+        self.called(|h, a, _| call(h, a))
+    }
+
+    // The same of a call that hands its first notice back.
+    fn made_with_notice(
+        &mut self,
+        call: impl FnOnce(&mut Handle, &mut Answer, &mut Notice<K>) -> u64,
+    ) -> Result<Answer, Fault> {
+        self.has_first = true;
+        self.called(call)
+    }
+
+    // SAFETY of each call below: the handle was made by `rd_open`, is ours alone, and is lent for the call beside a notice of
+    // ours and an answer of this function's own.
+    fn called(&mut self, call: impl FnOnce(&mut Handle, &mut Answer, &mut Notice<K>) -> u64) -> Result<Answer, Fault> {
         let mut answer = Answer::default();
-        let number = call(&mut self.handle, &mut answer);
+        let number = call(&mut self.handle, &mut answer, &mut self.first);
         self.told = answer.notices;
         if number == 0 {
             Ok(answer)
@@ -142,12 +157,12 @@ impl<K: Key> Tokens<K> {
 
     /// Stores the value under the key.
     pub fn put(&mut self, key: K, value: Token, now: u64) -> Result<(), Fault> {
-        self.made(|h, a| unsafe { K::put(h, key, value, now, a) }).map(drop)
+        self.made_with_notice(|h, a, n| unsafe { K::put(h, key, value, now, a, n) }).map(drop)
     }
 
     /// Closes the load with a value that is to be stored. If memory is refused, the load stays open.
     pub fn land_keep(&mut self, id: u64, key: K, value: Token, now: u64) -> Result<Landed, Fault> {
-        self.made(|h, a| unsafe { K::land_keep(h, id, key, value, now, a) }).map(landed)
+        self.made_with_notice(|h, a, n| unsafe { K::land_keep(h, id, key, value, now, a, n) }).map(landed)
     }
 
     /// Closes the load with a value that is not to be stored. Takes no memory.
@@ -162,7 +177,7 @@ impl<K: Key> Tokens<K> {
 
     /// Takes the key's entry out, and tells whether an unexpired one was there. Its current load will store nothing.
     pub fn drop_key(&mut self, key: K, now: u64) -> Result<bool, Fault> {
-        self.made(|h, a| unsafe { K::drop_key(h, key, now, a) }).map(|a| a.number != 0)
+        self.made_with_notice(|h, a, n| unsafe { K::drop_key(h, key, now, a, n) }).map(|a| a.number != 0)
     }
 
     /// Lets nobody further join the key's current load, which will store nothing. Tells whether there was one.
@@ -188,6 +203,9 @@ impl<K: Key> Tokens<K> {
     /// What the latest call told to have left.
     pub fn notices(&mut self) -> impl Iterator<Item = Notice<K>> + '_ {
         (0..self.told).map(|i| {
+            if i == 0 && self.has_first {
+                return self.first;
+            }
             let mut notice = Notice::default();
             unsafe { K::get_notice(&mut self.handle, i, &mut notice) };
             notice

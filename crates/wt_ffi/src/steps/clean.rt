@@ -1,11 +1,25 @@
 // The removal of the expired entries, whichever keys the cache has.
 ghost use Rattle.wt_ffi.specs.declared.sweeps.Sweep.TheVariants as sweep;
-ghost use Rattle.wt_ffi.specs.Contract.{IsSweptCall};
+ghost use Rattle.wt_core.specs.declared.calls.Call.TheVariants.{Clean};
+ghost use Rattle.wt_ffi.specs.Contract.{IsStepMade, IsSweptCall};
 
-use crate::answer::Answer;
+use crate::answer::{Answer, answer_of, number_of};
+use crate::cached::{Cached, answered};
 use crate::handle::Handle;
 use crate::sweeps::{Sweep, make_sweep};
 use std::alloc::Global;
+use wt_core::Reply;
+use wt_keys::{CacheKey, Fault};
+
+impl<K: CacheKey> Cached<K> {
+    // Makes the removal of the expired entries, as `call` does.
+    pub(crate) fn clean(&mut self, now: u64, answer: &mut Answer) -> u64
+        ensures made { IsStepMade K.eq K.word (Clean now) self.old self.new answer.new result }
+    {
+        self.notices.empty();
+        answered!(self, answer, self.core.clean(now, &mut self.notices), () => Reply::Cleaned)
+    }
+}
 
 /// Takes every expired entry out: `RD_CLEANED`.
 ///

@@ -1,11 +1,25 @@
 // The removal of every entry, whichever keys the cache has.
 ghost use Rattle.wt_ffi.specs.declared.sweeps.Sweep.TheVariants as sweep;
-ghost use Rattle.wt_ffi.specs.Contract.{IsSweptCall};
+ghost use Rattle.wt_core.specs.declared.calls.Call.TheVariants.{Clear};
+ghost use Rattle.wt_ffi.specs.Contract.{IsStepMade, IsSweptCall};
 
-use crate::answer::Answer;
+use crate::answer::{Answer, answer_of, number_of};
+use crate::cached::{Cached, answered};
 use crate::handle::Handle;
 use crate::sweeps::{Sweep, make_sweep};
 use std::alloc::Global;
+use wt_core::Reply;
+use wt_keys::{CacheKey, Fault};
+
+impl<K: CacheKey> Cached<K> {
+    // Makes the removal of every entry, as `call` does.
+    pub(crate) fn clear(&mut self, now: u64, answer: &mut Answer) -> u64
+        ensures made { IsStepMade K.eq K.word (Clear now) self.old self.new answer.new result }
+    {
+        self.notices.empty();
+        answered!(self, answer, self.core.clear(now, &mut self.notices), () => Reply::Cleared)
+    }
+}
 
 /// Takes every entry out: `RD_CLEARED`. The loads that are open store nothing.
 ///

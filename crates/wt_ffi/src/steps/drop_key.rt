@@ -1,14 +1,26 @@
 // A removal, by number and by name.
 ghost use Rattle.wt_core.specs.declared.calls.Call.TheVariants.{DropKey};
-ghost use Rattle.wt_ffi.specs.Contract.{IsCall, IsNameCall};
+ghost use Rattle.wt_ffi.specs.Contract.{IsCall, IsNameCall, IsStepMade};
 
-use crate::answer::Answer;
+use crate::answer::{Answer, answer_of, number_of};
+use crate::cached::{Cached, answered};
 use crate::handle::{Handle, TOO_LONG};
 use crate::make::make;
 use crate::names::make_named;
 use crate::text::{Text, name_of};
 use std::alloc::Global;
-use wt_core::Call;
+use wt_core::{Call, Reply};
+use wt_keys::{CacheKey, Fault};
+
+impl<K: CacheKey> Cached<K> {
+    // Makes a removal, as `call` does.
+    pub(crate) fn drop_key(&mut self, key: K, now: u64, answer: &mut Answer) -> u64
+        ensures made { IsStepMade K.eq K.word (DropKey key now) self.old self.new answer.new result }
+    {
+        self.notices.empty();
+        answered!(self, answer, self.core.drop_key(key, now, &mut self.notices), was => Reply::Dropped(was))
+    }
+}
 
 /// Takes the key's entry out: `RD_DROPPED`, with 1 if an unexpired entry left, else 0.
 ///

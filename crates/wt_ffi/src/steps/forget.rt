@@ -1,14 +1,26 @@
 // The forgetting of a load, by number and by name.
 ghost use Rattle.wt_core.specs.declared.calls.Call.TheVariants.{Forget};
-ghost use Rattle.wt_ffi.specs.Contract.{IsCall, IsNameCall};
+ghost use Rattle.wt_ffi.specs.Contract.{IsCall, IsNameCall, IsStepMade};
 
-use crate::answer::Answer;
+use crate::answer::{Answer, answer_of, number_of};
+use crate::cached::{Cached, answered};
 use crate::handle::{Handle, TOO_LONG};
 use crate::make::make;
 use crate::names::make_named;
 use crate::text::{Text, name_of};
 use std::alloc::Global;
-use wt_core::Call;
+use wt_core::{Call, Reply};
+use wt_keys::{CacheKey, Fault};
+
+impl<K: CacheKey> Cached<K> {
+    // Makes the forgetting of a load, as `call` does.
+    pub(crate) fn forget(&mut self, key: K, now: u64, answer: &mut Answer) -> u64
+        ensures made { IsStepMade K.eq K.word (Forget key now) self.old self.new answer.new result }
+    {
+        self.notices.empty();
+        answered!(self, answer, self.core.forget(key, now, &mut self.notices), was => Reply::Forgot(was))
+    }
+}
 
 /// Lets no further caller join the key's current load: `RD_FORGOT`, with 1 if there was one, else
 /// 0.

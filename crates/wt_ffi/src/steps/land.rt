@@ -1,15 +1,40 @@
 // The closing of a load, by number and by name.
-ghost use Rattle.wt_ffi.specs.Calls.{failed, keep, loose};
+ghost use Rattle.std.specs.Prelude.{◌≡◌, ◌<◌};
+ghost use Rattle.wt_core.specs.declared.calls.Call.TheVariants.{Land as land};
+ghost use Rattle.wt_ffi.specs.Calls.{after, answer_after, failed, keep, loose, number_after, IsFree, IsRefused};
 ghost use Rattle.wt_ffi.specs.Contract.{IsCall, IsNameCall};
 
-use crate::answer::Answer;
+use crate::answer::{Answer, answer_of, number_of};
+use crate::cached::{Cached, answered};
 use crate::handle::{Handle, TOO_LONG};
 use crate::make::make;
 use crate::names::make_named;
 use crate::text::{Text, name_of};
 use crate::token::Token;
 use std::alloc::Global;
-use wt_core::{Call, Land};
+use wt_core::{Call, Land, Reply};
+use wt_keys::{CacheKey, Fault};
+
+impl<K: CacheKey> Cached<K> {
+    // Closes a load, as `call` does. For the prover: the clauses stand in full.
+    pub(crate) fn land(
+        &mut self,
+        id: u64,
+        key: K,
+        what: Land<Token>,
+        now: u64,
+        answer: &mut Answer,
+    ) -> u64
+        ensures state { self.new ≡ after K.eq K.word answer.new.kind (land id key what now) self.old }
+        ensures number { result ≡ number_after K.eq K.word answer.new.kind (land id key what now) self.old }
+        ensures answer { answer.new ≡ answer_after K.eq K.word answer.new.kind (land id key what now) self.old }
+        ensures refusal { IsRefused K.eq K.word (land id key what now) self.old → 0 < answer.new.kind }
+        ensures memory { IsFree K.eq (land id key what now) self.old → 0 < answer.new.kind }
+    {
+        self.notices.empty();
+        answered!(self, answer, self.core.land(id, key, what, now, &mut self.notices), reply => reply)
+    }
+}
 
 /// Closes a load with a value, which is stored if the load is current and the value isn't too
 /// heavy.

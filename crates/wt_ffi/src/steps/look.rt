@@ -1,14 +1,26 @@
 // A look-up, by number and by name.
 ghost use Rattle.wt_core.specs.declared.calls.Call.TheVariants.{Look};
-ghost use Rattle.wt_ffi.specs.Contract.{IsCall, IsNameCall};
+ghost use Rattle.wt_ffi.specs.Contract.{IsCall, IsNameCall, IsStepMade};
 
-use crate::answer::Answer;
+use crate::answer::{Answer, answer_of, number_of};
+use crate::cached::{Cached, answered};
 use crate::handle::{Handle, TOO_LONG};
 use crate::make::make;
 use crate::names::make_named;
 use crate::text::{Text, name_of};
 use std::alloc::Global;
-use wt_core::Call;
+use wt_core::{Call, Reply};
+use wt_keys::{CacheKey, Fault};
+
+impl<K: CacheKey> Cached<K> {
+    // Looks a key up, as `call` does.
+    pub(crate) fn look(&mut self, key: K, now: u64, answer: &mut Answer) -> u64
+        ensures made { IsStepMade K.eq K.word (Look key now) self.old self.new answer.new result }
+    {
+        self.notices.empty();
+        answered!(self, answer, self.core.look(key, now, &mut self.notices), reply => reply)
+    }
+}
 
 /// Looks the key up at the moment `now`: `RD_HIT` with its token, which is a use, or `RD_ABSENT`.
 ///

@@ -1,15 +1,27 @@
 // A store, by number and by name.
 ghost use Rattle.wt_ffi.specs.Calls.{put};
-ghost use Rattle.wt_ffi.specs.Contract.{IsCall, IsNameCall};
+ghost use Rattle.wt_ffi.specs.Contract.{IsCall, IsNameCall, IsStepMade};
 
-use crate::answer::Answer;
+use crate::answer::{Answer, answer_of, number_of};
+use crate::cached::{Cached, answered};
 use crate::handle::{Handle, TOO_LONG};
 use crate::make::make;
 use crate::names::make_named;
 use crate::text::{Text, name_of};
 use crate::token::Token;
 use std::alloc::Global;
-use wt_core::Call;
+use wt_core::{Call, Reply};
+use wt_keys::{CacheKey, Fault};
+
+impl<K: CacheKey> Cached<K> {
+    // Makes a store, as `call` does.
+    pub(crate) fn put(&mut self, key: K, value: Token, now: u64, answer: &mut Answer) -> u64
+        ensures made { IsStepMade K.eq K.word (put value key now) self.old self.new answer.new result }
+    {
+        self.notices.empty();
+        answered!(self, answer, self.core.put(key, value, now, &mut self.notices), () => Reply::Stored)
+    }
+}
 
 /// Stores the value under the key, in place of one that is there: `RD_STORED`.
 ///
