@@ -1,4 +1,5 @@
-//! A value whose share waits: a look-up that finds it holds its shard's lock until the gate opens.
+//! A gate, and a value whose share waits before it: a look-up that finds it holds its shard's lock
+//! until the gate opens.
 use std::alloc::Global;
 use std::marker::Model;
 use std::sync::Arc;
@@ -7,11 +8,12 @@ use std::thread;
 use wt_keys::{Answers, NoMemory, Share};
 use wt_regions::Weighs;
 
-/// Where a share waits. It tells that one has begun, and lets it go on once it is opened.
+/// Where a share or a drop waits. It tells that one has begun, and lets it go on once it is opened.
 #[derive(Drop)]
 pub struct Gate {
     begun: AtomicBool,
     open: AtomicBool,
+    given_up: AtomicBool,
 }
 
 // Returns whether the mark is set within 10,000,000 turns.
@@ -30,12 +32,36 @@ impl Gate {
     pub fn new(alloc: Global) -> Result<Arc<Gate, Global>, NoMemory> {
         let begun = AtomicBool::new(false);
         let open = AtomicBool::new(false);
-        Ok(Arc::new(alloc, Gate { begun, open })?)
+        let given_up = AtomicBool::new(false);
+        Ok(Arc::new(
+            alloc,
+            Gate {
+                begun,
+                open,
+                given_up,
+            },
+        )?)
     }
 
-    /// Waits for a share to begin. Returns whether one did within 10,000,000 turns.
+    /// Waits for one to begin. Returns whether it did within 10,000,000 turns.
     pub fn begins(&self) -> bool {
         comes(&self.begun)
+    }
+
+    /// Tells that somebody has come, and waits until the gate is open. Returns whether it was within
+    /// 10,000,000 turns.
+    pub fn passes(&self) -> bool {
+        self.begun.store(true, Ordering::SeqCst);
+        let passed = comes(&self.open);
+        if !passed {
+            self.given_up.store(true, Ordering::SeqCst);
+        }
+        passed
+    }
+
+    /// Returns whether one gave up waiting.
+    pub fn given_up(&self) -> bool {
+        self.given_up.load(Ordering::SeqCst)
     }
 
     /// Opens the gate, for good.
@@ -78,8 +104,7 @@ impl Share for Gated {
             return Ok(Gated::free());
         };
         let gate: &Gate = shared;
-        gate.begun.store(true, Ordering::SeqCst);
-        if !comes(&gate.open) {
+        if !gate.passes() {
             return Err(NoMemory);
         }
         Ok(Gated::by(Arc::try_clone(shared)?))

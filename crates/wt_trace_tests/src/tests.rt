@@ -1,6 +1,7 @@
 // What the tests share: options, inputs, and what a replay writes.
 mod compare;
 mod options;
+mod pieces;
 mod reports;
 mod streams;
 

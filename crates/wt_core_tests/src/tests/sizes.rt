@@ -1,9 +1,11 @@
-// The greatest sizes: as many entries as may be held, as many loads as may be open.
+// The greatest sizes: as many entries as may be held, as many loads as may be open; and more calls
+// in a run, and more sharers of a load, than any limit of a cache.
 use super::compare::{holds, same};
 use super::{Run, config, told};
+use std::alloc::Global;
 use std::process::Abort;
 use std::test::Fail;
-use wt_core::Config;
+use wt_core::{Call, Config, Region, Reply, run_calls};
 use wt_keys::Fault;
 use wt_tests::{Do, Loaded, Said, light};
 
@@ -113,5 +115,79 @@ fn as_many_loads_are_open_as_may_be(rt: HostRuntime) -> Result<(), Fail> {
     };
     let mut run: Run<Loaded> = Run::new(rt.alloc(), &limits)?;
     open_and_land_all(&rt, &mut run);
+    Ok(())
+}
+
+// Puts as many entries as window may hold: its order has each before those that were put earlier.
+fn order_all(rt: &impl Abort, alloc: Global, run: &mut Run<Loaded>) -> Result<(), Fail> {
+    for key in 0..65536u64 {
+        let made = told(run, Do::Put(light(key)), key, 0);
+        same(rt, "the reply to a put", made, Some(Said::Stored));
+    }
+    let order = run.core.order(alloc, Region::Window)?;
+    same(rt, "how many keys of window", order.len(), 65536);
+    let mut wanted = 65536u64;
+    for key in &order {
+        wanted = wanted.wrapping_sub(1);
+        same(rt, "a key of window in its order", *key, wanted);
+    }
+    Ok(())
+}
+
+#[test]
+fn an_order_is_as_long_as_a_region_may_be(rt: HostRuntime) -> Result<(), Fail> {
+    let mut run: Run<Loaded> = Run::new(rt.alloc(), &config(65536, 65536, 1 << 48))?;
+    order_all(&rt, rt.alloc(), &mut run)
+}
+
+// More than any limit of a cache.
+const MANY: u64 = 100_001;
+
+fn looks(alloc: Global) -> Result<Vec<Call<u64, Loaded>>, Fail> {
+    let mut calls = Vec::new(alloc);
+    for _ in 0..MANY {
+        calls.push(Call::Look(1, 0))?;
+    }
+    Ok(calls)
+}
+
+fn run_all(
+    rt: &impl Abort,
+    alloc: Global,
+    run: &mut Run<Loaded>,
+    calls: Vec<Call<u64, Loaded>>,
+) -> Result<(), Fail> {
+    let replies = run_calls(alloc, &mut run.core, calls, &mut run.notices)?;
+    same(rt, "how many replies", replies.len() as u64, MANY);
+    for reply in &replies {
+        holds(rt, "a look finds nothing", matches!(reply, Reply::Absent));
+    }
+    same(rt, "how many steps", run.core.step(), MANY);
+    Ok(())
+}
+
+#[test]
+fn a_run_may_be_long(rt: HostRuntime) -> Result<(), Fail> {
+    let calls = looks(rt.alloc())?;
+    let mut run: Run<Loaded> = Run::new(rt.alloc(), &config(4, 1, 10))?;
+    run_all(&rt, rt.alloc(), &mut run, calls)
+}
+
+// The first seek opens the load.
+fn share_all(rt: &impl Abort, run: &mut Run<Loaded>) {
+    let opened = told(run, Do::Seek, 1, 0);
+    same(rt, "the first seek", opened, Some(Said::Lead(1)));
+    for _ in 1..MANY {
+        let joined = told(run, Do::Seek, 1, 0);
+        same(rt, "a later seek", joined, Some(Said::Join(1)));
+    }
+    let landed = told(run, Do::Keep(1, light(5)), 1, 0);
+    same(rt, "the landing", landed, Some(Said::Kept(MANY)));
+}
+
+#[test]
+fn a_load_may_have_many_sharers(rt: HostRuntime) -> Result<(), Fail> {
+    let mut run: Run<Loaded> = Run::new(rt.alloc(), &config(4, 1, 10))?;
+    share_all(&rt, &mut run);
     Ok(())
 }
