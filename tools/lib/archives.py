@@ -58,13 +58,15 @@ def wheel(entries, package, version, moment):
     return out.getvalue()
 
 
-def members(data):
-    """What is in an archive: of each member by name its bytes, its mode and where it leads to; None for other files."""
-    if data[:2] == b"\x1f\x8b":
-        with tarfile.open(fileobj=io.BytesIO(data), mode="r:gz") as archive:
-            return {item.name: (archive.extractfile(item).read() if item.isfile() else b"", item.mode, item.linkname)
-                    for item in archive.getmembers()}
-    if data[:2] == b"PK":
-        with zipfile.ZipFile(io.BytesIO(data)) as archive:
-            return {item.filename: (archive.read(item), item.external_attr >> 16, "") for item in archive.infolist()}
-    return None
+def compare(path, again):
+    """Compares a file, or each that SHA256SUMS names, with that of its name in a folder. Prints a line for each, and returns the status."""
+    listed = path.read_text().splitlines() if path.name.startswith("SHA256SUMS") else ["  " + path.name]
+    names = [line.split("  ", 1)[1] for line in listed]
+    differ = 0
+    for name in names:
+        old, new = path.parent / name, again / name
+        same = old.exists() and new.exists() and old.read_bytes() == new.read_bytes()
+        print("%s: %s" % (name, "the same, sha256 %s" % hashlib.sha256(old.read_bytes()).hexdigest() if same else "differs"))
+        differ += not same
+    print("%d the same, %d differ" % (len(names) - differ, differ))
+    return 1 if differ else 0

@@ -1,107 +1,57 @@
-"""A browser without a window, for tools/gate/check_page: it is told what to do through the pipe of its DevTools protocol."""
-import base64
-import json
-import os
-import select
+"""A browser without a window for the checks of pages: Chromium, led by Selenium."""
 import shutil
-import subprocess
 import sys
-import tempfile
+
+# Where Debian's packages are, if another Python runs.
+sys.path.append("/usr/lib/python3/dist-packages")
+try:
+    from selenium import webdriver
+    from selenium.common.exceptions import WebDriverException as Failed
+    from selenium.webdriver.chrome.service import Service
+    from selenium.webdriver.common.keys import Keys
+except ImportError:
+    webdriver = None
+
+    class Failed(Exception):
+        """What the browser refused, if there were one."""
 
 NAMES = ("chromium", "chromium-browser", "google-chrome", "google-chrome-stable")
-KEYS = {"ArrowLeft": 37, "ArrowRight": 39, "Home": 36, "End": 35, "PageUp": 33, "PageDown": 34, "Escape": 27, "Tab": 9, "Enter": 13}
-PATIENCE = 60
-# The browser reads commands from file 3 and writes answers to file 4.
-START = """
-import fcntl, os, sys
-for file, copy in enumerate([fcntl.fcntl(int(number), fcntl.F_DUPFD, 10) for number in sys.argv[1:3]], 3):
-    os.dup2(copy, file)
-os.execv(sys.argv[3], sys.argv[3:])
-"""
+MISSING = "there is no browser of %s, or no chromedriver or Selenium beside it" % ", ".join(NAMES)
+KEYS = {"ArrowLeft": "ARROW_LEFT", "ArrowRight": "ARROW_RIGHT", "PageUp": "PAGE_UP", "PageDown": "PAGE_DOWN", "Home": "HOME", "End": "END", "Escape": "ESCAPE"}
 
 
 def found():
-    """The browser that is there, or None."""
-    return next((path for path in map(shutil.which, NAMES) if path), None)
-
-
-class Failed(Exception):
-    """What the browser refused, or that it no longer answers."""
+    """The browser that is there with what leads it, or None."""
+    return next((path for path in map(shutil.which, NAMES) if path), None) if webdriver and shutil.which("chromedriver") else None
 
 
 class Browser:
     """One page of the browser."""
 
     def __init__(self, path):
-        self.folder = tempfile.TemporaryDirectory(ignore_cleanup_errors=True)
-        given, self.commands = os.pipe()
-        self.answers, taken = os.pipe()
-        words = [path, "--headless", "--remote-debugging-pipe", "--disable-gpu", "--hide-scrollbars", "--no-first-run"]
-        words += ["--user-data-dir=" + self.folder.name, *(["--no-sandbox"] if os.geteuid() == 0 else [])]
-        self.child = subprocess.Popen([sys.executable, "-c", START, str(given), str(taken), *words], pass_fds=(given, taken),
-                                      stdout=subprocess.DEVNULL, stderr=subprocess.DEVNULL)
-        os.close(given)
-        os.close(taken)
-        self.number, self.rest, self.session, self.events = 0, b"", None, []
-        try:
-            self.begin()
-        except (Failed, OSError):
-            self.__exit__()
-            raise
-
-    def begin(self):
-        target = self.ask("Target.createTarget", url="about:blank")["targetId"]
-        self.session = self.ask("Target.attachToTarget", targetId=target, flatten=True)["sessionId"]
-        for domain in ("Page", "Runtime", "Network"):
-            self.ask(domain + ".enable")
+        options = webdriver.ChromeOptions()
+        options.binary_location = path
+        for word in ("--headless=new", "--no-sandbox", "--disable-gpu", "--hide-scrollbars"):
+            options.add_argument(word)
+        options.set_capability("goog:loggingPrefs", {"browser": "ALL"})
+        self.driver, self.thrown = webdriver.Chrome(service=Service(shutil.which("chromedriver")), options=options), []
 
     def __enter__(self):
         return self
 
     def __exit__(self, *_):
-        self.child.terminate()
-        self.child.wait()
-        os.close(self.commands)
-        os.close(self.answers)
-        self.folder.cleanup()
-
-    def next_message(self):
-        while b"\0" not in self.rest:
-            ready, _, _ = select.select([self.answers], [], [], PATIENCE)
-            part = os.read(self.answers, 2 ** 20) if ready else b""
-            if not part:
-                raise Failed("the browser no longer answers")
-            self.rest += part
-        message, _, self.rest = self.rest.partition(b"\0")
-        return json.loads(message)
+        self.driver.quit()
 
     def ask(self, method, **given):
-        """The answer to a command. Events that come before it are kept."""
-        self.number += 1
-        command = {"id": self.number, "method": method, "params": given}
-        if self.session:
-            command["sessionId"] = self.session
-        text = json.dumps(command).encode() + b"\0"
-        while text:
-            text = text[os.write(self.commands, text):]
-        while True:
-            message = self.next_message()
-            if message.get("id") == self.number:
-                if "error" in message:
-                    raise Failed("%s: %s" % (method, message["error"]["message"]))
-                return message["result"]
-            self.events.append(message)
-
-    def wait_for(self, method):
-        while not any(event.get("method") == method for event in self.events):
-            self.events.append(self.next_message())
+        """The answer to a command of the browser's own protocol."""
+        return self.driver.execute_cdp_cmd(method, given)
 
     def open(self, path, fragment=""):
         # From an empty page, since another fragment of the same file would load nothing.
-        for url in ("about:blank", "file://%s%s" % (path, fragment)):
-            self.events = []
-            self.ask("Page.navigate", url=url)
-            self.wait_for("Page.loadEventFired")
+        self.driver.get("about:blank")
+        self.driver.get_log("browser")
+        self.thrown = []
+        self.driver.get("file://%s%s" % (path, fragment))
 
     def value(self, expression):
         """What an expression of the page's script is."""
@@ -111,14 +61,10 @@ class Browser:
         return told["result"].get("value")
 
     def press(self, key, shift=False):
-        more = {"text": key.upper() if shift else key} if len(key) == 1 else {}
-        code = KEYS.get(key, ord(key.upper()) if len(key) == 1 else 0)
-        for kind in ("keyDown", "keyUp"):
-            self.ask("Input.dispatchKeyEvent", type=kind, key=key.upper() if shift else key, windowsVirtualKeyCode=code, modifiers=8 if shift else 0,
-                     **(more if kind == "keyDown" else {}))
+        self.type(getattr(Keys, KEYS[key]) if key in KEYS else key.upper() if shift else key)
 
     def type(self, text):
-        self.ask("Input.insertText", text=text)
+        webdriver.ActionChains(self.driver, duration=0).send_keys(text).perform()
 
     def colours(self, scheme, motion="reduce"):
         """Light or dark, and mostly without motion, so that what is seen stands still."""
@@ -129,10 +75,10 @@ class Browser:
         self.ask("Emulation.setDeviceMetricsOverride", width=width, height=height, deviceScaleFactor=1, mobile=width < 600)
 
     def screenshot(self, path):
-        path.write_bytes(base64.b64decode(self.ask("Page.captureScreenshot", format="png", captureBeyondViewport=False)["data"]))
+        path.write_bytes(self.driver.get_screenshot_as_png())
 
     def faults(self):
         """What the page's script threw, and what it asked for from elsewhere, since the page was opened."""
-        thrown = [event["params"]["exceptionDetails"]["text"] for event in self.events if event.get("method") == "Runtime.exceptionThrown"]
-        asked = [event["params"]["request"]["url"] for event in self.events if event.get("method") == "Network.requestWillBeSent"]
-        return thrown + [url for url in asked if not url.startswith(("file:", "about:", "data:"))]
+        self.thrown += [entry["message"] for entry in self.driver.get_log("browser") if entry["level"] == "SEVERE"]
+        asked = self.value("performance.getEntriesByType('resource').map((entry) => entry.name)")
+        return self.thrown + [url for url in asked if not url.startswith(("file:", "data:"))]

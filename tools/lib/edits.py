@@ -42,13 +42,41 @@ def replaced(folder, text):
     return applied(folder, text)[1]
 
 
-class Edit:
+class Guards:
+    """What an edit guards, by its first lines, and the files of the crate that it changes.
+
+    A line `call: Type::method` is followed by a line `clause: label, label`, or by `clause: of its trait` if the call's promise is that of
+    a trait; there may be several such pairs. `test: name, name` names tests of the same rules.
+    """
+
+    def __init__(self, path):
+        self.path, self.name, self.text = path, path.stem, path.read_text()
+        self.guards, self.tests, self.unread = [], [], []
+        head = ("\n" + self.text).partition("\nfile: ")[0].strip("\n")
+        for line in head.split("\n") if head else []:
+            self.read(line)
+        self.files = sorted(set(re.findall(r"^file: (.*)$", self.text, re.M)))
+
+    def read(self, line):
+        kind, _, rest = line.partition(": ")
+        items = [item.strip() for item in rest.split(",")]
+        if kind == "call":
+            self.guards.append((rest, []))
+        elif kind == "clause" and self.guards:
+            self.guards[-1][1].extend([] if rest == "of its trait" else items)
+        elif kind == "test":
+            self.tests += items
+        else:
+            self.unread.append(line)
+
+
+class Edit(Guards):
     """An edit of a crate: the functions that it guards, and those whose lines it changes."""
 
     def __init__(self, path, sources):
-        self.path, self.name, self.text = path, path.stem, path.read_text()
+        super().__init__(path)
         self.crate = path.parent.parent
-        self.labels = {label.strip().split(".")[0] for line in re.findall(r"^clause: (.*)$", self.text, re.M) for label in line.split(",")}
+        self.labels = {label.split(".")[0] for _, labels in self.guards for label in labels or ["of its trait"]}
         self.changed, self.is_outside = [], False
         for file, old, _ in changes_of(self.text):
             holder = self.holder(file, old, sources)
@@ -67,7 +95,7 @@ class Edit:
     def calls(self, sources):
         """The functions that it guards. A trait's call is that of the impl whose body changes."""
         files, found = {file for file, _, _ in changes_of(self.text)}, []
-        for call in re.findall(r"^call: (.*)$", self.text, re.M):
+        for call, _ in self.guards:
             kind, _, name = call.rpartition("::")
             changed = [one for one in self.changed if one.name == name and (not kind or kind in (one.of_type, one.of_trait))]
             found += [one for one in changed or sources.named(call, files) if one not in found]

@@ -1,8 +1,10 @@
-"""The functions of a crate's sources: their names as the prover prints them, and the lines that they take."""
+"""The functions of a crate's sources: their names as the prover prints them, the lines that they take, their signatures and contracts."""
 import re
+import textwrap
 from dataclasses import dataclass, field
 
 FUNCTION = re.compile(r"^(\s*)(?:pub(?:\([a-z]+\))?\s+)?(?:const\s+)?(?:unsafe\s+)?(?:final\s+)?(?:extern\s+\"C\"\s+)?fn\s+(\w+)")
+CLAUSE = re.compile(r"^\s*(requires|ensures)\*?\s+(?:(\w+)\s+)?\{")
 IMPL = re.compile(r"^(\s*)impl\b(.*)$")
 TRAIT = re.compile(r"^(\s*)(?:pub(?:\([a-z]+\))?\s+)?trait\s+(\w+)")
 
@@ -18,6 +20,7 @@ class Function:
     module: tuple
     of_type: str = ""
     of_trait: str = ""
+    in_trait: bool = False
     has_body: bool = True
 
     def printed(self):
@@ -33,7 +36,7 @@ def type_and_trait(head):
     for letter in head.split(" where ")[0].split("{")[0]:
         depth += {"<": 1, ">": -1}.get(letter, 0)
         plain += letter if depth == 0 and letter != ">" else ""
-    names = [word.split("::")[-1] for word in re.findall(r"[\w:]+", plain)]
+    names = [word.split("::")[-1] for word in re.findall(r"[\w:]+|\(\)", plain)]
     if "for" in names:
         at = names.index("for")
         return names[min(at + 1, len(names) - 1)], names[at - 1]
@@ -66,24 +69,33 @@ class Sources:
         return min(holders, key=lambda one: one.last - one.first, default=None)
 
 
+def owners_of(lines):
+    """Of each line the `impl` or `trait` that it is in: the indentation, the type, the trait, and whether it is a trait."""
+    owner, owners = None, []
+    for at, line in enumerate(lines):
+        if owner and line.startswith(owner[0] + "}"):
+            owner = None
+        impl, trait = IMPL.match(line), TRAIT.match(line)
+        if impl:
+            head = " ".join(" ".join(lines[at:at + 8]).split("{")[0].split())
+            owner = (impl.group(1), *type_and_trait(IMPL.match(head).group(2)), False)
+        elif trait:
+            owner = (trait.group(1), trait.group(2), "", True)
+        owners.append(owner)
+    return owners
+
+
 def functions_of(path, crate):
     """The functions of a file. rustfmt's indentation tells where a function and an impl end."""
     inside = path.relative_to(crate / "src").with_suffix("")
     module = () if str(inside) in ("lib", "main") else tuple(part for part in inside.parts if part != "mod")
-    lines, owner, found = path.read_text().split("\n"), None, []
-    for at, line in enumerate(lines):
-        if owner and line.startswith(owner[0] + "}"):
-            owner = None
-        impl, trait, function = IMPL.match(line), TRAIT.match(line), FUNCTION.match(line)
-        if impl:
-            head = " ".join(" ".join(lines[at:at + 8]).split("{")[0].split())
-            owner = (impl.group(1), *type_and_trait(IMPL.match(head).group(2)))
-        elif trait:
-            owner = (trait.group(1), trait.group(2), "")
-        elif function:
+    lines, found = path.read_text().split("\n"), []
+    for at, (line, owner) in enumerate(zip(lines, owners_of(lines))):
+        function = FUNCTION.match(line)
+        if function:
             last, has_body = end_of(lines, at, function.group(1))
-            kind = owner[1:] if owner and len(function.group(1)) > len(owner[0]) else ("", "")
-            found.append(Function(function.group(2), str(path.relative_to(crate)), at, last, module, *kind, has_body))
+            kind = owner[1:] if owner and len(function.group(1)) > len(owner[0]) else ("", "", False)
+            found.append(Function(function.group(2), str(path.relative_to(crate)), at, last, module, *kind, has_body=has_body))
     return found
 
 
@@ -96,3 +108,49 @@ def end_of(lines, at, indent):
         if line.endswith(";") and "{" not in " ".join(lines[at:number + 1]):
             return number, False
     return at, False
+
+
+def braced(lines, number):
+    """The text from the first brace of a line to the one that closes it."""
+    text, depth = "", 0
+    for line in lines[number:]:
+        for c in line[line.index("{") :] if not text else line:
+            depth += {"{": 1, "}": -1}.get(c, 0)
+            text += c
+            if depth == 0:
+                return text
+        text += "\n"
+    return text
+
+
+def above(lines, at):
+    """The comment above a line, without its slashes, and the attributes."""
+    comment, attributes = [], []
+    for line in reversed(lines[:at]):
+        line = line.strip()
+        if not line.startswith(("//", "#[")):
+            break
+        if line.startswith("#["):
+            attributes.append(line)
+        else:
+            comment.insert(0, re.sub(r"^/+ ?", "", line).rstrip())
+    return comment, attributes
+
+
+def head_of(lines, at):
+    """The signature of the function that begins at a line, and its contract: the clauses with the comments between them."""
+    signature, contract, depth = [], [], 0
+    for line in lines[at:]:
+        plain = line.split("//")[0].rstrip()
+        if not contract and not line.lstrip().startswith("//") and not CLAUSE.match(line):
+            signature.append(re.sub(r"\s*(?:\{\}?|;)$", "", line))
+            if plain.endswith(("{", "{}", ";")):
+                break
+            continue
+        if not depth and plain.strip() in ("{", "{}"):
+            break
+        depth += plain.count("{") - plain.count("}")
+        contract.append(re.sub(r"(?<=\});$", "", line))
+        if not depth and plain.endswith("};"):
+            break
+    return tuple(textwrap.dedent("\n".join(part)).strip("\n") for part in (signature, contract))

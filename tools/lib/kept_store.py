@@ -10,7 +10,6 @@ its maker: these proofs aren't made again.
 import hashlib
 import os
 import subprocess
-import sys
 import tarfile
 from pathlib import Path
 

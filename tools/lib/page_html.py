@@ -4,7 +4,7 @@ import re
 from html import escape
 from pathlib import Path
 
-from page_words import JUMPS, MARKS, SENTENCES, WORDS
+from page_words import MARKS, SENTENCES, WORDS
 
 PARTS = Path(__file__).resolve().parent / "page"
 SCRIPTS = ("state.js", "draw.js", "moves.js")

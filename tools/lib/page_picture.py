@@ -1,6 +1,5 @@
 """The still picture of tools/show_trace --picture: some lines of a trace one below the other, each with the regions after it."""
 import re
-from html import escape
 
 from curve_svg import BOLD, cut, line, svg, text, width_of
 from page_html import PARTS, settings_told

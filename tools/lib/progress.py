@@ -1,8 +1,8 @@
 #!/usr/bin/env python3
 """Says how far a run is. As a program it runs a command of rt: tools/lib/progress.py NAME (--brief SECONDS | --last FILE) COMMAND..
 
-On a terminal a line moves at the bottom: which crate of how many is at work, how much is proved, the time so far. In a log there is a
-line for each crate that begins or ends. With --brief all that the command prints is shown only if it fails, and SECONDS, which the
+On a terminal a line moves at the bottom: which crate of how many is at work, and the time so far. In a log there is a line for each crate
+that begins, or in the gate ends. With --brief all that the command prints is shown only if it fails, and SECONDS, which the
 run is reckoned to take, tell the time that is left. With --last the output is passed on, but for the last line, which goes to the
 file. The exit status is the command's. If this program is interrupted or killed, the command is too.
 """
@@ -17,12 +17,8 @@ from pathlib import Path
 
 from words import end
 
-FUNCTION = re.compile(r"^fn (\w+)::.*: proved")
 BEGUN = re.compile(r"^(?:rt: chose --jobs \d+ for|==) (\w+)")
-TOTAL = re.compile(r"^so far: (\d+) of (\d+) functions")
-ENDED = re.compile(r"^logic=(\w+) functions=(\d+)")
-GATE = re.compile(r"^(?:rt: )?\w+(?:: its tests are)? (?:proved|NOT PROVED)$|^(?:rt: )?\w+: trying its must-fail edits \(\d+\)$")
-REFUSED = re.compile(r"^(?:rt: )?must-fail \S+: refused")
+GATE = re.compile(r"^(?:rt: )?(\w+(?:: its tests are)? (?:proved|NOT PROVED)|\w+: trying its must-fail edits \(\d+\))$")
 # What the moving line leaves no room for, on a terminal.
 NOISE = re.compile(r"^(?:fn |statements |library |logic |crate |by-macro: |so far: |==)")
 
@@ -52,11 +48,8 @@ class Progress:
 
     def __init__(self, name, of_gate, crates=0, seconds=0):
         self.name, self.of_gate, self.start = name, of_gate, time.monotonic()
-        self.crates, self.seconds, self.begun = crates, seconds, []
-        self.crate, self.proved, self.total, self.refused = "", 0, 0, 0
-        self.ended, self.notes = [], []
-        self.moves = sys.stderr.isatty()
-        self.lock = threading.Lock()
+        self.crates, self.seconds, self.begun, self.latest = crates, seconds, [], ""
+        self.moves, self.lock = sys.stderr.isatty(), threading.Lock()
 
     def time_so_far(self):
         minutes, seconds = divmod(int(time.monotonic() - self.start), 60)
@@ -66,52 +59,22 @@ class Progress:
         left = self.seconds - (time.monotonic() - self.start)
         return ", some %d min left" % (left / 60 + 1) if left > 0 else ""
 
-    def place(self, crate):
-        """Which crate of how many it is, in the order in which they begin."""
-        if crate not in self.begun:
-            self.begun.append(crate)
-        number = self.begun.index(crate) + 1
-        return "crate %d of %d: %s" % (number, max(number, self.crates), crate)
-
     def read(self, line):
-        """Takes notice of a line; returns what is worth a line in a log."""
-        begun, function, total, ended, gate = (pattern.match(line) for pattern in (BEGUN, FUNCTION, TOTAL, ENDED, GATE))
-        if gate:
-            self.ended.append(line.removeprefix("rt: "))
-            return self.ended[-1]
-        if self.of_gate:
-            self.proved += bool(function)
-            self.refused += bool(REFUSED.match(line))
+        """Takes notice of a line; returns what is worth a line in a log: in the gate how a crate ended, else which crate begins."""
+        begun, gate = BEGUN.match(line), GATE.match(line)
+        new = begun is not None and begun.group(1) not in self.begun
+        if new:
+            self.begun.append(begun.group(1))
+        if not gate and (self.of_gate or not new):
             return None
-        if begun and begun.group(1) not in self.begun:
-            self.crate, self.proved, self.total = begun.group(1), 0, 0
-            return self.place(self.crate)
-        if begun:
-            self.crate = begun.group(1)
-        elif function:
-            self.crate = function.group(1)
-            self.proved += 1
-        elif total:
-            self.proved, self.total = int(total.group(1)), int(total.group(2))
-        elif ended and self.crate:
-            text = "%s: %s functions %s" % (self.place(self.crate), ended.group(2), ended.group(1))
-            self.ended.append(self.crate)
-            self.proved = self.total = 0
-            return text
-        return None
+        number = len(self.begun)
+        self.latest = gate.group(1) if gate else "crate %d of %d: %s" % (number, max(number, self.crates), begun.group(1))
+        return self.latest
 
     def line(self):
-        parts = ["tools/%s: %s%s" % (self.name, self.time_so_far(), self.time_left())]
-        if self.ended and self.of_gate:
-            proved = len({text.split(":")[0].split()[0] for text in self.ended if text.endswith(" proved")})
-            parts.append("%d of %d crates and %d functions proved; latest: %s" % (proved, self.crates, self.proved, self.ended[-1]))
-        if self.crate and self.total:
-            parts.append("%s: %d of %d functions" % (self.place(self.crate), self.proved, self.total))
-        elif self.crate and self.proved:
-            parts.append("%s: %d functions" % (self.place(self.crate), self.proved))
-        elif self.crate and self.crate not in self.ended:
-            parts.append(self.place(self.crate))
-        return "; ".join(parts)[:200]
+        of_gate = ", crate %d of %d" % (len(self.begun), max(len(self.begun), self.crates)) if self.of_gate and self.begun else ""
+        return "tools/%s: %s%s%s%s" % (
+            self.name, self.time_so_far(), self.time_left(), of_gate, "; " + self.latest if self.latest else "")
 
     def draw(self):
         if self.moves:

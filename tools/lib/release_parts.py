@@ -61,7 +61,7 @@ def for_system(built, needs):
     pages = tracked("README.md", "CHANGELOG.md", "CONTRIBUTING.md", "docs", "embed/*.md", "traces",
                     "tools/README.md", "bench/README.md")
     entries = {
-        "INSTALL.md": entry("docs/INSTALL.md"),
+        "GUIDE.md": Entry(link=SHARE + "docs/GUIDE.md"),
         "install": Entry((OWN / "install").read_bytes(), runs=True),
         "bin/wt_replay": Entry(built.program.read_bytes(), runs=True),
         "lib/librookdresser.a": Entry((library / "librookdresser.a").read_bytes()),

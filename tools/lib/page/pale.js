@@ -1,4 +1,4 @@
-// The texts of a page whose contrast with what is behind them is below 4.5, for tools/gate/check_page.
+// The texts of a page whose contrast with what is behind them is below 4.5, for the checks in a browser.
 (() => {
   const canvas = document.createElement("canvas").getContext("2d", { willReadFrequently: true });
   const numbers = (colour) => {

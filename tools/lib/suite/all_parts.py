@@ -5,10 +5,10 @@ import sys
 from .part import Part
 
 # The checks of pages and sources, each with the seconds that it takes.
-CHECKS = {"check_version": 1, "check_layout": 2, "check_prose": 1, "check_guarantees": 1, "print_pages": 1, "check_rules": 1, "check_options": 1,
-          "check_readme": 1, "check_pictures": 1, "check_checkers": 30, "check_native_steps": 1, "check_native_steps --wrong": 5}
+CHECKS = {"check_facts": 1, "check_layout": 2, "check_prose": 1, "check_guards": 1, "check_rules": 1, "check_options": 1, "check_readers": 1,
+          "check_checkers": 30, "check_native_steps": 1, "check_native_steps --wrong": 5}
 # Those of the program, which stands where a proved one would.
-OF_PROGRAM = {"check_program": ((), (), 40), "check_options --built": ((), (), 1), "check_pictures --built": ((), (), 2),
+OF_PROGRAM = {"check_program": ((), (), 40), "check_options --built": ((), (), 1),
               "refuse_memory --program": (("cc",), (), 5), "check_tools": ((), (), 60), "check_page": (("chromium",), (), 60)}
 LANGUAGES = {"c": (("gcc", "g++", "nm", "objdump", "pkg-config"), 90), "rust": (("cargo", "cargo-clippy"), 300),
              "python": (("mypy", "python3-dbg"), 300), "go": (("go",), 200)}
@@ -24,7 +24,7 @@ def of_sources(copy):
     for words, seconds in CHECKS.items():
         name, *flags = words.split()
         yield Part("sources: " + words, python(copy / "tools" / "gate" / name, *flags), copy, seconds,
-                   needs=("rt",) if name in ("check_version", "check_layout") else ())
+                   needs=("rt",) if name == "check_layout" else ())
 
 
 def of_crates(copy):
@@ -72,6 +72,7 @@ def of_pages(copy):
         if re.search(r"^```sh$", (copy / name).read_text(), re.M):
             yield Part(name, python(run, name), copy, 100 if name in ("CONTRIBUTING.md", "embed/README.md") else 20,
                        needs=("rt", "cc", "cargo", "go", "pkg-config"), after=("the program", "the library", "a release"))
+    yield Part("the book", python(copy / "tools" / "gate" / "check_book"), copy, 30, needs=("pandoc",))
     yield Part("commands in sentences", python(run, "--sentences"), copy, 10)
 
 
