@@ -6,7 +6,7 @@ import java.util.concurrent.atomic.AtomicLong;
 import java.util.concurrent.atomic.LongAdder;
 
 /**
- * Through caffeine|guava through|held THREADS CALLS MULTIPLICATIONS: what the harness of bench/threads does, on Caffeine or Guava. Rounds
+ * Through caffeine|guava skewed|held THREADS CALLS MULTIPLICATIONS: what the harness does, on Caffeine or Guava. Rounds
  * on other caches come first and warm the compiler up. Prints the nanoseconds, how many loads began, the sum of all values, and the
  * nanoseconds of processor, of the last round alone.
  */

@@ -1,4 +1,4 @@
-//! main through|held THREADS CALLS MULTIPLICATIONS: what the harness of bench/threads does, on Rust's lru crate in a Mutex. A load holds
+//! main skewed|held THREADS CALLS MULTIPLICATIONS: what the harness does, on Rust's lru crate in a Mutex. A load holds
 //! no lock, so two threads may load one key at once. Prints the nanoseconds, how many loads began, and the sum of all values.
 use std::sync::Mutex;
 use std::thread;
