@@ -36,7 +36,7 @@ def build(program, crate=CRATES / "wt_replay"):
     kit = unproved.kit_folder()
     with tempfile.TemporaryDirectory(prefix="unproved-") as name:
         folder = Path(name)
-        text = unproved.without_checks(module_of(kit, folder, crate))
+        text = unproved.with_hints(unproved.without_checks(module_of(kit, folder, crate)), [path.name for path in CRATES.iterdir()])
         (folder / "program.ll").write_text(re.sub('"target-cpu"="x86-64"', '"target-cpu"="x86-64-v2"', text))
         subprocess.run([kit / "toolchain" / "bin" / "clang", *unproved.FLAGS, "--sysroot=%s" % (kit / "toolchain"), "-c", "-x", "ir", "program.ll",
                         "-o", "program.o", "-fPIE", "-O3"], cwd=folder, check=True)
