@@ -2,7 +2,8 @@
 
 An edit is refused if a function that it guards or changes has an open goal of its own: a clause that the edit's first lines name, the
 invariant of a loop that carries the clause, or a clause of an inner function that it changes. An edit that is refused by another goal
-alone, as by what a callee requires, is told apart. That a function calls one that isn't proved is no goal of its own.
+alone, as by what a callee requires, or by a function that it doesn't change, is told apart. That a function calls one that isn't proved
+is no goal of its own.
 Why a refusal here is one of a whole check too: the prover is asked for the named functions and what they call in their modules, and a
 whole check proves those and more. An edit that only another function's proof refuses shows as not refused.
 """
@@ -118,9 +119,13 @@ class Trial:
             return BAD, self.wrong[edit.name]
         names = [name for name in by_call if belongs(name, edit)]
         own = [(goal, name) for name in names for goal in goals.get(name, [])]
-        if own and not strange:
+        alone = len(self.edits) == 1
+        if own and (alone or not strange):
             named = [(goal, name) for goal, name in own if is_carried(goal, name, edit)]
             return (REFUSED if named else BY_OTHER), "%s of %s" % (named or own)[0]
+        # Alone in a copy of a proved crate, it is this edit for which another function can't be proved.
+        if alone and strange:
+            return BY_OTHER, "%s, which it doesn't change" % strange[0]
         if any(belongs(name, edit) for name in limits):
             return AT_LIMIT, "it gave no verdict"
         if names or self.status == 3:
