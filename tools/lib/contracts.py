@@ -5,7 +5,7 @@ import textwrap
 from dataclasses import dataclass, field
 from pathlib import Path
 
-from edits import Guards
+from edits import Guards, paths_of
 from functions import CLAUSE, FUNCTION, above, braced, functions_of, head_of, owners_of
 from places import CRATES
 from spec_words import PATH, Uses, Words, first_sentence
@@ -70,8 +70,7 @@ class Crate:
             self.read_source(path)
         for path in sorted((self.folder / "specs").rglob("*.antt")):
             self.read_words(path)
-        paths = [path for place in ("must-fail", "edits") for path in (self.folder / place).glob("*.edit")]
-        self.edits = [Guards(path) for path in sorted(paths, key=lambda path: path.stem)]
+        self.edits = [Guards(path) for path in paths_of(self.folder)]
 
     def read_source(self, path):
         """Adds what one source file has."""
@@ -187,20 +186,6 @@ def add_fields(crate, call, label, record, crates):
 
 def all_crates():
     return crates_in(c for c in sorted(CRATES.iterdir()) if (c / "src").is_dir() and c.name.startswith("wt_"))
-
-
-def stands_on(path):
-    """The crates below each crate, by crates.txt."""
-    direct = {}
-    for line in path.read_text().split("\n"):
-        if ":" in line and not line.lstrip().startswith("#"):
-            head, _, tail = line.partition(":")
-            direct[head.split()[0]] = set(tail.split())
-    below = {name: set(of) for name, of in direct.items()}
-    for _ in below:
-        for name, of in below.items():
-            below[name] = of.union(*(direct.get(c, set()) for c in of))
-    return below
 
 
 def said_of(call, crate, crates):

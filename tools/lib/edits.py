@@ -10,6 +10,11 @@
 import re
 
 
+def paths_of(crate):
+    """The paths of a crate's edits. `rt ci` tries those of must-fail/ too."""
+    return sorted((path for place in ("edits", "must-fail") for path in (crate / place).glob("*.edit")), key=lambda path: path.stem)
+
+
 def changes_of(text):
     """The changes of an edit in their order: the file, the old and the new text."""
     found, file, old = [], "", ""

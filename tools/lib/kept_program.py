@@ -9,11 +9,10 @@ import os
 import shutil
 import subprocess
 import sys
-import threading
-import time
 
 import unproved_program
 from places import CRATES, TOP
+from progress import Line
 from unproved_program import unproved
 from words import Parser, end
 
@@ -31,35 +30,20 @@ def sum_of_sources():
     return told.hexdigest()[:16]
 
 
-def tell_seconds(ended):
-    """On a terminal: how long the build has taken so far."""
-    began = time.monotonic()
-    while not ended.wait(1):
-        sys.stderr.write("\r\x1b[Ktools/try: building, %.0f s of some 60" % (time.monotonic() - began))
-        sys.stderr.flush()
-    sys.stderr.write("\r\x1b[K")
-    sys.stderr.flush()
-
-
 def built(folder):
     """Builds the program into a folder of its own, which then takes its place whole. What was built of other sources goes."""
     KEPT.mkdir(parents=True, exist_ok=True)
-    made, ended = KEPT / ("%s.%d" % (folder.name, os.getpid())), threading.Event()
+    made = KEPT / ("%s.%d" % (folder.name, os.getpid()))
     made.mkdir()
-    teller = threading.Thread(target=tell_seconds, args=(ended,), daemon=True)
-    if sys.stderr.isatty():
-        teller.start()
     try:
-        unproved_program.build(made / "wt_replay")
+        with Line("tools/try").each_second(lambda: "building, which takes some 60 s"):
+            unproved_program.build(made / "wt_replay")
         for other in KEPT.iterdir():
             if other not in (made, folder) and "." not in other.name:
                 shutil.rmtree(other, ignore_errors=True)
         if not folder.exists():
             made.rename(folder)
     finally:
-        ended.set()
-        if teller.is_alive():
-            teller.join()
         shutil.rmtree(made, ignore_errors=True)
 
 

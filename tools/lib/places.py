@@ -20,6 +20,20 @@ def not_built(path=PROGRAM, by="sh tools/replay --build"):
     return "%s isn't built yet; `%s` builds it" % (shown(path), by)
 
 
+def stands_on(page=TOP / "crates.txt"):
+    """The crates below each crate, by crates.txt."""
+    direct = {}
+    for line in page.read_text().split("\n"):
+        if ":" in line and not line.startswith("#"):
+            head, _, tail = line.partition(":")
+            direct[head.split()[0]] = set(tail.split())
+    below = {name: set(of) for name, of in direct.items()}
+    for _ in below:
+        for name, of in below.items():
+            below[name] = of.union(*(direct.get(c, set()) for c in of))
+    return below
+
+
 def version_of():
     """The version, as the program says it."""
     return re.search(r'^const VERSION: &str = "(.*)";$', (TOP / VERSION_FILE).read_text(), re.M).group(1)

@@ -1,11 +1,12 @@
 #!/usr/bin/env python3
 """Says how far a run is. As a program it runs a command of rt: tools/lib/progress.py NAME (--brief SECONDS | --last FILE) COMMAND..
 
-On a terminal a line moves at the bottom: which crate of how many is at work, and the time so far. In a log there is a line for each crate
-that begins, or in the gate ends. With --brief all that the command prints is shown only if it fails, and SECONDS, which the
-run is reckoned to take, tell the time that is left. With --last the output is passed on, but for the last line, which goes to the
-file. The exit status is the command's. If this program is interrupted or killed, the command is too.
+A line says which crate of how many is at work, and the time so far. On a terminal it moves at the bottom; in a log there is a line for
+each crate that begins. With --brief all that the command prints is shown only if it fails, and SECONDS, which the run is reckoned to
+take, tell the time that is left. With --last the output is passed on, but for the last line, which goes to the file. The exit status
+is the command's. If this program is interrupted or killed, it ends the command.
 """
+import contextlib
 import os
 import re
 import signal
@@ -15,81 +16,80 @@ import threading
 import time
 from pathlib import Path
 
+from places import stands_on
 from words import end
 
 BEGUN = re.compile(r"^(?:rt: chose --jobs \d+ for|==) (\w+)")
-GATE = re.compile(r"^(?:rt: )?(\w+(?:: its tests are)? (?:proved|NOT PROVED)|\w+: trying its must-fail edits \(\d+\))$")
-# What the moving line leaves no room for, on a terminal.
-NOISE = re.compile(r"^(?:fn |statements |library |logic |crate |by-macro: |so far: |==)")
 
 
 class Line:
     """A line at the bottom of a terminal that says how far a run is, once it has lasted two seconds; in a log nothing."""
 
     def __init__(self, name):
-        self.name, self.start, self.drawn = name, time.monotonic(), 0.0
+        self.name, self.start, self.drawn, self.lock = name, time.monotonic(), 0.0, threading.Lock()
         self.moves = sys.stderr.isatty()
 
-    def tell(self, text):
+    def text(self, words):
+        minutes, seconds = divmod(int(time.monotonic() - self.start), 60)
+        return "%s: %s, %s%d s" % (self.name, words, "%d min " % minutes if minutes else "", seconds)
+
+    def tell(self, words):
         now = time.monotonic()
-        if self.moves and now - self.start > 2 and now - self.drawn > 0.1:
-            self.drawn = now
-            sys.stderr.write("\r\x1b[K%s: %s, %.0f s" % (self.name, text, now - self.start))
-            sys.stderr.flush()
+        with self.lock:
+            if self.moves and now - self.start > 2 and now - self.drawn > 0.1:
+                self.drawn = now
+                sys.stderr.write("\r\x1b[K" + self.text(words))
+                sys.stderr.flush()
 
     def wipe(self):
-        if self.moves and self.drawn:
-            sys.stderr.write("\r\x1b[K")
-            sys.stderr.flush()
+        self.above("", sys.stderr)
+
+    def above(self, text, stream):
+        """Writes a text in the place of the line, which the next `tell` draws below it."""
+        with self.lock:
+            if self.moves and self.drawn:
+                sys.stderr.write("\r\x1b[K")
+                sys.stderr.flush()
+            stream.write(text)
+            stream.flush()
+
+    @contextlib.contextmanager
+    def each_second(self, words):
+        """Tells what `words` returns, each second until the block ends."""
+        ended = threading.Event()
+
+        def tick():
+            while not ended.wait(1):
+                self.tell(words())
+
+        teller = threading.Thread(target=tick, daemon=True)
+        teller.start()
+        try:
+            yield
+        finally:
+            ended.set()
+            teller.join()
+            self.wipe()
 
 
 class Progress:
     """How far a command of rt is, read from its lines: of so many crates, and in so many seconds as it is reckoned to take."""
 
-    def __init__(self, name, of_gate, crates=0, seconds=0):
-        self.name, self.of_gate, self.start = name, of_gate, time.monotonic()
-        self.crates, self.seconds, self.begun, self.latest = crates, seconds, [], ""
-        self.moves, self.lock = sys.stderr.isatty(), threading.Lock()
-
-    def time_so_far(self):
-        minutes, seconds = divmod(int(time.monotonic() - self.start), 60)
-        return "%d min %02d s" % (minutes, seconds) if minutes else "%d s" % seconds
-
-    def time_left(self):
-        left = self.seconds - (time.monotonic() - self.start)
-        return ", some %d min left" % (left / 60 + 1) if left > 0 else ""
+    def __init__(self, crates, seconds=0):
+        self.crates, self.end, self.begun = crates, time.monotonic() + seconds, []
 
     def read(self, line):
-        """Takes notice of a line; returns what is worth a line in a log: in the gate how a crate ended, else which crate begins."""
-        begun, gate = BEGUN.match(line), GATE.match(line)
-        new = begun is not None and begun.group(1) not in self.begun
-        if new:
-            self.begun.append(begun.group(1))
-        if not gate and (self.of_gate or not new):
-            return None
-        number = len(self.begun)
-        self.latest = gate.group(1) if gate else "crate %d of %d: %s" % (number, max(number, self.crates), begun.group(1))
-        return self.latest
+        """Whether the line says that another crate begins."""
+        found = BEGUN.match(line)
+        is_new = found is not None and found.group(1) not in self.begun
+        if is_new:
+            self.begun.append(found.group(1))
+        return is_new
 
-    def line(self):
-        of_gate = ", crate %d of %d" % (len(self.begun), max(len(self.begun), self.crates)) if self.of_gate and self.begun else ""
-        return "tools/%s: %s%s%s%s" % (
-            self.name, self.time_so_far(), self.time_left(), of_gate, "; " + self.latest if self.latest else "")
-
-    def draw(self):
-        if self.moves:
-            sys.stderr.write("\r\x1b[K" + self.line())
-            sys.stderr.flush()
-
-    def wipe(self):
-        if self.moves:
-            sys.stderr.write("\r\x1b[K")
-            sys.stderr.flush()
-
-    def note(self, text):
-        """A plain line, in a log or above the line that moves."""
-        self.wipe()
-        print("tools/%s: %s, %s so far%s" % (self.name, text, self.time_so_far(), self.time_left()), file=sys.stderr, flush=True)
+    def words(self):
+        number, left = len(self.begun), self.end - time.monotonic()
+        told = "crate %d of %d: %s" % (number, max(number, self.crates), self.begun[-1]) if number else "at work"
+        return told + (", some %d min left" % (left / 60 + 1) if left > 0 else "")
 
 
 def read_words(words):
@@ -101,40 +101,43 @@ def read_words(words):
     return None
 
 
-def crates_to_prove(of_gate):
+def crates_to_prove():
     """How many crates there are, or those that the crate in the current folder is made of."""
-    top = Path(__file__).resolve().parent.parent.parent
-    lines = [line.split(":", 1) for line in (top / "crates.txt").read_text().splitlines() if ":" in line and not line.startswith("#")]
-    uses = {head.split()[0]: below.split() for head, below in lines}
-    found, left = set(), list(uses) if of_gate else [Path.cwd().name]
-    while left:
-        name = left.pop()
-        if name in uses and name not in found:
-            found.add(name)
-            left += uses[name]
-    return len(found)
+    below, here = stands_on(), Path.cwd().name
+    return len({here, *below[here]} & set(below) if here in below else below)
 
 
-class Command:
-    """A command in a group of processes of its own, all of which end if this program is interrupted or killed."""
+def stop(number, _):
+    signal.signal(number, signal.SIG_IGN)
+    raise SystemExit(128 + number)
 
-    def __init__(self, words):
-        self.child = subprocess.Popen(words, stdin=subprocess.DEVNULL, stdout=subprocess.PIPE, stderr=subprocess.STDOUT, text=True, errors="replace",
-                                      start_new_session=True)
 
-    def __enter__(self):
+def follow(line, progress, last, command):
+    """Runs the command in a group of processes of its own, and tells how far it is; its status."""
+    child = subprocess.Popen(command, stdin=subprocess.DEVNULL, stdout=subprocess.PIPE, stderr=subprocess.STDOUT, text=True, errors="replace",
+                             start_new_session=True)
+    kept = []
+    try:
         for number in (signal.SIGTERM, signal.SIGHUP, signal.SIGINT):
-            signal.signal(number, self.stop)
-        return self
-
-    def stop(self, number, _):
-        signal.signal(number, signal.SIG_IGN)
-        raise SystemExit(128 + number)
-
-    def __exit__(self, kind, _, __):
-        if kind is not None:
-            os.killpg(self.child.pid, signal.SIGTERM)
-        self.child.wait()
+            signal.signal(number, stop)
+        with line.each_second(progress.words):
+            for text in child.stdout:
+                if progress.read(text) and not line.moves:
+                    print(line.text(progress.words()), file=sys.stderr, flush=True)
+                kept.append(text)
+                if last and len(kept) > 1:
+                    line.above(kept.pop(0), sys.stdout)
+        status = child.wait()
+    except SystemExit:
+        os.killpg(child.pid, signal.SIGTERM)
+        child.wait()
+        print("%s: interrupted" % line.name, file=sys.stderr)
+        raise
+    if last:
+        last.write_text("".join(kept))
+    elif status:
+        sys.stderr.write("".join(kept))
+    return status
 
 
 def main():
@@ -146,49 +149,7 @@ def main():
         print("progress.py: it takes NAME (--brief SECONDS | --last FILE) COMMAND..; `progress.py --help` tells more", file=sys.stderr)
         return 2
     name, last, seconds, command = read
-    progress = Progress(name, last is not None, crates_to_prove(last is not None), seconds)
-    try:
-        return follow(progress, last, command)
-    except SystemExit:
-        progress.wipe()
-        print("tools/%s: interrupted" % name, file=sys.stderr)
-        raise
-
-
-def follow(progress, last, command):
-    """Runs the command, and tells how far it is; its status."""
-    brief, kept, stopped = last is None, [], threading.Event()
-
-    def tick():
-        while not stopped.wait(1):
-            with progress.lock:
-                progress.draw()
-
-    def pass_on(line):
-        if not (progress.moves and (NOISE.match(line) or GATE.match(line.rstrip("\n")))):
-            progress.wipe()
-            print(line, end="", flush=True)
-
-    if progress.moves:
-        threading.Thread(target=tick, daemon=True).start()
-    with Command(command) as run:
-        for line in run.child.stdout:
-            with progress.lock:
-                told = progress.read(line.rstrip("\n"))
-                if told:
-                    progress.note(told)
-                kept.append(line)
-                if not brief and len(kept) > 1:
-                    pass_on(kept.pop(0))
-        status = run.child.wait()
-    stopped.set()
-    with progress.lock:
-        progress.wipe()
-    if brief and status:
-        print("".join(kept), end="", file=sys.stderr)
-    if not brief:
-        last.write_text("".join(kept))
-    return status
+    return follow(Line("tools/" + name), Progress(crates_to_prove(), seconds), last, command)
 
 
 if __name__ == "__main__":

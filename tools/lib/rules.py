@@ -4,7 +4,7 @@ import re
 from places import TOP
 
 PAGE = TOP / "docs" / "PROMISES.md"
-LINK = re.compile(r"\[`([^`]+)`\]\(([^)]+)\)((?:,? `[\w.]+`)*)( \(untried\))?")
+LINK = re.compile(r"\[`([^`]+)`\]\(([^)]+)\)((?:,? `[\w.]+`)*)")
 
 
 def rows_of(page, columns):
@@ -36,7 +36,7 @@ def rules_in(page):
 
 
 def linked(text):
-    """The links of a text: each name, its target, the text in backquotes behind it, and whether it is called untried."""
+    """The links of a text: each name, its target, and the text in backquotes behind it."""
     return LINK.findall(text)
 
 
@@ -45,7 +45,7 @@ def tests_by_call(crates, page=PAGE):
     shown, every = {}, set().union(*(crate.tests for crate in crates.values()))
     for _, _, _, text in rules_in(page):
         found = linked(text)
-        tests = [name for name, _, _, _ in found if name in every]
-        for name, target, _, _ in found:
+        tests = [name for name, _, _ in found if name in every]
+        for name, target, _ in found:
             shown.setdefault((target.split("/")[2], name), []).extend(tests)
     return shown

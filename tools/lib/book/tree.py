@@ -2,9 +2,9 @@
 import re
 from urllib.parse import quote
 
-from contracts import PROMISE_NOTHING, all_crates, stands_on
+from contracts import PROMISE_NOTHING, all_crates
 from labels import labels_in
-from places import CRATES, TOP
+from places import CRATES, TOP, stands_on
 from rules import PAGE, linked, rules_in, tests_by_call
 from spec_words import Links
 
@@ -26,7 +26,7 @@ class Tree:
     """The crates, and the addresses of their calls, types, words, edits and tests."""
 
     def __init__(self):
-        crates, below = all_crates(), stands_on(TOP / "crates.txt")
+        crates, below = all_crates(), stands_on()
         self.crates = {name: crates[name] for name in sorted(crates, key=lambda name: (len(below.get(name, ())), name))}
         self.shown = {name: self.calls_shown(crate) for name, crate in self.crates.items() if name not in PROMISE_NOTHING}
         self.shown = {name: calls for name, calls in self.shown.items() if calls}
@@ -48,7 +48,7 @@ class Tree:
         """Of each call, by its crate, the rules that link to it: the sentence and the section."""
         found = {}
         for section, _, rule, text in rules_in(PAGE):
-            for name, target, _, _ in linked(text):
+            for name, target, _ in linked(text):
                 found.setdefault((target.split("/")[2], name), []).append((rule, section))
         return found
 
