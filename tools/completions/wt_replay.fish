@@ -1,18 +1,6 @@
-# Completion of wt_replay for fish: put this file into ~/.config/fish/completions. Made by tools/gate/check_options --write.
+# Completion of wt_replay for fish: put this file into ~/.config/fish/completions. It asks the program for its options.
 complete -c wt_replay -f
-complete -c wt_replay -l shards -x -a '1 2 4' -d 'Number of shards: 1, 2 or 4 [1]'
-complete -c wt_replay -l entries -x -a '1 1024 65536' -d 'Entries that a shard may hold: 1 to 65536 [1024]'
-complete -c wt_replay -l window -x -a '1' -d 'Entries that its window may hold: 1 to entries [entries / 100, at least 1]'
-complete -c wt_replay -l weight -x -a '1 281474976710656' -d 'Weight that its entries may have together: 1 to 281474976710656 [281474976710656]'
-complete -c wt_replay -l mod -x -a '1 1000000' -d 'Values weigh 1 plus the key, or the word of a name, modulo this: 1 to 1000000 [1]'
-complete -c wt_replay -l write -x -a '1' -d 'After so long without a store an entry expires: 1 up [never]'
-complete -c wt_replay -l access -x -a '1' -d 'After so long without a use an entry expires: 1 up [never]'
-complete -c wt_replay -l refresh -x -a '1' -d 'After so long a stored entry is loaded again: 1 up [never]'
-complete -c wt_replay -l fail-mod -x -a '1' -d 'Loads fail whose key, or word of a name, this divides: 1 up [none fails]'
-complete -c wt_replay -l flights -x -a '1 32 4096' -d 'Loads that a shard may have open: 1 to 4096 [32]'
-complete -c wt_replay -l ring -x -a '65536' -d 'Steps that a shard may record: flights + 1 to 65536 [64, or flights + 1]'
-complete -c wt_replay -l threads -x -a '0 64' -d 'Threads that replay shard by shard: 0 to 64 [0]'
-complete -c wt_replay -l turn -x -a '0 64' -d 'Threads that take turns with the lines on one shared cache; only the summary is written: 0 to 64 [0]'
-complete -c wt_replay -l workers -x -a '0 64' -d 'Threads that run the loads of a replay turn by turn: 0 to 64 [0]'
-complete -c wt_replay -l help -d 'Print help'
-complete -c wt_replay -l version -d 'Print version'
+for line in (wt_replay --help | string match -r -- '--[a-z-]+ .*')
+    set -l words (string split -m 1 -n -- ' ' (string replace -r -- '<n> +' '' $line))
+    complete -c wt_replay -l (string sub -s 3 -- $words[1]) -d (string trim -- $words[2])
+end

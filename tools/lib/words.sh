@@ -31,9 +31,10 @@ takes_none() {
     [ $# -eq 0 ] || refuse "$script" "it takes no words, and was given $1"
 }
 
-# The program's options, from a completion, which tools/gate/check_options compares with docs/FORMATS.md and the program.
+# The program's options, from its man page, which tools/gate/check_options compares with docs/FORMATS.md and the program.
 program_options() {
-    sed -n "s/^complete -c wt_replay -l \([a-z-]*\) .*-d '\(.*\)'\$/\1 \2/p" "$top/tools/completions/wt_replay.fish"
+    sed -n '/^\.It Fl Fl [a-z-]* Ar /{N;N;N;s/^\.It Fl Fl \([a-z-]*\) .*\n\(.*\)\.\nRange: \(.*\)\.\nDefault: \(.*\)\.$/\1 \2: \3 [\4]/p;}' \
+        "$top/docs/wt_replay.1"
 }
 
 # Whether the program has an option of this name.
