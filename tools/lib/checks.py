@@ -33,11 +33,12 @@ class Outcomes:
         self.passed = self.failed = 0
         self.progress = Line(Path(sys.argv[0]).name)
 
-    def check(self, title, well):
+    def check(self, title, well, why=None):
+        """Counts a check. `why` returns what else to print of one that failed."""
         self.passed, self.failed = self.passed + bool(well), self.failed + (not well)
         if not well:
             self.progress.wipe()
-            print("FAIL %s" % title, flush=True)
+            print("FAIL %s" % title, *([why()] if why else []), sep="\n", flush=True)
         self.progress.tell("%d passed, %d failed; latest: %s" % (self.passed, self.failed, title[:60]))
 
     def end(self):

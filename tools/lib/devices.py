@@ -125,8 +125,8 @@ def slow_input(program):
     return (child.returncode, out, err) == (0, TWO_REPORT + TWO_SUMMARY, b"")
 
 
-def check(program):
-    """Makes all of these runs, and tells which weren't as foretold."""
+def check_all(program, check):
+    """Makes all of these runs."""
     outcomes = [(title, run(program, words, given) == (status, out, err)) for title, words, given, status, out, err in RUNS]
     outcomes += [("refused: %s" % words, refused_line(program, words)) for words in REFUSED]
     outcomes += [
@@ -141,7 +141,4 @@ def check(program):
         ("input byte by byte", slow_input(program)),
     ]
     for title, well in outcomes:
-        if not well:
-            print("FAIL %s" % title)
-    well = sum(1 for _, outcome in outcomes if outcome)
-    return well, len(outcomes) - well
+        check(title, well)

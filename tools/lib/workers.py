@@ -55,20 +55,11 @@ def most_busy(program, turn, workers, given):
     return most
 
 
-def check(program, progress):
-    """Runs each row until a run shows all its threads busy, and tells of which none did."""
-    passed, failed, given = 0, 0, trace()
+def check_all(program, check):
+    """Runs each row until a run shows all its threads busy."""
+    given = trace()
     for turn, workers in ROWS:
-        title = "--turn %d --workers %d" % (turn, workers)
-        progress.tell(title)
         seen = []
         while len(seen) < TRIES and turn + workers not in seen:
             seen.append(min(turn + workers, most_busy(program, turn, workers, given)))
-        if turn + workers in seen:
-            passed += 1
-        else:
-            failed += 1
-            progress.wipe()
-            print("FAIL %s: at most %d threads were busy at once in %d runs" % (title, max(seen), TRIES))
-    progress.wipe()
-    return passed, failed
+        check("--turn %d --workers %d: at most %d threads were busy at once in %d runs" % (turn, workers, max(seen), len(seen)), turn + workers in seen)
