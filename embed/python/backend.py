@@ -9,6 +9,7 @@ One module serves every CPython from 3.10 on. CC and CFLAGS are followed.
 """
 import base64
 import hashlib
+import io
 import os
 import re
 import shlex
@@ -74,11 +75,6 @@ def metadata(said, version):
     return "\n".join([*head, (HERE / "README.md").read_text()])
 
 
-def wheel_text(tag):
-    """Returns what stands in a wheel's file WHEEL."""
-    return "Wheel-Version: 1.0\nGenerator: rookdresser\nRoot-Is-Purelib: false\nTag: %s\n" % tag
-
-
 def tag_of(platform):
     """Returns the tag of a wheel that is built by this Python."""
     version = "cp%d%d" % sys.version_info[:2]
@@ -90,21 +86,28 @@ def modules():
     return [path for path in sorted(PACKAGE.glob("*")) if path.suffix in (".py", ".pyi") or path.name == "py.typed"]
 
 
-def _write(folder, files):
-    """Writes a wheel of these files, by name, into a folder. Returns its name."""
-    said, tag = about(), tag_of(sysconfig.get_platform().replace("-", "_").replace(".", "_"))
-    version = said["version"]
+def wheel(files, version, tag):
+    """Returns the name and the bytes of a wheel of these files, by name: the same bytes for the same files."""
     info = "rookdresser-%s.dist-info/" % version
-    files = {**files, info + "METADATA": metadata(said, version).encode(), info + "WHEEL": wheel_text(tag).encode()}
+    head = "Wheel-Version: 1.0\nGenerator: rookdresser\nRoot-Is-Purelib: false\nTag: %s\n" % tag
+    files = {**files, info + "METADATA": metadata(about(), version).encode(), info + "WHEEL": head.encode()}
     rows = ["%s,sha256=%s,%d" % (name, base64.urlsafe_b64encode(hashlib.sha256(data).digest()).rstrip(b"=").decode(), len(data))
             for name, data in files.items()]
     files[info + "RECORD"] = "\n".join([*rows, info + "RECORD,,", ""]).encode()
-    name = "rookdresser-%s-%s.whl" % (version, tag)
-    with zipfile.ZipFile(Path(folder, name), "w", zipfile.ZIP_DEFLATED) as archive:
-        for of, data in files.items():
-            item = zipfile.ZipInfo(of)
-            item.external_attr = 0o100644 << 16
+    out = io.BytesIO()
+    with zipfile.ZipFile(out, "w") as archive:
+        for name, data in files.items():
+            # With the date of 1980 that an item has by default.
+            item = zipfile.ZipInfo(name)
+            item.compress_type, item.external_attr = zipfile.ZIP_DEFLATED, 0o100644 << 16
             archive.writestr(item, data)
+    return "rookdresser-%s-%s.whl" % (version, tag), out.getvalue()
+
+
+def _write(folder, files):
+    """Writes a wheel of these files, by name, into a folder. Returns its name."""
+    name, data = wheel(files, about()["version"], tag_of(sysconfig.get_platform().replace("-", "_").replace(".", "_")))
+    Path(folder, name).write_bytes(data)
     return name
 
 

@@ -1,11 +1,8 @@
 """Archives that are the same for the same content: entries in order, one date, no owner, and modes of two kinds."""
-import base64
 import gzip
 import hashlib
 import io
 import tarfile
-import time
-import zipfile
 
 PROGRAM_MODE, FILE_MODE = 0o755, 0o644
 
@@ -21,14 +18,6 @@ class Entry:
         return PROGRAM_MODE if self.runs else FILE_MODE
 
 
-def zipped(data):
-    """The bytes by gzip, without a name or a date."""
-    out = io.BytesIO()
-    with gzip.GzipFile("", "wb", 9, out, mtime=0) as packed:
-        packed.write(data)
-    return out.getvalue()
-
-
 def tar_gz(entries, top, moment):
     """A tar.gz of the entries by name, all below one folder."""
     out = io.BytesIO()
@@ -39,23 +28,7 @@ def tar_gz(entries, top, moment):
             if entry.link is not None:
                 item.type, item.linkname, item.mode = tarfile.SYMTYPE, entry.link, 0o777
             archive.addfile(item, io.BytesIO(entry.data))
-    return zipped(out.getvalue())
-
-
-def wheel(entries, package, version, moment):
-    """A wheel: a zip with the list of its files, by their sums, at the end."""
-    info = "%s-%s.dist-info" % (package, version)
-    rows = ["%s,sha256=%s,%d" % (name, base64.urlsafe_b64encode(hashlib.sha256(entry.data).digest()).rstrip(b"=").decode(), len(entry.data))
-            for name, entry in sorted(entries.items())]
-    record = "%s/RECORD" % info
-    files = [*sorted(entries.items()), (record, Entry(("\n".join([*rows, record + ",,"]) + "\n").encode()))]
-    out = io.BytesIO()
-    with zipfile.ZipFile(out, "w", zipfile.ZIP_DEFLATED, compresslevel=9) as archive:
-        for name, entry in files:
-            item = zipfile.ZipInfo(name, time.gmtime(max(moment, 315532800))[:6])      # a zip has no date before 1980
-            item.compress_type, item.create_system, item.external_attr = zipfile.ZIP_DEFLATED, 3, (0o100000 | entry.mode) << 16
-            archive.writestr(item, entry.data)
-    return out.getvalue()
+    return gzip.compress(out.getvalue(), mtime=0)
 
 
 def compare(path, again):

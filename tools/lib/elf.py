@@ -3,15 +3,11 @@ import os
 import re
 import subprocess
 
-# Instructions that x86-64-v2 adds to x86-64: SSE3, SSSE3, SSE4.1, SSE4.2, POPCNT and CMPXCHG16B.
-OF_V2 = re.compile(r"addsubp[sd]|h(?:add|sub)p[sd]|lddqu|movddup|movs[hl]dup|fisttp\w*|pshufb|ph(?:add|sub)\w+|pabs[bwd]|palignr|pmulhrsw|pmaddubsw|psign[bwd]|"
-                   r"p?blend\w+|pm(?:ax|in)(?:s[bd]|u[wd])|pmulld|pmuldq|extractps|pextr[bdq]|pinsr[bdq]|insertps|ptest|round[ps][sd]|"
-                   r"pmov[sz]x\w+|pcmpeqq|packusdw|mpsadbw|phminposuw|dpp[sd]|movntdqa|pcmpgtq|pcmp[ei]str[im]|crc32\w*|popcnt\w*|cmpxchg16b")
-# Those beyond it that compilers emit: what is coded by VEX, and on plain registers. `tzcnt` runs as `bsf` elsewhere, and `lzcnt`
+# The least processor, and what /proc/cpuinfo calls that which it adds to the first ones of x86-64.
+PROCESSOR, FLAGS = "x86-64-v2", ("cx16", "lahf_lm", "pni", "popcnt", "sse4_1", "sse4_2", "ssse3")
+# Instructions beyond it that compilers emit: what is coded by VEX, and on plain registers. `tzcnt` runs as `bsf` elsewhere, and `lzcnt`
 # doesn't run as `bsr`.
 BEYOND = re.compile(r"v(?!err|erw)[a-z0-9]+|andn|bextr|bls(?:i|r|msk)|bzhi|pdep|pext|mulx|rorx|s(?:ar|hl|hr)x|lzcnt\w*|movbe\w*")
-# What /proc/cpuinfo calls that which x86-64-v2 adds.
-FLAGS_OF_V2 = ("cx16", "lahf_lm", "pni", "popcnt", "sse4_1", "sse4_2", "ssse3")
 
 
 def told_by(path, *options):
@@ -30,18 +26,11 @@ def glibc_of(path):
     return max(numbers, default=(2, 2))[:2]
 
 
-def level(instructions):
-    """The least processor of the x86-64 levels that has these instructions."""
-    found = "x86-64"
-    for word in instructions:
-        if BEYOND.fullmatch(word):
-            raise ValueError("it uses the instruction %s, which x86-64-v2 hasn't" % word)
-        if OF_V2.fullmatch(word):
-            found = "x86-64-v2"
-    return found
+def is_beyond(instruction):
+    return BEYOND.fullmatch(instruction) is not None
 
 
-def processor_of(path):
-    """The least processor that has all instructions of a file, by objdump. What is chosen while it runs isn't seen."""
-    listed = told_by(path, "-d", "--no-show-raw-insn")
-    return level({line.split("\t")[1].split()[0] for line in listed.splitlines() if line.count("\t") >= 1 and line.split("\t")[1].strip()})
+def beyond_of(path):
+    """The instructions of a file that its processor need not have, by objdump. What is chosen while it runs isn't seen."""
+    rows = [line.split("\t") for line in told_by(path, "-d", "--no-show-raw-insn").splitlines()]
+    return sorted(filter(is_beyond, {row[1].split()[0] for row in rows if len(row) > 1 and row[1].strip()}))

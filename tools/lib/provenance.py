@@ -8,6 +8,7 @@ import sys
 import time
 import zlib
 
+import elf
 from places import TOP
 
 # In what tools/prove prints, and in PROVENANCE.txt.
@@ -91,7 +92,7 @@ def text(version, commit, changed, moment, gate, needs):
         *(["verdict of %s: %s" % row for row in gate.verdicts.items()] if gate else []),
         "gate: %s" % gate.last if gate else "gate: not seen",
         *tested_only(),
-        *("needs: %s: Linux on x86-64, a processor of %s or later, glibc %s or later" % (name, of["processor"], of["glibc"])
-          for name, of in needs.items()),
+        *("needs: %s: Linux on x86-64, a processor of %s or later, glibc %s or later" % (name, elf.PROCESSOR, glibc)
+          for name, glibc in needs.items()),
         *made_with(),
     ]) + "\n"

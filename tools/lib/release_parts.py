@@ -4,6 +4,7 @@ import subprocess
 import sys
 from pathlib import Path
 
+import elf
 from archives import Entry
 from places import TOOLS, TOP
 
@@ -44,8 +45,8 @@ def below(folder, names, cut=""):
     return {folder + name.removeprefix(cut): entry(name) for name in names}
 
 
-def needs_of(needs):
-    return Entry(("glibc %s\nprocessor %s\nflags %s\n" % (needs["glibc"], needs["processor"], " ".join(needs["flags"]))).encode())
+def needs_of(glibc):
+    return Entry(("glibc %s\nprocessor %s\nflags %s\n" % (glibc, elf.PROCESSOR, " ".join(elf.FLAGS))).encode())
 
 
 def pkg_config(text):
@@ -54,7 +55,7 @@ def pkg_config(text):
     return Entry(text.replace("-L${prefix}", "-L${prefix}/lib").replace("rpath,${prefix}", "rpath,${prefix}/lib").encode())
 
 
-def for_system(built, needs):
+def for_system(built, glibc):
     """The program, the libraries for C, the tools that need Python alone, and the pages."""
     library, soname = built.library, built.soname
     tools = ["tools/" + name for name in PYTHON_TOOLS]
@@ -73,27 +74,20 @@ def for_system(built, needs):
         "share/bash-completion/completions/wt_replay": entry("tools/completions/wt_replay.bash"),
         "share/zsh/site-functions/_wt_replay": entry("tools/completions/_wt_replay"),
         "share/fish/vendor_completions.d/wt_replay.fish": entry("tools/completions/wt_replay.fish"),
-        SHARE + "needs": needs_of(needs),
+        SHARE + "needs": needs_of(glibc),
         **{"bin/" + name: Entry(link="../%stools/%s" % (SHARE, name)) for name in PYTHON_TOOLS},
         **below(SHARE, [*tools, *parts_used(PYTHON_TOOLS), *tracked("tools/lib/page", "tools/model"), *pages]),
     }
     return entries if built.is_proved else {**entries, SHARE + "UNPROVED": Entry(UNPROVED)}
 
 
-def for_python(built, needs, version):
-    """The package with the native module in it, and what pip reads of it."""
-    info = "rookdresser-%s.dist-info/" % version
-    entries = {
-        **{"rookdresser/" + path.name: Entry(path.read_bytes()) for path in backend.modules()},
-        "rookdresser/_native" + backend.SUFFIX: Entry(built.module.read_bytes(), runs=True),
-        info + "METADATA": Entry(backend.metadata(backend.about(), version).encode()),
-        info + "WHEEL": Entry(backend.wheel_text(wheel_tag(needs)).encode()),
-    }
-    return entries if built.is_proved else {**entries, "rookdresser/UNPROVED": Entry(UNPROVED)}
-
-
-def wheel_tag(needs):
-    return backend.tag_of("manylinux_%s_x86_64" % needs["glibc"].replace(".", "_"))
+def for_python(built, glibc, version):
+    """The wheel, by its name: the package with the native module in it."""
+    files = {"rookdresser/" + path.name: path.read_bytes() for path in backend.modules()}
+    files["rookdresser/_native" + backend.SUFFIX] = built.module.read_bytes()
+    if not built.is_proved:
+        files["rookdresser/UNPROVED"] = UNPROVED
+    return dict([backend.wheel(files, version, backend.tag_of("manylinux_%s_x86_64" % glibc.replace(".", "_")))])
 
 
 def for_language(built, language, folder):
