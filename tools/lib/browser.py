@@ -1,6 +1,7 @@
 """A browser without a window for the checks of pages: Chromium, led by Selenium."""
 import shutil
 import sys
+from pathlib import Path
 
 # Where Debian's packages are, if another Python runs.
 sys.path.append("/usr/lib/python3/dist-packages")
@@ -23,6 +24,26 @@ KEYS = {"ArrowLeft": "ARROW_LEFT", "ArrowRight": "ARROW_RIGHT", "PageUp": "PAGE_
 def found():
     """The browser that is there with what leads it, or None."""
     return next((path for path in map(shutil.which, NAMES) if path), None) if webdriver and shutil.which("chromedriver") else None
+
+
+# A script that tells the texts of a page that stand out too little.
+PALE = Path(__file__).resolve().parent / "page" / "pale.js"
+
+
+def opened(shots, use):
+    """Leads a browser through `use`, and makes the folder of screenshots if one is named. Returns why there is none, or None."""
+    path = found()
+    if path is None:
+        return MISSING
+    if shots:
+        shots.mkdir(parents=True, exist_ok=True)
+    try:
+        page = Browser(path)
+    except (Failed, OSError) as fault:
+        return "%s doesn't start: %s" % (path, fault)
+    with page:
+        use(page)
+    return None
 
 
 class Browser:
@@ -76,6 +97,21 @@ class Browser:
 
     def screenshot(self, path):
         path.write_bytes(self.driver.get_screenshot_as_png())
+
+    def looks(self, check, name, path, scheme, size, back, shots, then=lambda: None):
+        """Opens a page in a scheme of colours and a width, and checks its background, that nothing is wider, and the contrast of its texts."""
+        self.colours(scheme)
+        self.size(*size)
+        self.open(path)
+        then()
+        title = "%s, %s, %d wide" % (name, scheme, size[0])
+        check("%s: its background" % title, self.value("getComputedStyle(document.body).backgroundColor") == back)
+        check("%s: nothing is wider" % title, self.value("document.documentElement.scrollWidth") <= size[0])
+        pale = self.value(PALE.read_text())
+        check("%s: contrast %s" % (title, pale[:2]), pale == [])
+        if shots:
+            self.screenshot(shots / ("%s-%s-%d.png" % (name, scheme, size[0])))
+        return title
 
     def faults(self):
         """What the page's script threw, and what it asked for from elsewhere, since the page was opened."""
