@@ -3,8 +3,8 @@ import os
 import re
 import subprocess
 
-# The least processor, and what /proc/cpuinfo calls that which it adds to the first ones of x86-64.
-PROCESSOR, FLAGS = "x86-64-v2", ("cx16", "lahf_lm", "pni", "popcnt", "sse4_1", "sse4_2", "ssse3")
+# The least processor.
+PROCESSOR = "x86-64-v2"
 # Instructions beyond it that compilers emit: what is coded by VEX, and on plain registers. `tzcnt` runs as `bsf` elsewhere, and `lzcnt`
 # doesn't run as `bsr`.
 BEYOND = re.compile(r"v(?!err|erw)[a-z0-9]+|andn|bextr|bls(?:i|r|msk)|bzhi|pdep|pext|mulx|rorx|s(?:ar|hl|hr)x|lzcnt\w*|movbe\w*")

@@ -4,7 +4,6 @@ import subprocess
 import sys
 from pathlib import Path
 
-import elf
 from archives import Entry
 from places import TOOLS, TOP
 
@@ -45,17 +44,13 @@ def below(folder, names, cut=""):
     return {folder + name.removeprefix(cut): entry(name) for name in names}
 
 
-def needs_of(glibc):
-    return Entry(("glibc %s\nprocessor %s\nflags %s\n" % (glibc, elf.PROCESSOR, " ".join(elf.FLAGS))).encode())
-
-
 def pkg_config(text):
     """rookdresser.pc with folders for the header and the libraries."""
     text = text.replace("prefix=${pcfiledir}", "prefix=${pcfiledir}/../..").replace("-I${prefix}", "-I${prefix}/include")
     return Entry(text.replace("-L${prefix}", "-L${prefix}/lib").replace("rpath,${prefix}", "rpath,${prefix}/lib").encode())
 
 
-def for_system(built, glibc):
+def for_system(built):
     """The program, the libraries for C, the tools that need Python alone, and the pages."""
     library, soname = built.library, built.soname
     tools = ["tools/" + name for name in PYTHON_TOOLS]
@@ -63,7 +58,6 @@ def for_system(built, glibc):
                     "tools/README.md", "bench/README.md")
     entries = {
         "GUIDE.md": Entry(link=SHARE + "docs/GUIDE.md"),
-        "install": Entry((OWN / "install").read_bytes(), runs=True),
         "bin/wt_replay": Entry(built.program.read_bytes(), runs=True),
         "lib/librookdresser.a": Entry((library / "librookdresser.a").read_bytes()),
         "lib/" + soname: Entry((library / soname).read_bytes(), runs=True),
@@ -74,7 +68,6 @@ def for_system(built, glibc):
         "share/bash-completion/completions/wt_replay": entry("tools/completions/wt_replay.bash"),
         "share/zsh/site-functions/_wt_replay": entry("tools/completions/_wt_replay"),
         "share/fish/vendor_completions.d/wt_replay.fish": entry("tools/completions/wt_replay.fish"),
-        SHARE + "needs": needs_of(glibc),
         **{"bin/" + name: Entry(link="../%stools/%s" % (SHARE, name)) for name in PYTHON_TOOLS},
         **below(SHARE, [*tools, *parts_used(PYTHON_TOOLS), *tracked("tools/lib/page", "tools/model"), *pages]),
     }
