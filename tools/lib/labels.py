@@ -1,10 +1,7 @@
 """The labels of clauses and what they mean, as docs/labels.txt has them."""
-import re
-
 from places import TOP
 
 PAGE = TOP / "docs" / "labels.txt"
-LABEL = re.compile(r"^\s*(?:requires|ensures)\*?\s+(\w+)\s+\{", re.M)
 
 
 def labels_in(page=PAGE):
@@ -20,6 +17,5 @@ def labels_in(page=PAGE):
 
 def labels_of(crates):
     """The labels that clauses have, and those and the fields of records that clauses are."""
-    used = {label for crate in crates.values() for path in (crate.folder / "src").rglob("*.rt") for label in LABEL.findall(path.read_text())}
-    fields = {label.rpartition(".")[2] for crate in crates.values() for labels in crate.clauses.values() for label in labels}
-    return used, used | fields
+    labels = {label for crate in crates.values() for clauses in crate.clauses.values() for label in clauses} - {"requires", "ensures"}
+    return {label for label in labels if "." not in label}, {label.rpartition(".")[2] for label in labels}
