@@ -1,12 +1,9 @@
-"""Hit ratios by thousand look-ups, for tools/hit_curve --over-time: the numbers, a table and a picture."""
+"""Hit ratios by thousand look-ups, for tools/hit_curve --over-time: the numbers and a table."""
 from itertools import islice
 
-from curve_svg import BOLD, BOTTOM, HEIGHT, STYLE, TOP, WIDTH, axes, cut, line, spread, svg, text
 from policies import POLICIES
 
 PART, MOST_PARTS = 1000, 200
-LEFT, RIGHT = 58, 660
-KINDS = ("ours", "tuned", "lru", "best")
 
 
 def part_of(lookups):
@@ -50,56 +47,3 @@ def rows(windows, curves, entries, lookups):
         cache = "Rookdresser" if name in windows else name
         for at, ratio in enumerate(ratios, 1):
             yield [cache, entries, windows.get(name, ""), min(lookups, at * part_of(lookups)), "%.6f" % ratio]
-
-
-class Panel:
-    """A plot: where a look-up and a ratio stand. Its width is `lookups`."""
-
-    def __init__(self, lookups, top_ratio):
-        self.left, self.right, self.lookups, self.top_ratio = LEFT, RIGHT, lookups, top_ratio
-
-    def x(self, n):
-        return self.left + n / self.lookups * (self.right - self.left)
-
-    def y(self, ratio):
-        return BOTTOM - ratio / self.top_ratio * (BOTTOM - TOP)
-
-
-def ticks_of(lookups):
-    """Round numbers of look-ups from 0 up, eight at most."""
-    step = next(n * 10 ** power for power in range(7) for n in (1, 2, 5) if lookups / (n * 10 ** power) <= 8)
-    return list(range(0, lookups + 1, step))
-
-
-def middles(size, lookups):
-    """The look-up in the middle of each part."""
-    return [(at + min(lookups, at + size)) / 2 for at in range(0, lookups, size)]
-
-
-def curve(panel, kind, places, ratios):
-    points = ["%.1f,%.1f" % (panel.x(at), panel.y(ratio)) for at, ratio in zip(places, ratios)]
-    dots = ['<circle cx="%s" cy="%s" r="3" class="%s"/>' % (*point.split(","), kind) for point in points if len(points) == 1]
-    return ['<polyline points="%s" class="line thin %s-line"/>' % (" ".join(points), kind)] + dots
-
-
-def draw(title, told, windows, curves, entries, lookups):
-    size, step = part_of(lookups), 10
-    places = middles(size, lookups)
-    top = max(step, min(100, step * (1 + int(100 * max(max(ratios) for ratios in curves.values()) / step))))
-    panel, kinds = Panel(lookups, top / 100), dict(zip(curves, KINDS if len(curves) == 4 else ("ours", "lru", "best")))
-    whole = "Hit ratio of {} by {:,} look-ups, {:,} entries".format(", ".join(curves), size, entries)
-    parts = [
-        '<rect width="%d" height="%d" rx="8" class="page"/>' % (WIDTH, HEIGHT),
-        text(24, 34, cut(title, BOLD * 19), "ink title"),
-        text(24, 57, cut("Hit ratio by {:,} look-ups, with {:,} entries. {}".format(size, entries, told), 13), "soft"),
-        text(LEFT - 34, TOP - 14, "hit ratio", "soft small"),
-        *axes(panel, step if top > 40 else 5, ticks_of(lookups), "look-ups"),
-    ]
-    # The dashes of LRU over the others, since a window of all entries is LRU.
-    for name in sorted(curves, key=("optimum", *windows, "LRU").index):
-        parts += curve(panel, kinds[name], places, curves[name])
-    heights = spread([panel.y(ratios[-1]) + 4 for ratios in curves.values()], 18)
-    for at, (name, ratios) in enumerate(curves.items()):
-        parts.append(line(panel.x(places[-1]) + 4, panel.y(ratios[-1]), RIGHT + 18, heights[at] - 4, "lead %s-lead" % kinds[name]))
-        parts.append(text(RIGHT + 22, heights[at], name, "%s label" % kinds[name]))
-    return svg(HEIGHT, whole, STYLE, parts)

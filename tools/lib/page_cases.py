@@ -1,13 +1,11 @@
-"""Pages of random traces beside the states of tools/model, for tools/gate/check_program."""
+"""Pages of random traces beside the states of tools/model, for tools/gate/check_page."""
 import json
 import random
 import re
 
 import cases
-import page_html
 from model import Run
 from options import settings
-from page_states import record, states
 
 
 def numbers_of(page):
@@ -42,24 +40,6 @@ def keys_between(run, lines):
     """The keys that are held or loaded, and those of the lines."""
     held = {key for shard in run.shards for key in shard.entries} | {load.key for shard in run.shards for load in shard.loads}
     return held | {line[3] for line in lines if line[3]}
-
-
-def differs(s, trace, first):
-    """The number of the first line whose state in the page isn't the model's, or None."""
-    run = Run(s, trace)
-    before, lines = ([line for line in run.lines if (line[0] < first) == early] for early in (True, False))
-    numbers, report = record(s, trace, first, run.lines[-1][0])
-    numbers = numbers_of(page_html.page("</script>", s, numbers, report[-1], (False, "")))
-    for line in before:
-        run.do(line)
-    keys, shown_states = keys_between(run, lines), states(numbers)
-    if shown(numbers, next(shown_states)) != wanted(run, keys):
-        return first
-    for line in lines:
-        run.do(line)
-        if shown(numbers, next(shown_states)) != wanted(run, keys):
-            return line[0]
-    return None if next(shown_states, None) is None else len(run.lines)
 
 
 def random_pages(seed):
