@@ -28,10 +28,10 @@ if [ "$how" = write ]; then
     exit 0
 fi
 names=$(tar -tzf "$file")
-other=$(echo "$names" | grep -Ev "$kept" || tar -tvzf "$file" | grep -v '^[-d]' || true)
+other=$(printf '%s' "$names" | grep -Ev "$kept" || tar -tvzf "$file" | grep -v '^[-d]' || true)
 if [ "$other" ]; then
     echo "tools/lib/kept_store.sh: $file isn't a file of kept proofs: it has $(echo "$other" | head -n 1)" >&2
     exit 1
 fi
 tar -C "$store" --skip-old-files --no-same-owner -xzf "$file"
-echo "$(echo "$names" | grep -c '^[^/]*/\{0,1\}$') proofs and tests of $file (sha256 $(sha256sum < "$file" | cut -d ' ' -f 1))"
+echo "$(printf '%s' "$names" | grep -c '^[^/]*/\{0,1\}$') proofs and tests of $file (sha256 $(sha256sum < "$file" | cut -d ' ' -f 1))"
