@@ -8,6 +8,8 @@ CRATES = TOP / "crates"
 # A release has the tools in share/rookdresser, and the program in bin.
 PROGRAM = CRATES / "wt_replay" / "out" / "wt_replay" if CRATES.exists() else TOP.parent.parent / "bin" / "wt_replay"
 VERSION_FILE = "crates/wt_replay/src/main.rt"
+PAGES = ("*.md", "docs/*.md", "bench/*.md", "tools/*.md", "traces/*.md", "embed/**/*.md", "crates/*/*.md")
+MADE = {"out", "target", "build"}
 
 
 def shown(path):
@@ -18,6 +20,10 @@ def shown(path):
 def not_built(path=PROGRAM, by="sh tools/replay --build"):
     """The sentence on a file that isn't built yet, and what builds it."""
     return "%s isn't built yet; `%s` builds it" % (shown(path), by)
+
+
+def markdown_pages():
+    return sorted({path for pattern in PAGES for path in TOP.glob(pattern) if not MADE & set(path.relative_to(TOP).parts)})
 
 
 def stands_on(page=TOP / "crates.txt"):

@@ -2,12 +2,12 @@
 import re
 from multiprocessing.pool import ThreadPool
 
-from places import TOP
+from places import TOP, markdown_pages
 from rules import PAGE
 
 from . import markdown, reference
 from .site import Site, plain
-from .tree import Tree, markdown_pages
+from .tree import Tree
 
 # The hand-written pages by group: what their paths begin with.
 GROUPS = (("Guides", ("README.md", "docs/")), ("Measured", ("bench/",)), ("Languages", ("embed/",)), ("Crates", ("crates/",)),

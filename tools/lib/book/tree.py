@@ -8,8 +8,6 @@ from places import CRATES, TOP, stands_on
 from rules import PAGE, linked, rules_in, tests_by_call
 from spec_words import Links
 
-PAGES = ("*.md", "docs/*.md", "bench/*.md", "tools/*.md", "traces/*.md", "embed/**/*.md", "crates/*/*.md")
-MADE = {"out", "target", "build"}
 RATTLE = TOP / "docs" / "rattle_words.txt"
 
 
@@ -144,7 +142,3 @@ class Tree:
                 if (owner in rest or rest[0] in ghosts) and owner in crate.types and crate.types[owner].text.startswith("pub trait"):
                     return self.type(name, owner), "a ghost member of the trait %s" % owner
         return (anchor("reference/rattle.html", rest[-1]), self.rattle[rest[-1]]) if rest[-1] in self.rattle else (None, None)
-
-
-def markdown_pages():
-    return sorted({path for pattern in PAGES for path in TOP.glob(pattern) if not MADE & set(path.relative_to(TOP).parts)})
