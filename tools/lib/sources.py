@@ -1,13 +1,13 @@
-"""Keys of other data, for tools/trace_convert and tools/hit_curve: one a line, tables, ARC and LIRS traces, web server logs."""
+"""Lines of traces, for tools/hit_curve and tools/show_trace, and keys of other data, for tools/trace_convert and tools/hit_curve: one a
+line, tables, ARC and LIRS traces, web server logs."""
 import argparse
 import csv
 import datetime
 import re
 
-from model.trace import word_of_name
+from model.trace import MOST_LINES, read_trace, word_of_name
 from words import whole
 
-MOST_LINES = 1_000_000
 BELOW_64 = 2 ** 64 - 1
 # The longest field of a table that is read: an open quote doesn't take the whole file.
 LONGEST_FIELD = 2 ** 24
@@ -20,6 +20,18 @@ EPOCH = datetime.datetime(1970, 1, 1, tzinfo=datetime.timezone.utc)
 
 class BadInput(Exception):
     """What is wrong, with the line's number."""
+
+
+def lines_of_trace(trace, more=""):
+    """The lines of a trace. The first fault is a BadInput, with more words behind it."""
+    lines, fault = read_trace(trace)
+    if not fault:
+        return lines
+    number, line = fault.split()[1], fault.split()[-1]
+    if number == "13":
+        raise BadInput("a trace takes %d lines%s" % (MOST_LINES, more))
+    text = trace.split(b"\n")[int(line) - 1]
+    raise BadInput("line %s %s: %r%s" % (line, "has more than 64 bytes" if number == "12" else "is no line of a trace", text[:60], more))
 
 
 def is_number(key):
