@@ -8,8 +8,8 @@ from .part import Part
 CHECKS = {"check_facts": 1, "check_layout": 2, "check_prose": 1, "check_guards": 1, "check_rules": 1, "check_options": 1, "check_readers": 1,
           "check_checkers": 30, "check_native_steps": 1, "check_native_steps --wrong": 5}
 # Those of the program, which stands where a proved one would.
-OF_PROGRAM = {"check_program": ((), (), 40), "check_options --built": ((), (), 1),
-              "refuse_memory --program": (("cc",), (), 5), "check_tools": ((), (), 60), "check_page": (("chromium",), (), 60)}
+OF_PROGRAM = {"check_program": ((), 40), "check_options --built": ((), 1), "refuse_memory --program": (("cc",), 5), "check_tools": ((), 60),
+              "check_page": (("chromium",), 60)}
 LANGUAGES = {"c": (("gcc", "g++", "nm", "objdump", "pkg-config"), 90), "rust": (("cargo", "cargo-clippy"), 300),
              "python": (("mypy", "python3-dbg"), 300), "go": (("go",), 200)}
 # The slowest crates' tests, in seconds of a core.
@@ -42,9 +42,9 @@ def of_crates(copy):
 def of_program(copy):
     built = copy / "crates" / "wt_replay" / "out"
     yield Part("the program", ["sh", "-euc", 'program=$(python3 tools/lib/kept_program.py) && mkdir -p "$1" && cp "$program" "$1"', "sh", built], copy, 300, needs=("rt",))
-    for words, (needs, after, seconds) in OF_PROGRAM.items():
+    for words, (needs, seconds) in OF_PROGRAM.items():
         name, *flags = words.split()
-        yield Part(words, python(copy / "tools" / "gate" / name, *flags), copy, seconds, needs=needs, after=("the program", *after))
+        yield Part(words, python(copy / "tools" / "gate" / name, *flags), copy, seconds, needs=needs, after=("the program",))
 
 
 def of_scenarios(copy):
