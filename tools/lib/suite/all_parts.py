@@ -13,7 +13,10 @@ OF_PROGRAM = {"check_program": ((), 40), "check_options --built": ((), 1), "refu
 LANGUAGES = {"c": (("gcc", "g++", "nm", "objdump", "pkg-config"), 90), "rust": (("cargo", "cargo-clippy"), 300),
              "python": (("mypy", "python3-dbg"), 300), "go": (("go",), 200)}
 # The slowest crates' tests, in seconds of a core.
-SLOW = {"wt_replay": 120, "wt_shards_tests": 120, "wt_cache_tests": 120, "wt_callers_tests": 120, "wt_core_tests": 90, "wt_trace_tests": 90}
+SLOW = {"wt_replay": 120, "wt_shards_tests": 120, "wt_cache_tests": 120, "wt_callers_tests": 120, "wt_core_tests": 90, "wt_trace_tests": 120,
+        "wt_keys_tests": 90}
+# The slowest pages.
+PAGES = {"CONTRIBUTING.md": 230, "embed/README.md": 60, "embed/python/README.md": 50}
 
 
 def python(*words):
@@ -70,7 +73,7 @@ def of_pages(copy):
     names = sorted(str(path.relative_to(copy)) for path in copy.rglob("*.md") if ".git" not in path.parts)
     for name in names:
         if re.search(r"^```sh$", (copy / name).read_text(), re.M):
-            yield Part(name, python(run, name), copy, 100 if name in ("CONTRIBUTING.md", "embed/README.md") else 20,
+            yield Part(name, python(run, name), copy, PAGES.get(name, 20),
                        needs=("rt", "cc", "cargo", "go", "pkg-config"), after=("the program", "the library", "a release"))
     yield Part("the book", python(copy / "tools" / "gate" / "check_book"), copy, 30, needs=("pandoc",))
     yield Part("commands in sentences", python(run, "--sentences"), copy, 10)
