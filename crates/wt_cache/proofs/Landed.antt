@@ -25,66 +25,87 @@ use Rattle.wt_shards.specs.Passes.{Passed, Seen, SeenAt, SeenMore, front_at, wit
 use Rattle.wt_shards.specs.Place.{Layout, home_at, home_of}
 use Rattle.wt_shards.specs.Told.{HasTold}
 use Rattle.wt_shards.proofs.SeenMore.{made-earlier, made-grows, refused-earlier, refused-grows, seen-more, seen-twice}
-use Rattle.wt_cache.specs.Contract.{IsLandCall}
+use Rattle.wt_cache.specs.Loads.{IsLandCall}
 
 -- a landing is no hit
-landing-no_hit : {K V : Type 0} (eq : K → K → Bool) (word : K → ℕ) (weight : V → ℕ) (s : State K V) (id : ℕ) (k : K) (what : Landing V) (now : ℕ) → is_hit (step eq word weight s (Land id k what now)).reply ≡ false
+landing-no_hit : {K V : Type 0} (eq : K → K → Bool) (word : K → ℕ) (weight : V → ℕ)
+    (s : State K V) (id : ℕ) (k : K) (what : Landing V) (now : ℕ) → is_hit (step eq word weight s (Land id k what now)).reply ≡ false
 landing-no_hit {K} {V} eq word weight s id k what now = at_row (row_of eq k id s.flights)
   where
-    at_kept : (what : Landing V) (row : Row K) → is_hit (landing eq word weight k row what (with_flights (landed id s.flights) (stepped now s))).reply ≡ false
-    at_kept (land.Keep v) row = elim (is_kept weight row v (stepped now s)) as (λ b. is_hit (cond b (made (with_load (with_flights (landed id s.flights) (stepped now s))) (storing eq word weight k v (with_flights (landed id s.flights) (stepped now s))) (Kept row.sharers)) (made (with_load (with_flights (landed id s.flights) (stepped now s))) (own_expired eq k (with_flights (landed id s.flights) (stepped now s))) (Loose row.sharers))).reply ≡ false) [
-      | true ↦ refl
-      | false ↦ refl
-    ]
+    at_kept : (what : Landing V) (row : Row K) → is_hit (landing eq word weight k row what
+        (with_flights (landed id s.flights) (stepped now s))).reply ≡ false
+    at_kept (land.Keep v) row = elim (is_kept weight row v (stepped now s)) as
+        (λ b. is_hit (cond b (made (with_load (with_flights (landed id s.flights) (stepped now s)))
+        (storing eq word weight k v (with_flights (landed id s.flights) (stepped now s))) (Kept row.sharers))
+        (made (with_load (with_flights (landed id s.flights) (stepped now s)))
+        (own_expired eq k (with_flights (landed id s.flights) (stepped now s))) (Loose row.sharers))).reply ≡ false) [
+          | true ↦ refl
+          | false ↦ refl
+        ]
     at_kept land.Loose row = refl
     at_kept land.Failed row = refl
 
-    at_row : (o : Option (Row K)) → is_hit (option_map_or (λ row. landing eq word weight k row what (with_flights (landed id s.flights) (stepped now s))) o (made (stepped now s) (own_expired eq k (stepped now s)) Gone)).reply ≡ false
+    at_row : (o : Option (Row K)) → is_hit (option_map_or (λ row. landing eq word weight k row what
+        (with_flights (landed id s.flights) (stepped now s))) o (made (stepped now s) (own_expired eq k (stepped now s)) Gone)).reply ≡
+        false
     at_row None = refl
     at_row (Some row) = at_kept what row
 
 -- the landing of a lead at its moment is the call of its shard
-module _ {K V : Type 0} (eq : K → K → Bool) (word : K → ℕ) (weight : V → ℕ) (answers : V → K → Bool) (l m : Layout) (lead : Leading K) (what : Landing V) (moment : ℕ) (old new : Seen K V) (before list : NoticeList K V) where
-  pub landed-made : (done : Done (Reply V)) → l ≡ m → moment ≡ lead.moment → IsHomeCall eq word weight answers (home_at word lead.key l) (Land lead.id lead.key what moment) (λ r. r) old new before list (Ok done)
+module _ {K V : Type 0} (eq : K → K → Bool) (word : K → ℕ) (weight : V → ℕ) (answers : V → K → Bool)
+    (l m : Layout) (lead : Leading K) (what : Landing V) (moment : ℕ) (old new : Seen K V) (before list : NoticeList K V) where
+  pub landed-made : (done : Done (Reply V)) → l ≡ m → moment ≡ lead.moment
+      → IsHomeCall eq word weight answers (home_at word lead.key l) (Land lead.id lead.key what moment) (λ r. r) old new before list
+      (Ok done)
       → IsLandCall eq word weight answers m lead what old new before list (Ok tt)
   landed-made done same at called =
       let home : ℕ = home_of word lead.key l in
-      let h = subst (λ (n : ℕ). IsHomeCall eq word weight answers (home_at word lead.key l) (Land lead.id lead.key what n) (λ r. r) old new before list (Ok done)) at called in
+      let h = subst (λ (n : ℕ). IsHomeCall eq word weight answers (home_at word lead.key l) (Land lead.id lead.key what n) (λ r. r) old new
+      before list (Ok done)) at called in
       let calls : List (Call K V) = front_at home old ++ h.step.placed.between in
-      let miss : is_hit done.reply ≡ false = ap is_hit h.step.replied ∙ landing-no_hit eq word weight (state_after eq word weight l.config calls) lead.id lead.key what lead.moment in
+      let miss : is_hit done.reply ≡ false = ap is_hit h.step.replied ∙ landing-no_hit eq word weight
+      (state_after eq word weight l.config calls) lead.id lead.key what lead.moment in
       subst (λ (x : Layout). IsLandCall eq word weight answers x lead what old new before list (Ok tt)) same (record {
         moved = h.moved ∙ ap (λ b. with_step home b old.counted) miss;
         step = record { reply = done.reply; number = done.step; made = h.step };
         told = h.told;
         faults = tt;
         cause = tt;
-        more = seen-more home old new h.elsewhere (made-grows eq word weight answers (home_at word lead.key l) (Land lead.id lead.key what lead.moment) done.reply done.step (front_at home old) (front_at home new) before list h.step);
+        more = seen-more home old new h.elsewhere (made-grows eq word weight answers (home_at word lead.key l)
+            (Land lead.id lead.key what lead.moment) done.reply done.step (front_at home old) (front_at home new) before list h.step);
         elsewhere = h.elsewhere;
         err = tt;
       })
 
-  refused-so : (f : Fault) → l ≡ m → moment ≡ lead.moment → IsHomeCall {R = Reply V} eq word weight answers (home_at word lead.key l) (Land lead.id lead.key what moment) (λ r. r) old new before list (Err f)
+  refused-so : (f : Fault) → l ≡ m → moment ≡ lead.moment → IsHomeCall {R = Reply V} eq word weight answers (home_at word lead.key l)
+      (Land lead.id lead.key what moment) (λ r. r) old new before list (Err f)
       → IsLandCall eq word weight answers m lead what old new before list (Err f)
   refused-so f same at called =
       let home : ℕ = home_of word lead.key l in
-      let h = subst (λ (n : ℕ). IsHomeCall {R = Reply V} eq word weight answers (home_at word lead.key l) (Land lead.id lead.key what n) (λ r. r) old new before list (Err f)) at called in
+      let h = subst (λ (n : ℕ). IsHomeCall {R = Reply V} eq word weight answers (home_at word lead.key l) (Land lead.id lead.key what n)
+      (λ r. r) old new before list (Err f)) at called in
       subst (λ (x : Layout). IsLandCall eq word weight answers x lead what old new before list (Err f)) same (record {
         moved = tt;
         step = tt;
         told = h.told;
         faults = h.faults;
         cause = h.cause;
-        more = seen-more home old new h.elsewhere (refused-grows eq word weight answers (home_at word lead.key l) (Land lead.id lead.key what lead.moment) (front_at home old) (front_at home new) f h.cause);
+        more = seen-more home old new h.elsewhere (refused-grows eq word weight answers (home_at word lead.key l)
+            (Land lead.id lead.key what lead.moment) (front_at home old) (front_at home new) f h.cause);
         elsewhere = h.elsewhere;
         err = h.err;
       })
 
-  pub landed-refused : (f : Fault) (r : Result (Unit {0}) Fault) → IsErrAnd r (λ g. g ≡ f) → l ≡ m → moment ≡ lead.moment → IsHomeCall {R = Reply V} eq word weight answers (home_at word lead.key l) (Land lead.id lead.key what moment) (λ r. r) old new before list (Err f)
+  pub landed-refused : (f : Fault) (r : Result (Unit {0}) Fault) → IsErrAnd r (λ g. g ≡ f) → l ≡ m → moment ≡ lead.moment
+      → IsHomeCall {R = Reply V} eq word weight answers (home_at word lead.key l) (Land lead.id lead.key what moment) (λ r. r) old new
+      before list (Err f)
       → IsLandCall eq word weight answers m lead what old new before list r
   landed-refused f (Ok x) told same at called = absurd told
-  landed-refused f (Err g) told same at called = subst (λ (e : Fault). IsLandCall eq word weight answers m lead what old new before list (Err e)) (sym told) (refused-so f same at called)
+  landed-refused f (Err g) told same at called = subst (λ (e : Fault). IsLandCall eq word weight answers m lead what old new before list
+      (Err e)) (sym told) (refused-so f same at called)
 
-module _ {K V : Type 0} (eq : K → K → Bool) (word : K → ℕ) (weight : V → ℕ) (answers : V → K → Bool) (l : Layout) (lead : Leading K) (what : Landing V) where
+module _ {K V : Type 0} (eq : K → K → Bool) (word : K → ℕ) (weight : V → ℕ) (answers : V → K → Bool)
+    (l : Layout) (lead : Leading K) (what : Landing V) where
   abbrev home : ℕ
   home = home_of word lead.key l
 
@@ -92,10 +113,13 @@ module _ {K V : Type 0} (eq : K → K → Bool) (word : K → ℕ) (weight : V �
   call = Land lead.id lead.key what lead.moment
 
   -- a landing after one that was refused is one for who was there before both
-  pub landed-again : (old mid new : Seen K V) (before between list : NoticeList K V) (r : Result (Unit {0}) Fault) → mid.counted ≡ old.counted → between ≡ before → SeenMore old mid → SeenAt home old mid
-      → IsLandCall eq word weight answers l lead what mid new between list r → IsLandCall eq word weight answers l lead what old new before list r
+  pub landed-again : (old mid new : Seen K V) (before between list : NoticeList K V) (r : Result (Unit {0}) Fault)
+      → mid.counted ≡ old.counted → between ≡ before → SeenMore old mid → SeenAt home old mid
+      → IsLandCall eq word weight answers l lead what mid new between list r
+      → IsLandCall eq word weight answers l lead what old new before list r
   landed-again old mid new before between list (Ok x) counted same more elsewhere landed =
-      let made = made-earlier eq word weight answers (home_at word lead.key l) call landed.step.reply landed.step.number (front_at home old) (front_at home mid) (front_at home new) between list (more home) landed.step.made in
+      let made = made-earlier eq word weight answers (home_at word lead.key l) call landed.step.reply landed.step.number
+      (front_at home old) (front_at home mid) (front_at home new) between list (more home) landed.step.made in
       subst (λ (t : NoticeList K V). IsLandCall eq word weight answers l lead what old new t list (Ok x)) same (record {
         moved = landed.moved ∙ ap (with_step home false) counted;
         step = record { reply = landed.step.reply; number = landed.step.number; made = made };
@@ -112,7 +136,8 @@ module _ {K V : Type 0} (eq : K → K → Bool) (word : K → ℕ) (weight : V �
         step = tt;
         told = landed.told;
         faults = landed.faults;
-        cause = refused-earlier eq word weight answers (home_at word lead.key l) call (front_at home old) (front_at home mid) (front_at home new) f (more home) landed.cause;
+        cause = refused-earlier eq word weight answers (home_at word lead.key l) call (front_at home old) (front_at home mid)
+            (front_at home new) f (more home) landed.cause;
         more = λ i. prefix_trans (front_at i old) (front_at i mid) (front_at i new) (more i) (landed.more i);
         elsewhere = seen-twice home old mid new elsewhere landed.elsewhere;
         err = (landed.err.0 ∙ counted, landed.err.1);

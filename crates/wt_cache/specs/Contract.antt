@@ -2,24 +2,21 @@
 use Rattle.std.specs.Prelude.{◌≡◌, ◌⊎◌, ◌<◌, ◌≤◌, ◌*◌, ℕ, Bool, true, false, List, Vec, vec_len, slice_index_or, Result, Err, IsTrue, IfOk, IfErr, OnOk, OnErr, IsErrAnd, IsOkUnless, MatchOption}
 use Rattle.wt_keys.specs.declared.fault.Fault.{Fault}
 use Rattle.wt_keys.specs.declared.fault.Fault.TheVariants.{NoMemory, BadConfig, TooHeavy, PassesSpent}
-use Rattle.wt_flights.specs.Outcomes.{Leading}
 use Rattle.wt_regions.specs.Notices.{NoticeList, emptied}
 use Rattle.wt_core.specs.Faults.{is_step_fault}
 use Rattle.wt_core.specs.declared.calls.Call.{Call}
-use Rattle.wt_core.specs.declared.calls.Call.TheVariants.{Land, Put}
-use Rattle.wt_core.specs.declared.calls.Land.{Land as Landing}
+use Rattle.wt_core.specs.declared.calls.Call.TheVariants.{Put}
 use Rattle.wt_core.specs.declared.calls.Reply.{Reply}
 use Rattle.wt_core.specs.declared.calls.Reply.TheVariants.{Stored}
 use Rattle.wt_core.specs.declared.config.Config.{Config}
 use Rattle.wt_shards.specs.Contract.{IsHomeCall, IsSweepCall}
 use Rattle.wt_shards.specs.Opening.{layout_fault}
-use Rattle.wt_shards.specs.History.{IsRefused}
-use Rattle.wt_shards.specs.Passes.{Seen, SeenAt, SeenMore, front_at, with_step}
-use Rattle.wt_shards.specs.Place.{Layout, home_of, home_at}
+use Rattle.wt_shards.specs.Passes.{Seen}
+use Rattle.wt_shards.specs.Place.{Layout, home_at}
 use Rattle.wt_shards.specs.Told.{HasTold}
 use Rattle.wt_shards.specs.declared.done.Done.{Done}
 use Rattle.wt_cache.specs.Calling.{Calling}
-use Rattle.wt_cache.specs.Gets.{IsSoughtIn, IsPlacedLanding, HasTriedIn, is_get_fault}
+use Rattle.wt_cache.specs.Gets.{IsSought, HasTriedIn, is_get_fault}
 use Rattle.wt_cache.specs.Moves.{HasGotIn, IsLaterIn}
 use Rattle.wt_cache.specs.declared.got.Got.{Got}
 
@@ -32,26 +29,6 @@ pub record IsPutCall {K V : Type 0} (eq : K → K → Bool) (word : K → ℕ) (
   pub heavy : l.config.bound < weight value → result ≡ Err (TooHeavy (weight value) l.config.bound)
   -- no other value is too heavy
   pub light : weight value ≤ l.config.bound → IfErr result (λ f. is_step_fault f ≡ true)
-
--- what a landing promises: one step at the key's shard at the moment of its seek, or a refusal that moves nothing
-pub record IsLandCall {K V : Type 0} (eq : K → K → Bool) (word : K → ℕ) (weight : V → ℕ) (answers : V → K → Bool) (l : Layout) (lead : Leading K) (what : Landing V)
-    (old new : Seen K V) (before list : NoticeList K V) (result : Result (Unit {0}) Fault) : Type 0 where
-  -- the pass counts the step at that shard, which is no hit
-  pub moved : OnOk result (new.counted ≡ with_step (home_of word lead.key l) false old.counted)
-  -- the landing stands in that shard's history, at the moment of the load's seek, behind all that the pass had seen of it
-  pub step : OnOk result (IsPlacedLanding eq word weight answers l lead what old new before list)
-  -- whatever is returned: few notices, and no room lost
-  pub told : HasTold l.config.entries before list
-  -- no other fault comes than a step's
-  pub faults : IfErr result (λ f. is_step_fault f ≡ true)
-  -- memory is refused, or that shard refuses the landing by this fault after the history that the pass then has seen
-  pub cause : IfErr result (IsRefused eq word weight answers (home_at word lead.key l) (Land lead.id lead.key what lead.moment)
-      (front_at (home_of word lead.key l) old) (front_at (home_of word lead.key l) new))
-  -- whatever is returned: the pass has seen at least what it had, and no more of the other shards
-  pub more : SeenMore old new
-  pub elsewhere : SeenAt (home_of word lead.key l) old new
-  -- a fault leaves what the pass counts, and the notices
-  pub err : OnErr result ((new.counted ≡ old.counted) × (list ≡ before))
 
 -- what a caller's call promises that goes to the shard of a key: that call, with its pass and with its list, which is emptied first
 pub record IsLentCall {K V R : Type 0} (eq : K → K → Bool) (word : K → ℕ) (weight : V → ℕ) (answers : V → K → Bool) (key : K) (c : Call K V)
@@ -86,13 +63,13 @@ pub record IsLentGet {K V : Type 0} (eq : K → K → Bool) (word : K → ℕ) (
   pub moved : IfOk result (HasGotIn word key old.cache old.pass.counted new.pass.counted)
   -- the number of the seek is above those of all steps that the pass had made there
   pub later : IfOk result (IsLaterIn word key old.cache old.pass.counted)
-  -- the seek stands in that shard's history, with what is told of it and with the first of the notices
-  pub sought : IfOk result (IsSoughtIn eq word weight stands key now old.cache old.pass new.pass (emptied old.left) new.left)
+  -- the seek stands in that shard's history, and then what its answer asked for and nothing else, each with its notices
+  pub sought : IfOk result (IsSought eq word weight stands key now old.cache old.pass new.pass (emptied old.left) new.left)
   -- whatever is returned: few notices, and no room lost
   pub told : HasTold (2 * old.cache.layout.config.entries) (emptied old.left) new.left
   -- no other fault comes than a get's
   pub faults : IfErr result (λ f. is_get_fault f ≡ true)
-  -- either the seek was refused, for a cause of its own and with nothing done, or it stands
+  -- either the seek was refused, for a cause of its own and with nothing done, or it stands, and this is why it brought nothing
   pub err : IfErr result (HasTriedIn eq word weight stands key now old.cache old.pass new.pass (emptied old.left) new.left)
   -- the caller's cache is the same
   pub same : new.cache ≡ old.cache

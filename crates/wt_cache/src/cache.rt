@@ -3,6 +3,9 @@ ghost use Rattle.std.specs.Prelude.{◌≡◌, ◌+◌, IfOk, IfErr, is_some};
 ghost use Rattle.wt_keys.specs.declared.fault.Fault.TheVariants as fault;
 ghost use Rattle.wt_shards.specs.Passes.{new_pass};
 
+mod calls;
+mod get;
+
 use crate::job_line::JobLine;
 use crate::loader::Loader;
 use std::alloc::Global;

@@ -1,6 +1,8 @@
 // A thread's way to a cache: its pass, and the list of what left.
 ghost use Rattle.std.specs.Prelude.{◌≡◌, ◌*◌, ◌≤◌, ◌+◌, length};
 
+mod calls;
+
 use crate::cache::LoadingCache;
 use crate::callers::Callers;
 use crate::loader::Loader;

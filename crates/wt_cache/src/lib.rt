@@ -10,8 +10,8 @@ mod job_line;
 mod keyed;
 mod line_pass;
 mod loader;
+mod loads;
 mod service;
-mod steps;
 mod tally;
 mod workers;
 

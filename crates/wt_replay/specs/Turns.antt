@@ -8,14 +8,14 @@ use Rattle.wt_core.specs.declared.calls.Call.{Call}
 use Rattle.wt_core.specs.declared.calls.Call.TheVariants as call
 use Rattle.wt_core.specs.declared.calls.Reply.{Reply}
 use Rattle.wt_shards.specs.Counts.{is_hit}
-use Rattle.wt_shards.specs.History.{IsMade, IsRefused}
+use Rattle.wt_shards.specs.History.{IsMade}
 use Rattle.wt_shards.specs.Passes.{Seen, SeenAt, front_at, new_pass, with_step, with_steps}
 use Rattle.wt_shards.specs.Place.{Place, home_of, home_at}
 use Rattle.wt_shards.specs.Sweeps.{AreSwept}
 use Rattle.wt_cache.specs.Cached.{Cached}
-use Rattle.wt_cache.specs.Gets.{IsSought}
-use Rattle.wt_cache.specs.Moves.{HasGot, HasTried}
-use Rattle.wt_cache.specs.declared.got.How.{How}
+use Rattle.wt_cache.specs.Gets.{HasTriedIn, IsSought}
+use Rattle.wt_cache.specs.Moves.{HasGotIn}
+use Rattle.wt_cache.specs.declared.got.Got.{Got}
 use Rattle.wt_trace.specs.Answers.{version}
 use Rattle.wt_trace.specs.Keys.{Keys}
 use Rattle.wt_trace.specs.Replayed.{is_config_fault}
@@ -80,13 +80,11 @@ module _ {K : Type 0} (keys : Keys K) where
 
     -- a get gave a value
     pub record HasGiven (k : K) (now : ℕ) : Type 0 where
-      pub how : How
-      pub value : Version K
-      pub number : ℕ
+      pub got : Got (Version K)
       pub before : NoticeList K (Version K)
       pub after : NoticeList K (Version K)
-      pub sought : IsSought keys.eq keys.word weight_of answers_for (place k) k now how value number (front_at (home k) old) (front_at (home k) new) before after
-      pub moved : HasGot c.lined (home k) how old.counted new.counted
+      pub sought : IsSought keys.eq keys.word weight_of answers_for k now c old new before after got
+      pub moved : HasGotIn keys.word k c old.counted new.counted got
 
     -- a get ended by a fault that is passed over
     pub record HasFailed (k : K) (now : ℕ) : Type 0 where
@@ -94,8 +92,7 @@ module _ {K : Type 0} (keys : Keys K) where
       pub passed_over : is_passed_over fault ≡ true
       pub before : NoticeList K (Version K)
       pub after : NoticeList K (Version K)
-      pub tried : HasTried c.lined (home k) (IsRefused keys.eq keys.word weight_of answers_for (place k) (call.Seek k now) (front_at (home k) old) (front_at (home k) new) fault
-          × (after ≡ before)) fault old.counted new.counted
+      pub tried : HasTriedIn keys.eq keys.word weight_of answers_for k now c old new before after fault
 
     -- a value is stored, unless it is too heavy
     abbrev pub HasPut : K → Version K → ℕ → Type 0

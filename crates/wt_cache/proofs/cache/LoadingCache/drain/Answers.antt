@@ -16,7 +16,7 @@ pub loop-preserved : goal.loop-preserved
 loop-preserved g c = record {
   can_next = tt;
   is_finite = tt;
-  room = room_emptied _ _ _ _ _ c.loop.invariant.room c.run.ensures.made.1.told c.empty.ensures;
+  room = room_emptied _ _ _ _ _ c.loop.invariant.room c.run.ensures.made.landed.made.told c.empty.ensures;
   moved = some_more _ _ _ c.loop.invariant.moved c.run.ensures.few;
   more = λ i. prefix_trans _ _ _ (c.loop.invariant.more i) (c.run.ensures.more i);
 }

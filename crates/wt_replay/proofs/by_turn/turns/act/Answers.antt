@@ -15,7 +15,8 @@ returns-in-Ok-clause-step g c =
     let options = c.args.loader.now.options in
     let cache = c.args.cache.now in
     let line = c.args.line.now in
-    acted keys options cache c.args.pass.now c.get.new.pass c.args.n line (act.Get c.in-Get.key) (let i = c.in-Get.is in search (rules, i)) (inl (record { how = c.in-Ok.field-0.how; value = c.in-Ok.field-0.value; number = c.in-Ok.field-0.step; before = c.args.notices.now; after = c.get.new.notices; sought = c.in-Ok.ensures.sought; moved = c.in-Ok.ensures.moved }))
+    acted keys options cache c.args.pass.now c.get.new.pass c.args.n line (act.Get c.in-Get.key) (let i = c.in-Get.is in search (rules, i))
+    (inl (record { got = c.in-Ok.field-0; before = c.args.notices.now; after = c.get.new.notices; sought = c.in-Ok.ensures.sought; moved = c.in-Ok.ensures.moved }))
 
 pub returns-in-Err-clause-step : goal.returns-in-Err-clause-step
 returns-in-Err-clause-step g c =

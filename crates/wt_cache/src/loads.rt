@@ -6,15 +6,15 @@
 // load is landed before it is published, and both for each lead once: landing borrows the lead,
 // publishing takes it away. So a caller that gets a value that was stored finds it in the cache,
 // unless it has left since.
-ghost use Rattle.std.specs.Prelude.{◌≡◌, ◌≤◌, true, IsTrue, IfOk, IfErr};
-ghost use Rattle.wt_flights.specs.Outcomes.{outcome_answers};
+ghost use Rattle.std.specs.Prelude.{◌≡◌, ◌≤◌, true, IsTrue, IfOk, IfErr, IsSomeAnd};
+ghost use Rattle.wt_flights.specs.Outcomes.{IsSameTicket, outcome_answers};
+ghost use Rattle.wt_flights.specs.Published.{Publishes};
 ghost use Rattle.wt_shards.specs.Asked.{LandAnswers};
 ghost use Rattle.wt_shards.specs.Passes.{SeenMore};
 ghost use Rattle.wt_core.specs.declared.calls.Land.{Land as Landing};
 ghost use Rattle.wt_core.specs.declared.calls.Land.TheVariants as land;
-ghost use Rattle.wt_cache.specs.Contract.{IsLandCall};
-ghost use Rattle.wt_cache.specs.Gets.{value_in};
-ghost use Rattle.wt_cache.specs.Moves.{HasLanded, is_late_fault};
+ghost use Rattle.wt_cache.specs.Loads.{IsLandCall, IsRun, IsTold, LandsAs, is_outcome_fault, value_in};
+ghost use Rattle.wt_cache.specs.Moves.{HasLanded};
 
 use crate::cache::LoadingCache;
 use crate::loader::Loader;
@@ -26,11 +26,13 @@ use wt_shards::{Books, Pass};
 
 /// How a load ended, for the caller or worker that ran it.
 #[derive(Drop)]
-pub(crate) struct Ran {
+pub(crate) struct Ran<K, V> {
     /// Whether the loader returned an error.
     pub failed: bool,
     /// Whether the landing was made.
     pub landed: Result<(), Fault>,
+    /// What became of the outcome: the ticket that knows it.
+    pub published: Publish<K, V>,
 }
 
 // Publishes the outcome, and wakes the callers that wait for it.
@@ -38,28 +40,32 @@ fn announce<K: CacheKey, V: Share + Answers<K>, R: Wait>(
     rt: &R,
     lead: Lead<K, V>,
     outcome: Outcome<V>,
-)
+) -> Publish<K, V>
     requires answers { IsTrue (outcome_answers V.answers outcome lead.key) }
+    ensures { Publishes lead outcome result }
 {
-    if let Publish::Published(ticket) = lead.publish(outcome) {
+    let published = lead.publish(outcome);
+    if let Publish::Published(ticket) = &published {
         ticket.ring(rt);
     }
+    published
 }
 
-// Waits for the outcome of a load, and returns a share of its value.
+// Waits for the outcome of a load, and returns a share of its value, or the fault that tells it.
 pub(crate) fn value_of<K: CacheKey, V: Share + Answers<K>, R: Wait>(
     rt: &R,
-    ticket: Ticket<K, V>,
+    ticket: &mut Ticket<K, V>,
 ) -> Result<V, Fault>
-    ensures answers { IfOk result (λ value. IsTrue (V.answers value ticket.key)) }
-    ensures faults { IfErr result (λ fault. is_late_fault fault ≡ true) }
+    ensures same { IsSameTicket ticket.old ticket.new }
+    ensures told { IsSomeAnd ticket.new.known (IsTold V.answers ticket.old.key result) }
+    ensures answers { IfOk result (λ value. IsTrue (V.answers value ticket.old.key)) }
+    ensures faults { IfErr result (λ fault. is_outcome_fault fault ≡ true) }
 {
-    let mut ticket = ticket;
     value_in(ticket.wait(rt)?)
 }
 
 // The value of an outcome, or the fault that tells it.
-fn value_in<V>(outcome: Outcome<V>) -> Result<V, Fault>
+pub(crate) fn value_in<V>(outcome: Outcome<V>) -> Result<V, Fault>
     ensures { result ≡ value_in outcome }
 {
     match outcome {
@@ -105,8 +111,9 @@ impl<
     ) -> Result<(), Fault>
         requires room { self.now.layout.config.entries ≤ notices.old.room }
         requires answers { IsTrue (V.answers value.now lead.now.key) }
-        ensures made { (what : Landing V) × IsLandCall K.eq K.word V.weight V.answers
-            self.now.layout lead.now what pass.old pass.new notices.old notices.new result }
+        ensures made { (what : Landing V) × LandsAs (Ok value.now) what × IsLandCall K.eq K.word
+            V.weight V.answers self.now.layout lead.now what pass.old pass.new notices.old
+            notices.new result }
     {
         let Ok(kept) = value.share() else {
             return self.land(rt, pass, lead, Land::Loose, notices);
@@ -125,10 +132,10 @@ impl<
         pass: &mut Pass<K, V, B>,
         lead: Lead<K, V>,
         notices: &mut Notices<K, V>,
-    ) -> Ran
+    ) -> Ran<K, V>
         requires room { self.now.layout.config.entries ≤ notices.old.room }
-        ensures made { (what : Landing V) × IsLandCall K.eq K.word V.weight V.answers
-            self.now.layout lead what pass.old pass.new notices.old notices.new result.landed }
+        ensures made { IsRun K.eq K.word V.weight V.answers self.now.layout lead pass.old pass.new
+            notices.old notices.new result }
         ensures few { HasLanded 1 pass.old.counted pass.new.counted }
         ensures more { SeenMore pass.old pass.new }
     {
@@ -136,15 +143,23 @@ impl<
         match self.loader.load(&key) {
             Ok(value) => {
                 let landed = self.land_value(rt, pass, &lead, &value, notices);
-                announce(rt, lead, Outcome::Value(value));
+                let published = announce(rt, lead, Outcome::Value(value));
                 let failed = false;
-                Ran { failed, landed }
+                Ran {
+                    failed,
+                    landed,
+                    published,
+                }
             }
             Err(code) => {
                 let landed = self.land(rt, pass, &lead, Land::Failed, notices);
-                announce(rt, lead, Outcome::Failed(code));
+                let published = announce(rt, lead, Outcome::Failed(code));
                 let failed = true;
-                Ran { failed, landed }
+                Ran {
+                    failed,
+                    landed,
+                    published,
+                }
             }
         }
     }
@@ -167,7 +182,7 @@ impl<
             pass.old pass.new notices.old notices.new result }
     {
         let landed = self.land(rt, pass, &lead, Land::Failed, notices);
-        announce(rt, lead, Outcome::Abandoned);
+        let _ = announce(rt, lead, Outcome::Abandoned);
         landed
     }
 }

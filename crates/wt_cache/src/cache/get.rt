@@ -11,26 +11,24 @@
 //
 // A lead has one owner at a time: the caller whose seek opened the load, the line, or the worker or
 // caller that took it off the line. That one lands the load and publishes its outcome. A ticket
-// stays with its caller, and each waits on its own, the one that opened the load too. A get holds no
-// lock while it loads or waits.
-ghost use Rattle.std.specs.Prelude.{◌≡◌, ◌*◌, ◌≤◌, true, IsTrue, IfOk, IfErr, OnOk};
-ghost use Rattle.wt_core.specs.Faults.{is_step_fault};
+// stays with its caller, and each waits on its own. A caller that ran its own load reads what it
+// published, and doesn't wait. A get holds no lock while it loads or waits.
+ghost use Rattle.std.specs.Prelude.{◌≡◌, ◌*◌, ◌≤◌, true, IsTrue, IfOk, IfErr};
 ghost use Rattle.wt_shards.specs.Passes.{SeenMore};
 ghost use Rattle.wt_shards.specs.Told.{HasTold};
-ghost use Rattle.wt_cache.specs.Gets.{IsSoughtIn, HasTriedIn, is_get_fault};
-ghost use Rattle.wt_cache.specs.Moves.{LandedSome, HasRunIn, HasRunIfAnyIn, HasGotIn, IsLaterIn};
-ghost use Rattle.wt_cache.specs.Contract.{IsLentGet};
+ghost use Rattle.wt_cache.specs.Gets.{IsSought, HasTriedIn, is_get_fault};
+ghost use Rattle.wt_cache.specs.Loads.{IsHandedTo, IsLoaded};
+ghost use Rattle.wt_cache.specs.Moves.{LandedSome, HasGotIn, IsLaterIn};
 
 use crate::cache::LoadingCache;
-use crate::caller::Caller;
 use crate::got::{Got, How};
 use crate::job_line::{Back, JobLine, Posted};
 use crate::line_pass::LinePass;
 use crate::loader::Loader;
-use crate::steps::land::value_of;
+use crate::loads::{Ran, value_in, value_of};
 use std::sync::Wait;
 use wt_core::{Notices, Weighs};
-use wt_flights::Lead;
+use wt_flights::{Lead, Publish, Ticket};
 use wt_keys::{Answers, CacheKey, Fault, Share};
 use wt_shards::{Books, Pass, Sought};
 
@@ -69,12 +67,13 @@ impl<
         ensures answers { IfOk result (λ got. IsTrue (V.answers got.value key)) }
         ensures moved { IfOk result (HasGotIn K.word key self.now pass.old.counted pass.new.counted) }
         ensures later { IfOk result (IsLaterIn K.word key self.now pass.old.counted) }
-        ensures sought { IfOk result (IsSoughtIn K.eq K.word V.weight V.answers key now self.now
+        ensures sought { IfOk result (IsSought K.eq K.word V.weight V.answers key now self.now
             pass.old pass.new notices.old notices.new) }
 
         ensures told { HasTold (2 * self.now.layout.config.entries) notices.old notices.new }
         ensures faults { IfErr result (λ fault. is_get_fault fault ≡ true) }
         // Either the seek was refused, for a cause of its own and with nothing done, or it stands.
+        // Then this is why it brought nothing.
         ensures err { IfErr result (HasTriedIn K.eq K.word V.weight V.answers key now self.now
             pass.old pass.new notices.old notices.new) }
     {
@@ -92,20 +91,53 @@ impl<
                 Ok(Got { value, how, step })
             }
             Sought::Join(ticket) => {
-                let value = value_of(rt, ticket)?;
+                let mut ticket = ticket;
+                let value = value_of(rt, &mut ticket)?;
                 let how = How::Joined;
                 Ok(Got { value, how, step })
             }
             Sought::Lead(lead, ticket) => {
-                self.hand_on(rt, pass, lead, notices)?;
-                let value = value_of(rt, ticket)?;
+                let value = self.load(rt, pass, lead, ticket, notices)?;
                 let how = How::Loaded;
                 Ok(Got { value, how, step })
             }
         }
     }
 
-    // Has a load run: by a worker if the line takes it, else here.
+    // Has a load run, and returns its value: that of the loader if it ran here, else what the ticket
+    // is told.
+    fn load<R: Wait>(
+        &self,
+        rt: &R,
+        pass: &mut Pass<K, V, B>,
+        lead: Lead<K, V>,
+        ticket: Ticket<K, V>,
+        notices: &mut Notices<K, V>,
+    ) -> Result<V, Fault>
+        requires room { self.now.layout.config.entries ≤ notices.old.room }
+        requires ticket { ticket.key ≡ lead.key }
+        ensures answers { IfOk result (λ value. IsTrue (V.answers value lead.key)) }
+        ensures made { IsLoaded K.eq K.word V.weight V.answers self.now lead pass.old pass.new
+            notices.old notices.new result }
+    {
+        let Some(ran) = self.hand_on(rt, pass, lead, notices) else {
+            let mut ticket = ticket;
+            return value_of(rt, &mut ticket);
+        };
+        ran.landed?;
+        match ran.published {
+            Publish::Already(outcome) => value_in(outcome),
+            Publish::Published(ticket) => {
+                let mut ticket = ticket;
+                match ticket.poll()? {
+                    Some(outcome) => value_in(outcome),
+                    None => unreachable!(),
+                }
+            }
+        }
+    }
+
+    // Has a load run: by a worker if the line takes it, else here, and then it returns what was run.
     //
     // What a late poster needs is made before the post, so that afterwards nothing is refused.
     fn hand_on<R: Wait>(
@@ -114,29 +146,26 @@ impl<
         pass: &mut Pass<K, V, B>,
         lead: Lead<K, V>,
         notices: &mut Notices<K, V>,
-    ) -> Result<(), Fault>
+    ) -> Option<Ran<K, V>>
         requires room { self.now.layout.config.entries ≤ notices.old.room }
-        ensures ran { OnOk result (HasRunIn K.word lead.key self.now pass.old.counted pass.new.counted) }
-        ensures some { HasRunIfAnyIn K.word lead.key self.now pass.old.counted pass.new.counted }
-        ensures more { SeenMore pass.old pass.new }
-        ensures told { HasTold self.now.layout.config.entries notices.old notices.new }
-        ensures faults { IfErr result (λ fault. is_step_fault fault ≡ true) }
+        ensures { IsHandedTo K.eq K.word V.weight V.answers self.now lead pass.old pass.new
+            notices.old notices.new result }
     {
         let Some(line) = &self.line else {
-            return self.run(rt, pass, lead, notices).landed;
+            return Some(self.run(rt, pass, lead, notices));
         };
         let Ok(mut hand) = line.pass(rt) else {
-            return self.run(rt, pass, lead, notices).landed;
+            return Some(self.run(rt, pass, lead, notices));
         };
         let Ok(mut aside) = Notices::new(line.alloc(), self.shards.entries() as usize) else {
-            return self.run(rt, pass, lead, notices).landed;
+            return Some(self.run(rt, pass, lead, notices));
         };
         match line.post(rt, &mut hand, lead) {
-            Err(Back { lead, fault: _ }) => self.run(rt, pass, lead, notices).landed,
-            Ok(Posted::Line) => Ok(()),
+            Err(Back { lead, fault: _ }) => Some(self.run(rt, pass, lead, notices)),
+            Ok(Posted::Line) => None,
             Ok(Posted::Late) => {
                 self.drain(rt, pass, line, &mut hand, &mut aside);
-                Ok(())
+                None
             }
         }
     }
@@ -163,28 +192,5 @@ impl<
             aside.empty();
         }
         unreachable!()
-    }
-}
-
-impl<
-    'c,
-    K: CacheKey,
-    V: Share + Weighs + Answers<K> + Send + Sync,
-    L: Loader<K, V> + Drop,
-    B: Books,
-    R: Wait,
-> Caller<'c, K, V, L, B, R> {
-    /// Returns the value of the key, loaded for all that ask meanwhile if it isn't there:
-    /// `LoadingCache::get`, which has the rest of what this call does.
-    ///
-    /// `now` is in milliseconds. First the list of what left is emptied.
-    ///
-    /// In use: `uses::callers::get`.
-    pub fn get(&mut self, key: K, now: u64) -> Result<Got<V>, Fault>
-        ensures made { IsLentGet K.eq K.word V.weight V.answers key now self.old self.new result }
-    {
-        self.left.empty();
-        let cache = self.callers.cache();
-        cache.get(self.rt, &mut self.pass, key, now, &mut self.left)
     }
 }

@@ -1,0 +1,131 @@
+// The calls of a caller: those of its cache, with its pass and its list.
+ghost use Rattle.std.specs.Prelude.{◌≤◌, IsTrue, IfOk};
+ghost use Rattle.wt_core.specs.declared.calls.Call.TheVariants as call;
+ghost use Rattle.wt_core.specs.declared.calls.Reply.TheVariants as reply;
+ghost use Rattle.wt_shards.specs.Asked.{ReplyAnswers};
+ghost use Rattle.wt_cache.specs.Cached.{most_entries};
+ghost use Rattle.wt_cache.specs.Contract.{IsLentCall, IsLentGet, IsLentPut, IsLentSweep};
+
+use crate::caller::Caller;
+use crate::got::Got;
+use crate::loader::Loader;
+use std::sync::Wait;
+use wt_core::{Notices, Reply, Weighs};
+use wt_keys::{Answers, CacheKey, Fault, Share};
+use wt_shards::{Books, Done};
+
+impl<
+    'c,
+    K: CacheKey,
+    V: Share + Weighs + Answers<K> + Send + Sync,
+    L: Loader<K, V> + Drop,
+    B: Books,
+    R: Wait,
+> Caller<'c, K, V, L, B, R> {
+    /// Returns the value of the key, loaded for all that ask meanwhile if it isn't there:
+    /// `LoadingCache::get`, which has the rest of what this call does.
+    ///
+    /// `now` is in milliseconds. First the list of what left is emptied.
+    ///
+    /// In use: `uses::callers::get`.
+    pub fn get(&mut self, key: K, now: u64) -> Result<Got<V>, Fault>
+        ensures made { IsLentGet K.eq K.word V.weight V.answers key now self.old self.new result }
+    {
+        self.left.empty();
+        let cache = self.callers.cache();
+        cache.get(self.rt, &mut self.pass, key, now, &mut self.left)
+    }
+
+    /// Returns the key's value if it is there, and loads nothing:
+    /// `LoadingCache::get_if_present`, which has the rest of what this call does.
+    ///
+    /// `now` is in milliseconds. First the list of what left is emptied.
+    ///
+    /// In use: `uses::callers::get_if_present`.
+    pub fn get_if_present(&mut self, key: K, now: u64) -> Result<Done<Reply<V>>, Fault>
+        ensures made { IsLentCall K.eq K.word V.weight V.answers key (call.Look key now)
+            (λ reply. reply) self.old self.new result }
+        ensures answers { IfOk result (λ done. ReplyAnswers V.answers key done.reply) }
+    {
+        self.left.empty();
+        let cache = self.callers.cache();
+        cache.get_if_present(self.rt, &mut self.pass, key, now, &mut self.left)
+    }
+
+    /// Stores the value under the key: `LoadingCache::put`, which has the rest of what this call
+    /// does.
+    ///
+    /// `now` is in milliseconds. First the list of what left is emptied.
+    ///
+    /// In use: `uses::callers::put`.
+    pub fn put(&mut self, key: K, value: V, now: u64) -> Result<Done<()>, Fault>
+        requires answers { IsTrue (V.answers value key) }
+        ensures made { IsLentPut K.eq K.word V.weight V.answers key value now self.old self.new
+            result }
+    {
+        self.left.empty();
+        let cache = self.callers.cache();
+        cache.put(self.rt, &mut self.pass, key, value, now, &mut self.left)
+    }
+
+    /// Takes the key's value out, and returns whether there was one: `LoadingCache::invalidate`,
+    /// which has the rest of what this call does.
+    ///
+    /// `now` is in milliseconds. First the list of what left is emptied.
+    ///
+    /// In use: `uses::callers::invalidate`.
+    pub fn invalidate(&mut self, key: K, now: u64) -> Result<Done<bool>, Fault>
+        ensures made { IsLentCall K.eq K.word V.weight V.answers key (call.DropKey key now)
+            reply.Dropped self.old self.new result }
+    {
+        self.left.empty();
+        let cache = self.callers.cache();
+        cache.invalidate(self.rt, &mut self.pass, key, now, &mut self.left)
+    }
+
+    /// Lets no further caller join the key's open load, and returns whether there was one:
+    /// `LoadingCache::forget`, which has the rest of what this call does.
+    ///
+    /// `now` is in milliseconds. First the list of what left is emptied.
+    ///
+    /// In use: `uses::callers::forget`.
+    pub fn forget(&mut self, key: K, now: u64) -> Result<Done<bool>, Fault>
+        ensures made { IsLentCall K.eq K.word V.weight V.answers key (call.Forget key now)
+            reply.Forgot self.old self.new result }
+    {
+        self.left.empty();
+        let cache = self.callers.cache();
+        cache.forget(self.rt, &mut self.pass, key, now, &mut self.left)
+    }
+
+    /// Takes every entry out, shard after shard: `LoadingCache::invalidate_all`, which has the
+    /// rest of what this call does.
+    ///
+    /// `now` is in milliseconds. What leaves goes into `notices`, since it may be more than the
+    /// caller's own list has room for.
+    ///
+    /// In use: `uses::callers::invalidate_all`.
+    pub fn invalidate_all(&mut self, now: u64, notices: &mut Notices<K, V>) -> Result<(), Fault>
+        requires room { most_entries self.old.cache ≤ notices.old.room }
+        ensures made { IsLentSweep K.eq K.word V.weight V.answers (call.Clear now) self.old self.new
+            notices.old notices.new result }
+    {
+        let cache = self.callers.cache();
+        cache.invalidate_all(self.rt, &mut self.pass, now, notices)
+    }
+
+    /// Takes every expired entry out, shard after shard: `LoadingCache::clean_up`, which has the
+    /// rest of what this call does.
+    ///
+    /// `now` is in milliseconds. What leaves goes into `notices`, as in `invalidate_all`.
+    ///
+    /// In use: `uses::callers::clean_up`.
+    pub fn clean_up(&mut self, now: u64, notices: &mut Notices<K, V>) -> Result<(), Fault>
+        requires room { most_entries self.old.cache ≤ notices.old.room }
+        ensures made { IsLentSweep K.eq K.word V.weight V.answers (call.Clean now) self.old self.new
+            notices.old notices.new result }
+    {
+        let cache = self.callers.cache();
+        cache.clean_up(self.rt, &mut self.pass, now, notices)
+    }
+}
