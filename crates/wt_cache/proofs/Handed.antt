@@ -1,5 +1,5 @@
 -- Loads that are handed on.
-use Rattle.std.proofs.Common.{◌≡◌, ℕ, Bool, true, false, Option, Some, None, refl, sym, subst, inl, inr}
+use Rattle.std.proofs.Common.{◌≡◌, ℕ, Bool, true, false, Option, Some, None, sym, subst, inl, inr}
 use Rattle.std.specs.Prelude.{◌⊎◌, Result, Ok, Err}
 use Rattle.wt_keys.specs.declared.fault.Fault.{Fault}
 use Rattle.wt_flights.specs.Outcomes.{Leading}

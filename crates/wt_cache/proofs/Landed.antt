@@ -13,7 +13,6 @@ use Rattle.wt_shards.specs.Contract.{IsHomeCall}
 use Rattle.wt_shards.specs.Counts.{is_hit}
 use Rattle.wt_shards.specs.History.{state_after}
 use Rattle.wt_shards.specs.declared.done.Done.{Done}
-use mathlib.Core.List.{IsPrefix}
 use Rattle.wt_history.proofs.Fronts.{prefix_trans}
 use Rattle.wt_keys.specs.declared.fault.Fault.{Fault}
 use Rattle.wt_flights.specs.Outcomes.{Leading}
@@ -21,9 +20,8 @@ use Rattle.wt_regions.specs.Notices.{NoticeList}
 use Rattle.wt_core.specs.declared.calls.Call.{Call}
 use Rattle.wt_core.specs.declared.calls.Call.TheVariants.{Land}
 use Rattle.wt_core.specs.declared.calls.Land.{Land as Landing}
-use Rattle.wt_shards.specs.Passes.{Passed, Seen, SeenAt, SeenMore, front_at, with_step}
+use Rattle.wt_shards.specs.Passes.{Seen, SeenAt, SeenMore, front_at, with_step}
 use Rattle.wt_shards.specs.Place.{Layout, home_at, home_of}
-use Rattle.wt_shards.specs.Told.{HasTold}
 use Rattle.wt_shards.proofs.SeenMore.{made-earlier, made-grows, refused-earlier, refused-grows, seen-more, seen-twice}
 use Rattle.wt_cache.specs.Loads.{IsLandCall}
 

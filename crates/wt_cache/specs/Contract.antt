@@ -1,5 +1,5 @@
 -- What a call promises that hands on what another one made, and what several functions promise alike.
-use Rattle.std.specs.Prelude.{◌≡◌, ◌⊎◌, ◌<◌, ◌≤◌, ◌*◌, ℕ, Bool, true, false, List, Vec, vec_len, slice_index_or, Result, Err, IsTrue, IfOk, IfErr, OnOk, OnErr, IsErrAnd, IsOkUnless, MatchOption}
+use Rattle.std.specs.Prelude.{◌≡◌, ◌⊎◌, ◌<◌, ◌≤◌, ◌*◌, ℕ, Bool, true, List, Vec, vec_len, slice_index_or, Result, Err, IsTrue, IfOk, IfErr, IsErrAnd, IsOkUnless, MatchOption}
 use Rattle.wt_keys.specs.declared.fault.Fault.{Fault}
 use Rattle.wt_keys.specs.declared.fault.Fault.TheVariants.{NoMemory, BadConfig, TooHeavy, PassesSpent}
 use Rattle.wt_regions.specs.Notices.{NoticeList, emptied}

@@ -1,5 +1,5 @@
 -- What the run of a load promises, and what its caller is told.
-use Rattle.std.specs.Prelude.{◌≡◌, ◌⊎◌, ℕ, Bool, true, false, List, Option, Some, None, Result, Ok, Err, IfOk, IfErr, OnOk, OnErr}
+use Rattle.std.specs.Prelude.{◌≡◌, ◌⊎◌, ℕ, Bool, true, false, Option, Some, None, Result, Ok, Err, IfErr, OnOk, OnErr}
 use Rattle.std.specs.Result.{is_err}
 use Rattle.wt_keys.specs.declared.fault.Fault.{Fault}
 use Rattle.wt_keys.specs.declared.fault.Fault.TheVariants.{NoMemory, LoadFailed, Abandoned, Mixed}
@@ -9,7 +9,6 @@ use Rattle.wt_flights.specs.declared.outcome.Outcome.{Outcome}
 use Rattle.wt_flights.specs.declared.outcome.Outcome.TheVariants as outcome
 use Rattle.wt_regions.specs.Notices.{NoticeList}
 use Rattle.wt_core.specs.Faults.{is_step_fault}
-use Rattle.wt_core.specs.declared.calls.Call.{Call}
 use Rattle.wt_core.specs.declared.calls.Call.TheVariants.{Land}
 use Rattle.wt_core.specs.declared.calls.Land.{Land as Landing}
 use Rattle.wt_core.specs.declared.calls.Land.TheVariants as land
