@@ -30,7 +30,10 @@ pub use books::{Blanks, Books, Named};
 pub use closed::Closed;
 pub use done::Done;
 pub use explained::Explained;
-pub use laws::{outline_of_step, own_put_is_read, served_values_were_brought};
+pub use laws::{
+    loads_land_once, one_load_is_current, outline_of_step, own_put_is_read,
+    served_values_were_brought, sharers_are_counted, stale_loads_are_not_stored,
+};
 pub use names::{Hits, Names, Of, Steps};
 pub use pass::Pass;
 pub use shade::{Noted, Shade};
