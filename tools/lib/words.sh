@@ -124,7 +124,7 @@ last_build() {
 
 # The minutes that CONTRIBUTING.md measured.
 measured_minutes() {
-    sed -n 's/.*`wt_replay` \([0-9]*\) and its tests.*/\1/p' "$top/CONTRIBUTING.md"
+    sed -n 's/.*`wt_replay` after \([0-9]*\) .*/\1/p' "$top/CONTRIBUTING.md"
 }
 
 # The seconds that it is reckoned to take.
