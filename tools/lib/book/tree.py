@@ -105,7 +105,7 @@ class Tree:
         """The address of a name that a link leads to, in a file of a crate."""
         crate, place, *inside = path.relative_to(CRATES).with_suffix("").parts
         if path.suffix == ".edit":
-            return self.edit(crate, path.stem)
+            return self.edit(crate, path.stem) if crate in self.crates else self.source(path)
         if place == "specs":
             return self.word(crate, ".".join(inside), name)
         inner = self.crates[crate].calls.get(name) if crate in self.crates else None
