@@ -1,21 +1,29 @@
 """That by turn as many threads take turns and run loads as the options say, for tools/gate/check_program.
 
-No report shows which thread ran a load. So this looks at what the system tells of the program's threads while it runs: one that
-posts loads, or runs them, sleeps and is woken at nearly each, and one that does neither isn't woken.
+No report shows which thread ran a load. So this looks at what the system tells of the program's threads while it runs. One that posts
+loads, or runs them, waits at nearly each: it sleeps and is woken, or, on a machine with a free core, it spins and uses that core. One
+that does neither is neither woken nor running.
 
 A row is tried again while a run shows too few busy threads. A right program may show too few: on a loaded machine it ends before this
 check reads its numbers, or no worker comes in time and its threads load for themselves. A wrong program never shows enough in any
-run, since no run has more busy threads than the program gives work to. So one run that shows enough decides, and no clock does.
+run, since no run has more busy threads than the program gives work to. So one run that shows enough decides, and no clock does. A run
+that doesn't end is ended, and shows what it had shown by then.
 """
+import os
 import subprocess
+import threading
 from pathlib import Path
 
 LOADS = 500_000
 # A thread without work is switched to a few times, as it starts and ends.
-BUSY = 100
+SWITCHES = 100
+# The system's ticks of a tenth of a second. A thread without work uses none.
+TICKS = os.sysconf("SC_CLK_TCK") // 10
 # Threads that take turns, and threads that run loads.
 ROWS = ((1, 1), (1, 2), (2, 2), (2, 5), (4, 3))
 TRIES = 10
+# Seconds after which a run is ended. A right program takes one or two.
+LONGEST = 120
 
 
 def trace():
@@ -23,33 +31,49 @@ def trace():
 
 
 def switches(task):
-    """How often a thread was switched to, or 0 if it has ended."""
-    try:
-        lines = (task / "status").read_text().splitlines()
-    except OSError:
-        return 0
-    return sum(int(line.split()[1]) for line in lines if "ctxt_switches" in line)
+    """How often a thread was switched to."""
+    return sum(int(line.split()[1]) for line in (task / "status").read_text().splitlines() if "ctxt_switches" in line)
 
 
-def busy_threads(child):
-    """How many threads of the program are busy now."""
+def ticks(task):
+    """The processor's time that a thread has used, in the system's ticks."""
+    user, system = (task / "stat").read_text().rpartition(")")[2].split()[11:13]
+    return int(user) + int(system)
+
+
+def numbers(child):
+    """Of each thread of the program that hasn't ended, its switches and its ticks."""
+    found = {}
     try:
-        return sum(switches(task) >= BUSY for task in Path("/proc/%d/task" % child.pid).iterdir())
+        for task in Path("/proc/%d/task" % child.pid).iterdir():
+            found[task.name] = (switches(task), ticks(task))
     except OSError:
-        return 0
+        pass
+    return found
+
+
+def busy_threads(first, now):
+    """How many threads are busy: what the one that reads the trace did for that, alone, doesn't count."""
+    return sum(woken >= SWITCHES or used - first[name][1] >= TICKS for name, (woken, used) in now.items())
 
 
 def most_busy(program, turn, workers, given):
     """The most threads that are busy at once, up to as many as there are to be."""
     words = [str(program), "--turn", str(turn), "--workers", str(workers), "--entries", "16"]
     child = subprocess.Popen(words, stdin=subprocess.PIPE, stdout=subprocess.DEVNULL, stderr=subprocess.DEVNULL)
-    most = 0
+    end, first, most = threading.Timer(LONGEST, child.kill), {}, 0
+    end.start()
     try:
         child.stdin.write(given)
         child.stdin.close()
         while child.poll() is None and most < turn + workers:
-            most = max(most, busy_threads(child))
+            now = numbers(child)
+            first = {**now, **first} if len(now) > 1 else now
+            most = max(most, busy_threads(first, now))
+    except BrokenPipeError:
+        pass
     finally:
+        end.cancel()
         child.kill()
         child.wait()
     return most
