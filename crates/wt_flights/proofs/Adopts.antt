@@ -26,7 +26,8 @@ module _ {K : Type 0} where
   open_of r = record { key = r.key; sharers = r.sharers; current = r.current }
 
   -- the table by id got an entry for a row that is newer than all, and the one by key too if the row is current, whose key had none
-  pub record Adopts (eq : K → K → Bool) (by_id by_id' : ℕ → Option (Open K)) (by_key by_key' : K → Option ℕ) (next : ℕ) (r : Row K) : Type 0 where
+  pub record Adopts (eq : K → K → Bool) (by_id by_id' : ℕ → Option (Open K)) (by_key by_key' : K → Option ℕ) (next : ℕ)
+      (r : Row K) : Type 0 where
     pub newer : next ≤ r.id
     pub only : r.current ≡ true → by_key r.key ≡ None
     pub opened : (q : ℕ) → by_id' q ≡ cond (eqb r.id q) (Some (open_of r)) (by_id q)
@@ -34,7 +35,8 @@ module _ {K : Type 0} where
 
   -- the table by id has one entry more
   pub one_longer : (by_id g : ℕ → Option (Open K)) (next id len held len' : ℕ) (found : Option (Open K)) → ((q : ℕ) → g q ≡ by_id q)
-      → ((i : ℕ) → next ≤ i → by_id i ≡ None) → next ≤ id → held ≡ len → found ≡ g id → len' ≡ held + cond (is_some found) 0 1 → len' ≡ len + 1
+      → ((i : ℕ) → next ≤ i → by_id i ≡ None) → next ≤ id → held ≡ len → found ≡ g id
+      → len' ≡ held + cond (is_some found) 0 1 → len' ≡ len + 1
   one_longer by_id g next id len held len' found same' fresh newer held-is found-is len-is =
       let absent' : found ≡ None = found-is ∙ same' id ∙ fresh id newer in
       let added : Option (Open K) → ℕ = λ o. cond (is_some o) 0 1 in
@@ -83,7 +85,8 @@ module _ {K : Type 0} where
       -- whether the row itself is current
       is_at-adopted : (len : ℕ) → AreTied by_id by_key next len → is_at (by_key' r.key) r.id ≡ r.current
       is_at-adopted len tied = ⊎_elim
-          (λ (t : r.current ≡ true). is_at-here (by_key' r.key) r.id (named_here r.key (and_true r.current (eq r.key r.key) (laws.refl r.key) ∙ t)) ∙ sym t)
+          (λ (t : r.current ≡ true). is_at-here (by_key' r.key) r.id
+          (named_here r.key (and_true r.current (eq r.key r.key) (laws.refl r.key) ∙ t)) ∙ sym t)
           (λ (t : r.current ≡ false).
           let stays : by_key' r.key ≡ by_key r.key = named_apart r.key (ap (λ b. b && eq r.key r.key) t) in
           let absent' : is_at (by_key r.key) r.id ≡ false = ⊎_elim
@@ -98,12 +101,15 @@ module _ {K : Type 0} where
           (flag r.current)
 
       -- the list has the row at its end
-      pub rows_of-adopted : (len : ℕ) → AreTied by_id by_key next len → rows_of by_id' by_key' (r.id + 1) ≡ rows_of by_id by_key next ++ r ∷ []
+      pub rows_of-adopted : (len : ℕ) → AreTied by_id by_key next len
+          → rows_of by_id' by_key' (r.id + 1) ≡ rows_of by_id by_key next ++ r ∷ []
       rows_of-adopted len tied =
           let k : r.id + 1 ≡ suc r.id = omega arith in
-          let last : row_at by_id' by_key' r.id ≡ Some r = row_here by_id' by_key' r.id (open_of r) (opened_here r.id (eq-eqb r.id r.id refl))
+          let last : row_at by_id' by_key' r.id ≡ Some r =
+          row_here by_id' by_key' r.id (open_of r) (opened_here r.id (eq-eqb r.id r.id refl))
           ∙ ap (λ b. Some (record { id = r.id; key = r.key; current = b; sharers = r.sharers })) (is_at-adopted len tied) in
-          let front : rows_of by_id' by_key' r.id ≡ rows_of by_id by_key r.id = listed_same (row_at by_id' by_key') (row_at by_id by_key) r.id
+          let front : rows_of by_id' by_key' r.id ≡ rows_of by_id by_key r.id =
+          listed_same (row_at by_id' by_key') (row_at by_id by_key) r.id
           (λ i l. let ne = id_apart i l in row_same by_id by_id' by_key by_key' i (opened_apart i ne) (λ p at. is_at-apart i p.key ne)) in
           let gap : rows_of by_id by_key r.id ≡ rows_of by_id by_key next = listed_gap (row_at by_id by_key) next r.id a.newer
           (λ i l. no_row by_id by_key i (tied.fresh i l)) in
@@ -132,7 +138,8 @@ module _ {K : Type 0} where
           }
 
       -- each load still says whether it is current
-      pub adopt_marks : (len since : ℕ) → AreTied by_id by_key next len → AreMarked by_id by_key next since → AreMarked by_id' by_key' (r.id + 1) since
+      pub adopt_marks : (len since : ℕ) → AreTied by_id by_key next len → AreMarked by_id by_key next since
+          → AreMarked by_id' by_key' (r.id + 1) since
       adopt_marks len since tied marked =
           let newer = a.newer in
           let past = marked.past in
@@ -145,7 +152,8 @@ module _ {K : Type 0} where
                 let l : nat_le since i ≡ true = grind (arith, nat_tests) in
                 ap (λ (p : Open K). p.current && nat_le since i) is ∙ and_true r.current (nat_le since i) l
                 ∙ sym (ap (λ (p : Open K). is_at (by_key' p.key) i) is ∙ ap (is_at (by_key' r.key)) (sym k) ∙ is_at-adopted len tied))
-                (λ (t : (eqb r.id i ≡ false) × (r.id ≢ i)). marked.marks i o (sym (opened_apart i t.0) ∙ at) ∙ sym (is_at-apart i o.key t.0))
+                (λ (t : (eqb r.id i ≡ false) × (r.id ≢ i)). marked.marks i o (sym (opened_apart i t.0) ∙ at)
+                ∙ sym (is_at-apart i o.key t.0))
                 (eqb_tells r.id i);
             past = omega arith;
           }

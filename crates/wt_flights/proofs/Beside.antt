@@ -40,16 +40,20 @@ module _ {K : Type 0} where
       (λ r less. differs r.id id (λ e. omega arith)) rows below)
 
   -- the newest load, if it has the id
-  pub last_is : (newest : Option (Row K)) (r : Row K) (id : ℕ) → newest ≡ Some r → r.id ≡ id → find (λ s. eqb s.id id) (option_to_list newest) ≡ Some r
+  pub last_is : (newest : Option (Row K)) (r : Row K) (id : ℕ) → newest ≡ Some r → r.id ≡ id
+      → find (λ s. eqb s.id id) (option_to_list newest) ≡ Some r
   last_is newest r id is its = ap (λ o. find (λ s. eqb s.id id) (option_to_list o)) is ∙ (λ i. cond (eq-eqb r.id id its i) (Some r) None)
 
   -- the newest load, if it has another id
-  pub last_differs : (newest : Option (Row K)) (r : Row K) (id : ℕ) → newest ≡ Some r → r.id ≢ id → find (λ s. eqb s.id id) (option_to_list newest) ≡ None
-  last_differs newest r id is ne = ap (λ o. find (λ s. eqb s.id id) (option_to_list o)) is ∙ (λ i. cond (differs r.id id ne i) (Some r) None)
+  pub last_differs : (newest : Option (Row K)) (r : Row K) (id : ℕ) → newest ≡ Some r → r.id ≢ id
+      → find (λ s. eqb s.id id) (option_to_list newest) ≡ None
+  last_differs newest r id is ne = ap (λ o. find (λ s. eqb s.id id) (option_to_list o)) is
+      ∙ (λ i. cond (differs r.id id ne i) (Some r) None)
 
   module _ (eq : K → K → Bool) where
     -- where the newest load has the id, none of the older ones has
-    row-older : (id : ℕ) (newest : Option (Row K)) (next : ℕ) (older : Flights K) (r : Row K) → IsLawful eq older → IsBeside eq newest next older
+    row-older : (id : ℕ) (newest : Option (Row K)) (next : ℕ) (older : Flights K) (r : Row K) → IsLawful eq older
+        → IsBeside eq newest next older
         → find (λ s. eqb s.id id) (option_to_list newest) ≡ Some r → row id older ≡ None
     row-older id None next older r lawful fits found = absurd (cc)
     row-older id (Some s) next older r lawful fits found =
@@ -58,19 +62,22 @@ module _ {K : Type 0} where
         row-past id older.next older.limit older.rows lawful.below (omega (arith, its, after))
 
     -- the newest load has the id
-    pub row-beside_newest : (id : ℕ) (newest : Option (Row K)) (next : ℕ) (older : Flights K) (r : Row K) → IsLawful eq older → IsBeside eq newest next older
+    pub row-beside_newest : (id : ℕ) (newest : Option (Row K)) (next : ℕ) (older : Flights K) (r : Row K)
+        → IsLawful eq older → IsBeside eq newest next older
         → find (λ s. eqb s.id id) (option_to_list newest) ≡ Some r → row id (beside newest next older) ≡ Some r
     row-beside_newest id newest next older r lawful fits found =
         find-with_newest_passes (λ s. eqb s.id id) newest older.rows r (row-older id newest next older r lawful fits found) found
 
     -- the newest load lands
-    pub landed-beside_newest : (id : ℕ) (newest : Option (Row K)) (next : ℕ) (older : Flights K) (r : Row K) → IsLawful eq older → IsBeside eq newest next older
+    pub landed-beside_newest : (id : ℕ) (newest : Option (Row K)) (next : ℕ) (older : Flights K) (r : Row K)
+        → IsLawful eq older → IsBeside eq newest next older
         → find (λ s. eqb s.id id) (option_to_list newest) ≡ Some r → landed id (beside newest next older) ≡ beside None next older
     landed-beside_newest id newest next older r lawful fits found = ap (λ rs. record { limit = older.limit; next = next; rows = rs })
         (filter-with_newest_passes (λ s. eqb s.id id) newest older.rows r (row-older id newest next older r lawful fits found) found)
 
   -- the newest load doesn't have the id
-  pub row-beside_older : (id : ℕ) (newest : Option (Row K)) (next : ℕ) (older : Flights K) → find (λ s. eqb s.id id) (option_to_list newest) ≡ None
+  pub row-beside_older : (id : ℕ) (newest : Option (Row K)) (next : ℕ) (older : Flights K)
+      → find (λ s. eqb s.id id) (option_to_list newest) ≡ None
       → row id (beside newest next older) ≡ row id older
   row-beside_older id newest next older none = find-with_newest_fails (λ s. eqb s.id id) newest older.rows none
 
@@ -95,7 +102,8 @@ module _ {K : Type 0} where
 
   module _ (eq : K → K → Bool) where
     -- where there is no newest load and one can be taken back, it is the last of the older ones
-    next-older : (next : ℕ) (older : Flights K) → IsLawful eq older → older.next ≤ next → CanTakeBack (beside None next older) → older.next ≡ next
+    next-older : (next : ℕ) (older : Flights K) → IsLawful eq older → older.next ≤ next
+        → CanTakeBack (beside None next older) → older.next ≡ next
     next-older next older lawful least can = ⊎_elim
         (λ (t : next - 1 < older.next). omega arith)
         (λ (t : older.next ≤ next - 1).
@@ -106,21 +114,26 @@ module _ {K : Type 0} where
         (cases_lt (next - 1) older.next)
 
     -- then the older ones can take it back
-    pub CanTakeBack-older : (newest : Option (Row K)) (next : ℕ) (older : Flights K) → IsLawful eq older → IsBeside eq newest next older → newest ≡ None
+    pub CanTakeBack-older : (newest : Option (Row K)) (next : ℕ) (older : Flights K) → IsLawful eq older
+        → IsBeside eq newest next older → newest ≡ None
         → CanTakeBack (beside newest next older) → CanTakeBack older
     CanTakeBack-older (Some r) next older lawful fits is can = absurd (cc)
     CanTakeBack-older None next older lawful fits is can =
-        subst (λ n. IsSomeAnd (row (n - 1) older) (λ r. IsTrue r.current × (r.sharers ≡ 1))) (sym (next-older next older lawful fits.below can)) can
+        subst (λ n. IsSomeAnd (row (n - 1) older) (λ r. IsTrue r.current × (r.sharers ≡ 1)))
+        (sym (next-older next older lawful fits.below can)) can
 
     -- and it is taken back by them
-    pub taken_back-beside_older : (newest : Option (Row K)) (next : ℕ) (older : Flights K) → IsLawful eq older → IsBeside eq newest next older → newest ≡ None
+    pub taken_back-beside_older : (newest : Option (Row K)) (next : ℕ) (older : Flights K) → IsLawful eq older
+        → IsBeside eq newest next older → newest ≡ None
         → CanTakeBack (beside newest next older) → taken_back (beside newest next older) ≡ beside newest (next - 1) (taken_back older)
     taken_back-beside_older (Some r) next older lawful fits is can = absurd (cc)
     taken_back-beside_older None next older lawful fits is can =
-        ap (λ n. record { limit = older.limit; next = next - 1; rows = (landed (n - 1) older).rows }) (sym (next-older next older lawful fits.below can))
+        ap (λ n. record { limit = older.limit; next = next - 1; rows = (landed (n - 1) older).rows })
+        (sym (next-older next older lawful fits.below can))
 
     -- the newest load is taken back
-    pub taken_back-beside_newest : (newest : Option (Row K)) (next : ℕ) (older : Flights K) (r : Row K) → IsLawful eq older → IsBeside eq newest next older → newest ≡ Some r
+    pub taken_back-beside_newest : (newest : Option (Row K)) (next : ℕ) (older : Flights K) (r : Row K)
+        → IsLawful eq older → IsBeside eq newest next older → newest ≡ Some r
         → taken_back (beside newest next older) ≡ beside None (next - 1) older
     taken_back-beside_newest None next older r lawful fits is = absurd (cc)
     taken_back-beside_newest (Some s) next older r lawful fits is =
@@ -133,13 +146,16 @@ module _ {K : Type 0} where
   -- ---- by a key
   module _ (eq : K → K → Bool) (key : K) where
     -- the newest load isn't the key's current one
-    pub current_row-beside_older : (newest : Option (Row K)) (next : ℕ) (older : Flights K) → find (is_current eq key) (option_to_list newest) ≡ None
+    pub current_row-beside_older : (newest : Option (Row K)) (next : ℕ) (older : Flights K)
+        → find (is_current eq key) (option_to_list newest) ≡ None
         → current_row eq key (beside newest next older) ≡ current_row eq key older
     current_row-beside_older newest next older none = find-with_newest_fails (is_current eq key) newest older.rows none
 
     -- the key's oldest load, of the older ones or the newest
-    pub first_of-beside : (newest : Option (Row K)) (next : ℕ) (older : Flights K) → option_map (λ r. r.id) (first_of eq key (beside newest next older))
-        ≡ option_or (option_map (λ r. r.id) (first_of eq key older)) (option_map (λ r. r.id) (find (λ r. eq key r.key) (option_to_list newest)))
+    pub first_of-beside : (newest : Option (Row K)) (next : ℕ) (older : Flights K)
+        → option_map (λ r. r.id) (first_of eq key (beside newest next older))
+        ≡ option_or (option_map (λ r. r.id) (first_of eq key older))
+        (option_map (λ r. r.id) (find (λ r. eq key r.key) (option_to_list newest)))
     first_of-beside newest next older = option_map-find_with_newest (λ r. eq key r.key) (λ r. r.id) newest older.rows
 
     module _ (same : (a b : K) → eq a b ≡ true → a ≡ b) where
@@ -150,7 +166,8 @@ module _ {K : Type 0} where
       current_row-older (Some s) next older r fits found =
           let passes = both s.current (eq key s.key) (passes_last (is_current eq key) s r found).0 in
           let its : key ≡ s.key = same key s.key passes.1 in
-          let none : current_row eq s.key older ≡ None = nothing_mapped (λ r. r.id) (current_row eq s.key older) (fits.placed.only passes.0) in
+          let none : current_row eq s.key older ≡ None =
+          nothing_mapped (λ r. r.id) (current_row eq s.key older) (fits.placed.only passes.0) in
           ap (λ k. current_row eq k older) its ∙ none
 
       -- the newest load is the key's current one
@@ -161,13 +178,16 @@ module _ {K : Type 0} where
 
       -- the newest load is forgotten
       pub forgotten-beside_newest : (newest : Option (Row K)) (next : ℕ) (older : Flights K) (r : Row K) → IsBeside eq newest next older
-          → find (is_current eq key) (option_to_list newest) ≡ Some r → forgotten eq key (beside newest next older) ≡ beside (Some (not_current r)) next older
+          → find (is_current eq key) (option_to_list newest) ≡ Some r
+          → forgotten eq key (beside newest next older) ≡ beside (Some (not_current r)) next older
       forgotten-beside_newest newest next older r fits found = ap (λ rs. record { limit = older.limit; next = next; rows = rs })
-          (map-with_newest_passes (is_current eq key) not_current newest older.rows r (current_row-older newest next older r fits found) found)
+          (map-with_newest_passes (is_current eq key) not_current newest older.rows r
+          (current_row-older newest next older r fits found) found)
 
       -- the newest load is joined
       pub joined-beside_newest : (newest : Option (Row K)) (next : ℕ) (older : Flights K) (r : Row K) → IsBeside eq newest next older
-          → find (is_current eq key) (option_to_list newest) ≡ Some r → joined eq key (beside newest next older) ≡ beside (Some (one_more r)) next older
+          → find (is_current eq key) (option_to_list newest) ≡ Some r
+          → joined eq key (beside newest next older) ≡ beside (Some (one_more r)) next older
       joined-beside_newest newest next older r fits found = ap (λ rs. record { limit = older.limit; next = next; rows = rs })
           (map-with_newest_passes (is_current eq key) one_more newest older.rows r (current_row-older newest next older r fits found) found)
 
@@ -258,7 +278,8 @@ module _ {K : Type 0} where
         let room = fits.placed.room in
         let long = length-append older.rows (r ∷ []) in
         let below : All (λ (s : Row K). s.id < next) older.rows =
-        All-weaker (λ (s : Row K). s.id < older.next) (λ (s : Row K). s.id < next) (λ s less. omega (arith, less, last, after)) older.rows lawful.below in
+        All-weaker (λ (s : Row K). s.id < older.next) (λ (s : Row K). s.id < next)
+        (λ s less. omega (arith, less, last, after)) older.rows lawful.below in
         record {
           from_one = omega arith;
           within = omega (arith, long, room);

@@ -19,7 +19,8 @@ option_or-None : {X : Type 0} (o : Option X) → option_or o None ≡ o
 option_or-None None = refl
 option_or-None (Some x) = refl
 
-option_map-option_or : {X Y : Type 0} (f : X → Y) (o q : Option X) → option_map f (option_or o q) ≡ option_or (option_map f o) (option_map f q)
+option_map-option_or : {X Y : Type 0} (f : X → Y) (o q : Option X)
+    → option_map f (option_or o q) ≡ option_or (option_map f o) (option_map f q)
 option_map-option_or f None q = refl
 option_map-option_or f (Some x) q = refl
 
@@ -98,7 +99,8 @@ module _ {X : Type 0} (p : X → Bool) where
       let last : filter (λ y. not (p y)) (x ∷ []) ≡ [] = λ i. cond (not (t i)) (x ∷ []) [] in
       filter-append (λ y. not (p y)) xs (x ∷ []) ∙ ap (λ l. front ++ l) last ∙ append-nil front ∙ filter_none xs none
 
-  map-push_passes : (u : X → X) (xs : List X) (x : X) → find p xs ≡ None → p x ≡ true → map (λ y. cond (p y) (u y) y) (xs ++ x ∷ []) ≡ xs ++ u x ∷ []
+  map-push_passes : (u : X → X) (xs : List X) (x : X) → find p xs ≡ None → p x ≡ true
+      → map (λ y. cond (p y) (u y) y) (xs ++ x ∷ []) ≡ xs ++ u x ∷ []
   map-push_passes u xs x none t =
       let change : X → X = λ y. cond (p y) (u y) y in
       let last : map change (x ∷ []) ≡ u x ∷ [] = λ i. cond (t i) (u x) x ∷ [] in
@@ -113,7 +115,8 @@ module _ {X : Type 0} (p : X → Bool) where
 
 -- ---- the older rows and the newest one
 module _ {K : Type 0} (p : Row K → Bool) where
-  pub find-with_newest_passes : (newest : Option (Row K)) (rows : List (Row K)) (r : Row K) → find p rows ≡ None → find p (option_to_list newest) ≡ Some r
+  pub find-with_newest_passes : (newest : Option (Row K)) (rows : List (Row K)) (r : Row K) → find p rows ≡ None
+      → find p (option_to_list newest) ≡ Some r
       → find p (with_newest newest rows) ≡ Some r
   find-with_newest_passes None rows r none found = absurd (cc)
   find-with_newest_passes (Some s) rows r none found = find-append p rows (s ∷ []) ∙ ap (λ o. option_or o (find p (s ∷ []))) none ∙ found
@@ -123,7 +126,8 @@ module _ {K : Type 0} (p : Row K → Bool) where
   find-with_newest_fails None rows none = refl
   find-with_newest_fails (Some s) rows none = find-push_fails p rows s (none_in p s [] none).0
 
-  pub filter-with_newest_passes : (newest : Option (Row K)) (rows : List (Row K)) (r : Row K) → find p rows ≡ None → find p (option_to_list newest) ≡ Some r
+  pub filter-with_newest_passes : (newest : Option (Row K)) (rows : List (Row K)) (r : Row K) → find p rows ≡ None
+      → find p (option_to_list newest) ≡ Some r
       → filter (λ s. not (p s)) (with_newest newest rows) ≡ rows
   filter-with_newest_passes None rows r none found = absurd (cc)
   filter-with_newest_passes (Some s) rows r none found = filter-push_passes p rows s none (passes_last p s r found).0
@@ -137,6 +141,8 @@ module _ {K : Type 0} (p : Row K → Bool) where
 
   -- what is told of the first that passes
   pub option_map-find_with_newest : {Y : Type 0} (f : Row K → Y) (newest : Option (Row K)) (rows : List (Row K))
-      → option_map f (find p (with_newest newest rows)) ≡ option_or (option_map f (find p rows)) (option_map f (find p (option_to_list newest)))
+      → option_map f (find p (with_newest newest rows))
+      ≡ option_or (option_map f (find p rows)) (option_map f (find p (option_to_list newest)))
   option_map-find_with_newest f None rows = sym (option_or-None (option_map f (find p rows)))
-  option_map-find_with_newest f (Some s) rows = ap (option_map f) (find-append p rows (s ∷ [])) ∙ option_map-option_or f (find p rows) (find p (s ∷ []))
+  option_map-find_with_newest f (Some s) rows = ap (option_map f) (find-append p rows (s ∷ []))
+      ∙ option_map-option_or f (find p rows) (find p (s ∷ []))

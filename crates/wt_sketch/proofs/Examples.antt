@@ -13,7 +13,8 @@ abbrev five_more : Counters
 five_more = counted_words twenty (replicate 5 2)
 
 -- a counter stops at 15, and at 20 additions all are halved
-pub counters_stop_and_are_halved : estimate_of twenty 1 ∷ twenty.additions ∷ estimate_of five_more 1 ∷ estimate_of five_more 2 ∷ five_more.additions ∷ [] ≡ 15 ∷ 15 ∷ 7 ∷ 2 ∷ 10 ∷ []
+pub counters_stop_and_are_halved : estimate_of twenty 1 ∷ twenty.additions ∷ estimate_of five_more 1 ∷ estimate_of
+    five_more 2 ∷ five_more.additions ∷ [] ≡ 15 ∷ 15 ∷ 7 ∷ 2 ∷ 10 ∷ []
 unfolding counted counted_word estimate_of bits_for bits_from
 counters_stop_and_are_halved = refl
 
@@ -22,7 +23,8 @@ unfolding counted counted_word bits_for bits_from
 a_full_counter_does_not_rise = refl
 
 -- the exact counts of the two, stopped and halved alike
-pub alone_counts_one_word : alone 1 (nothing_counted 2) (replicate 20 1 ++ replicate 5 2) ∷ alone 2 (nothing_counted 2) (replicate 20 1 ++ replicate 5 2) ∷ [] ≡ 7 ∷ 2 ∷ []
+pub alone_counts_one_word : alone 1 (nothing_counted 2) (replicate 20 1 ++ replicate 5 2) ∷ alone 2 (nothing_counted 2)
+    (replicate 20 1 ++ replicate 5 2) ∷ [] ≡ 7 ∷ 2 ∷ []
 unfolding counted counted_word alone_from bits_for bits_from
 alone_counts_one_word = refl
 
@@ -35,11 +37,13 @@ times ps (suc n) s = times ps n (counted ps s)
 abbrev neighbours : Counters
 neighbours = times (14 ∷ 14 ∷ 14 ∷ 14 ∷ []) 3 (times (15 ∷ 15 ∷ 15 ∷ 15 ∷ []) 7 (nothing_counted 1))
 
-pub neighbours_are_kept_apart : neighbours.additions ∷ map (λ place. get_or (row_of neighbours 2) place 0) (15 ∷ 14 ∷ 13 ∷ 16 ∷ []) ≡ 5 ∷ 3 ∷ 1 ∷ 0 ∷ 0 ∷ []
+pub neighbours_are_kept_apart : neighbours.additions ∷ map (λ place. get_or (row_of neighbours 2) place 0)
+    (15 ∷ 14 ∷ 13 ∷ 16 ∷ []) ≡ 5 ∷ 3 ∷ 1 ∷ 0 ∷ 0 ∷ []
 unfolding counted bits_for bits_from
 neighbours_are_kept_apart = refl
 
 -- sixteen counters to a word: 15, 1, 0 become 7, 0, 0, and sixteen full counters become 7 each
-pub sixteen_counters_are_halved : nibbles 16 0x07 ∷ nibbles 16 0x7777777777777777 ∷ [] ≡ map half (nibbles 16 0x1F) ∷ map half (nibbles 16 0xFFFFFFFFFFFFFFFF) ∷ []
+pub sixteen_counters_are_halved : nibbles 16 0x07 ∷ nibbles 16 0x7777777777777777 ∷ []
+    ≡ map half (nibbles 16 0x1F) ∷ map half (nibbles 16 0xFFFFFFFFFFFFFFFF) ∷ []
 unfolding nibbles
 sixteen_counters_are_halved = refl

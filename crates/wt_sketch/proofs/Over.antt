@@ -47,7 +47,8 @@ never_lower row p q h =
 abbrev risen : Bool → ℕ → ℕ
 risen same n = cond (same && nat_lt n 15) (n + 1) n
 
-risen_within : (row : List ℕ) (p q n : ℕ) (same : Bool) → q < length row → (same ≡ true → p ≡ q) → n ≤ at row q → risen same n ≤ at (raised p row) q
+risen_within : (row : List ℕ) (p q n : ℕ) (same : Bool) → q < length row → (same ≡ true → p ≡ q) → n ≤ at row q
+    → risen same n ≤ at (raised p row) q
 risen_within row p q n true h is under =
     let e : p ≡ q = is refl in
     let own : at (raised q row) q ≡ cond (nat_lt (at row q) 15) (at row q + 1) (at row q) = raised_same row q h in
@@ -57,7 +58,8 @@ risen_within row p q n false h is under = let more = never_lower row p q h in om
 half_at : (row : List ℕ) (q : ℕ) → at (map half row) q ≡ half (at row q)
 half_at row q = get_or-map half row q 0
 
-row_next : (row : List ℕ) (p q n : ℕ) (same age : Bool) → q < length row → (same ≡ true → p ≡ q) → n ≤ at row q → cond age (half (risen same n)) (risen same n) ≤ at (cond age (map half (raised p row)) (raised p row)) q
+row_next : (row : List ℕ) (p q n : ℕ) (same age : Bool) → q < length row → (same ≡ true → p ≡ q) → n ≤ at row q
+    → cond age (half (risen same n)) (risen same n) ≤ at (cond age (map half (raised p row)) (raised p row)) q
 row_next row p q n same true h is under =
     let before = risen_within row p q n same h is under in
     let halving : at (map half (raised p row)) q ≡ at (raised p row) q / 2 = half_at (raised p row) q in
@@ -69,7 +71,9 @@ length-row_next row p true = length-map (raised p row) half ∙ length-raised ro
 length-row_next row p false = length-raised row p
 
 -- ---- a row of a counted sketch
-picked : (f : Counters → List ℕ) (rose e mine : Bool) (s t : Counters) (more : List ℕ) → f (halved t) ≡ map half (f t) → f t ≡ cond mine more (f s) → (mine ≡ true → rose ≡ true) → f (cond rose (cond e (halved t) t) s) ≡ cond (rose && e) (map half (cond mine more (f s))) (cond mine more (f s))
+picked : (f : Counters → List ℕ) (rose e mine : Bool) (s t : Counters) (more : List ℕ) → f (halved t) ≡ map half (f t)
+    → f t ≡ cond mine more (f s) → (mine ≡ true → rose ≡ true)
+    → f (cond rose (cond e (halved t) t) s) ≡ cond (rose && e) (map half (cond mine more (f s))) (cond mine more (f s))
 picked f true true mine s t more h g r = h ∙ ap (map half) g
 picked f true false mine s t more h g r = g
 picked f false e true s t more h g r = let never : false ≡ true = r refl in cc
@@ -94,21 +98,33 @@ or_4 false false false d h = h
 abbrev halves_at : List ℕ → Counters → Bool
 halves_at ps s = rose ps s && nat_eq (s.additions + 1) (10 * s.entries)
 
-counted-row_0 : (ps : List ℕ) (s : Counters) → (counted ps s).row_0 ≡ cond (halves_at ps s) (map half (raised (at ps 0) s.row_0)) (raised (at ps 0) s.row_0)
+counted-row_0 : (ps : List ℕ) (s : Counters)
+    → (counted ps s).row_0 ≡ cond (halves_at ps s) (map half (raised (at ps 0) s.row_0)) (raised (at ps 0) s.row_0)
 unfolding counted
-counted-row_0 ps s = picked (λ (r : Counters). r.row_0) (rose ps s) (nat_eq (s.additions + 1) (10 * s.entries)) (rises (at ps 0) s.row_0) s (with_addition ps s) (set s.row_0 (at ps 0) (at s.row_0 (at ps 0) + 1)) refl refl (λ h. rw h)
+counted-row_0 ps s = picked (λ (r : Counters). r.row_0) (rose ps s) (nat_eq (s.additions + 1) (10 * s.entries))
+    (rises (at ps 0) s.row_0) s (with_addition ps s) (set s.row_0 (at ps 0) (at s.row_0 (at ps 0) + 1)) refl refl
+    (λ h. rw h)
 
-counted-row_1 : (ps : List ℕ) (s : Counters) → (counted ps s).row_1 ≡ cond (halves_at ps s) (map half (raised (at ps 1) s.row_1)) (raised (at ps 1) s.row_1)
+counted-row_1 : (ps : List ℕ) (s : Counters)
+    → (counted ps s).row_1 ≡ cond (halves_at ps s) (map half (raised (at ps 1) s.row_1)) (raised (at ps 1) s.row_1)
 unfolding counted
-counted-row_1 ps s = picked (λ (r : Counters). r.row_1) (rose ps s) (nat_eq (s.additions + 1) (10 * s.entries)) (rises (at ps 1) s.row_1) s (with_addition ps s) (set s.row_1 (at ps 1) (at s.row_1 (at ps 1) + 1)) refl refl (or_2 (rises (at ps 0) s.row_0) (rises (at ps 1) s.row_1) (rises (at ps 2) s.row_2) (rises (at ps 3) s.row_3))
+counted-row_1 ps s = picked (λ (r : Counters). r.row_1) (rose ps s) (nat_eq (s.additions + 1) (10 * s.entries))
+    (rises (at ps 1) s.row_1) s (with_addition ps s) (set s.row_1 (at ps 1) (at s.row_1 (at ps 1) + 1)) refl refl
+    (or_2 (rises (at ps 0) s.row_0) (rises (at ps 1) s.row_1) (rises (at ps 2) s.row_2) (rises (at ps 3) s.row_3))
 
-counted-row_2 : (ps : List ℕ) (s : Counters) → (counted ps s).row_2 ≡ cond (halves_at ps s) (map half (raised (at ps 2) s.row_2)) (raised (at ps 2) s.row_2)
+counted-row_2 : (ps : List ℕ) (s : Counters)
+    → (counted ps s).row_2 ≡ cond (halves_at ps s) (map half (raised (at ps 2) s.row_2)) (raised (at ps 2) s.row_2)
 unfolding counted
-counted-row_2 ps s = picked (λ (r : Counters). r.row_2) (rose ps s) (nat_eq (s.additions + 1) (10 * s.entries)) (rises (at ps 2) s.row_2) s (with_addition ps s) (set s.row_2 (at ps 2) (at s.row_2 (at ps 2) + 1)) refl refl (or_3 (rises (at ps 0) s.row_0) (rises (at ps 1) s.row_1) (rises (at ps 2) s.row_2) (rises (at ps 3) s.row_3))
+counted-row_2 ps s = picked (λ (r : Counters). r.row_2) (rose ps s) (nat_eq (s.additions + 1) (10 * s.entries))
+    (rises (at ps 2) s.row_2) s (with_addition ps s) (set s.row_2 (at ps 2) (at s.row_2 (at ps 2) + 1)) refl refl
+    (or_3 (rises (at ps 0) s.row_0) (rises (at ps 1) s.row_1) (rises (at ps 2) s.row_2) (rises (at ps 3) s.row_3))
 
-counted-row_3 : (ps : List ℕ) (s : Counters) → (counted ps s).row_3 ≡ cond (halves_at ps s) (map half (raised (at ps 3) s.row_3)) (raised (at ps 3) s.row_3)
+counted-row_3 : (ps : List ℕ) (s : Counters)
+    → (counted ps s).row_3 ≡ cond (halves_at ps s) (map half (raised (at ps 3) s.row_3)) (raised (at ps 3) s.row_3)
 unfolding counted
-counted-row_3 ps s = picked (λ (r : Counters). r.row_3) (rose ps s) (nat_eq (s.additions + 1) (10 * s.entries)) (rises (at ps 3) s.row_3) s (with_addition ps s) (set s.row_3 (at ps 3) (at s.row_3 (at ps 3) + 1)) refl refl (or_4 (rises (at ps 0) s.row_0) (rises (at ps 1) s.row_1) (rises (at ps 2) s.row_2) (rises (at ps 3) s.row_3))
+counted-row_3 ps s = picked (λ (r : Counters). r.row_3) (rose ps s) (nat_eq (s.additions + 1) (10 * s.entries))
+    (rises (at ps 3) s.row_3) s (with_addition ps s) (set s.row_3 (at ps 3) (at s.row_3 (at ps 3) + 1)) refl refl
+    (or_4 (rises (at ps 0) s.row_0) (rises (at ps 1) s.row_1) (rises (at ps 2) s.row_2) (rises (at ps 3) s.row_3))
 
 same_entries : (rose e : Bool) (s t : Counters) → t.entries ≡ s.entries → (cond rose (cond e (halved t) t) s).entries ≡ s.entries
 same_entries true true s t h = h
@@ -128,29 +144,41 @@ record IsOver (entries : ℕ) (ps : List ℕ) (n : ℕ) (s : Counters) : Type 0 
   over_2 : (at ps 2 < length s.row_2) × (n ≤ at s.row_2 (at ps 2))
   over_3 : (at ps 3 < length s.row_3) × (n ≤ at s.row_3 (at ps 3))
 
-over_row : (row next : List ℕ) (p q n : ℕ) (same age : Bool) → next ≡ cond age (map half (raised p row)) (raised p row) → (same ≡ true → p ≡ q) → (q < length row) × (n ≤ at row q) → (q < length next) × (cond age (half (risen same n)) (risen same n) ≤ at next q)
+over_row : (row next : List ℕ) (p q n : ℕ) (same age : Bool) → next ≡ cond age (map half (raised p row)) (raised p row)
+    → (same ≡ true → p ≡ q) → (q < length row) × (n ≤ at row q) → (q < length next)
+    × (cond age (half (risen same n)) (risen same n) ≤ at next q)
 over_row row next p q n same age e is was =
     let len = length-row_next row p age in (
       (rw (e, len) was.0),
       (rw e (row_next row p q n same age was.0 is was.1)),
     )
 
-over_next : (entries key word n : ℕ) (s : Counters) → IsOver entries (places key (bits_for entries)) n s → IsOver entries (places key (bits_for entries)) (alone_next key n s word) (counted_word s word)
+over_next : (entries key word n : ℕ) (s : Counters) → IsOver entries (places key (bits_for entries)) n s
+    → IsOver entries (places key (bits_for entries)) (alone_next key n s word) (counted_word s word)
 unfolding counted_word
 over_next entries key word n s was =
-    let is : nat_eq word key ≡ true → places_in s word ≡ places key (bits_for entries) = λ e. ap (λ w. places w (bits_for s.entries)) (eqb-true word key e) ∙ ap (λ m. places key (bits_for m)) was.same in
+    let is : nat_eq word key ≡ true
+    → places_in s word ≡ places key (bits_for entries) =
+    λ e. ap (λ w. places w (bits_for s.entries)) (eqb-true word key e)
+    ∙ ap (λ m. places key (bits_for m)) was.same in
     record {
       same = counted-entries (places_in s word) s ∙ was.same;
-      over_0 = over_row s.row_0 _ (at (places_in s word) 0) (at (places key (bits_for entries)) 0) n (nat_eq word key) (halves s word) (counted-row_0 (places_in s word) s) (λ e. ap (λ qs. at qs 0) (is e)) was.over_0;
-      over_1 = over_row s.row_1 _ (at (places_in s word) 1) (at (places key (bits_for entries)) 1) n (nat_eq word key) (halves s word) (counted-row_1 (places_in s word) s) (λ e. ap (λ qs. at qs 1) (is e)) was.over_1;
-      over_2 = over_row s.row_2 _ (at (places_in s word) 2) (at (places key (bits_for entries)) 2) n (nat_eq word key) (halves s word) (counted-row_2 (places_in s word) s) (λ e. ap (λ qs. at qs 2) (is e)) was.over_2;
-      over_3 = over_row s.row_3 _ (at (places_in s word) 3) (at (places key (bits_for entries)) 3) n (nat_eq word key) (halves s word) (counted-row_3 (places_in s word) s) (λ e. ap (λ qs. at qs 3) (is e)) was.over_3;
+      over_0 = over_row s.row_0 _ (at (places_in s word) 0) (at (places key (bits_for entries)) 0) n (nat_eq word key)
+          (halves s word) (counted-row_0 (places_in s word) s) (λ e. ap (λ qs. at qs 0) (is e)) was.over_0;
+      over_1 = over_row s.row_1 _ (at (places_in s word) 1) (at (places key (bits_for entries)) 1) n (nat_eq word key)
+          (halves s word) (counted-row_1 (places_in s word) s) (λ e. ap (λ qs. at qs 1) (is e)) was.over_1;
+      over_2 = over_row s.row_2 _ (at (places_in s word) 2) (at (places key (bits_for entries)) 2) n (nat_eq word key)
+          (halves s word) (counted-row_2 (places_in s word) s) (λ e. ap (λ qs. at qs 2) (is e)) was.over_2;
+      over_3 = over_row s.row_3 _ (at (places_in s word) 3) (at (places key (bits_for entries)) 3) n (nat_eq word key)
+          (halves s word) (counted-row_3 (places_in s word) s) (λ e. ap (λ qs. at qs 3) (is e)) was.over_3;
     }
 
-over_all : (entries key n : ℕ) (words : List ℕ) (s : Counters) → IsOver entries (places key (bits_for entries)) n s → IsOver entries (places key (bits_for entries)) (alone_from key n s words) (counted_words s words)
+over_all : (entries key n : ℕ) (words : List ℕ) (s : Counters) → IsOver entries (places key (bits_for entries)) n s
+    → IsOver entries (places key (bits_for entries)) (alone_from key n s words) (counted_words s words)
 unfolding alone_from
 over_all entries key n [] s was = was
-over_all entries key n (word ∷ words) s was = over_all entries key (alone_next key n s word) words (counted_word s word) (over_next entries key word n s was)
+over_all entries key n (word ∷ words) s was =
+    over_all entries key (alone_next key n s word) words (counted_word s word) (over_next entries key word n s was)
 
 -- ---- a new sketch
 most_by : (t : Bool) (b n m : ℕ) → m ≤ b + 1 + n → cond t b m ≤ b + suc n
@@ -169,7 +197,8 @@ bits_for_most entries = bits_from_most 10 6 entries
 within : (factor word b : ℕ) → b ≤ 16 → place factor word b < 2 ^ b
 within factor word b h = highest (mixed factor word) b (omega arith) (omega arith)
 
-in_new_row : (factor entries key : ℕ) → (place factor key (bits_for entries) < length {A = ℕ} (new_row entries)) × (0 ≤ at (new_row entries) (place factor key (bits_for entries)))
+in_new_row : (factor entries key : ℕ) → (place factor key (bits_for entries) < length {A = ℕ} (new_row entries))
+    × (0 ≤ at (new_row entries) (place factor key (bits_for entries)))
 in_new_row factor entries key = (rw length-replicate (within factor key (bits_for entries) (bits_for_most entries)), omega arith)
 
 over_nothing : (entries key : ℕ) → IsOver entries (places key (bits_for entries)) 0 (nothing_counted entries)
@@ -190,9 +219,12 @@ least_at entries key n s over =
     let is : places_in s key ≡ places key (bits_for entries) = ap (λ m. places key (bits_for m)) over.same in
     subst (λ (ps : List ℕ). n ≤ estimate ps s) (sym is) (least_of _ _ _ _ _ over.over_0.1 over.over_1.1 over.over_2.1 over.over_3.1)
 
-never_less : (entries key : ℕ) (words : List ℕ) → alone key (nothing_counted entries) words ≤ estimate_of (counted_words (nothing_counted entries) words) key
+never_less : (entries key : ℕ) (words : List ℕ)
+    → alone key (nothing_counted entries) words ≤ estimate_of (counted_words (nothing_counted entries) words) key
 never_less entries key words = least_at entries key _ _ (over_all entries key 0 words (nothing_counted entries) (over_nothing entries key))
 
-pub never_less_at : (entries key : ℕ) (words : List ℕ) (old new : Counters) → old ≡ nothing_counted entries → new ≡ counted_words old words → alone key old words ≤ estimate_of new key
+pub never_less_at : (entries key : ℕ) (words : List ℕ) (old new : Counters) → old ≡ nothing_counted entries
+    → new ≡ counted_words old words → alone key old words ≤ estimate_of new key
 never_less_at entries key words old new is counts =
-    rw counts (subst (λ (s : Counters). alone key s words ≤ estimate_of (counted_words s words) key) (sym is) (never_less entries key words))
+    rw counts (subst (λ (s : Counters). alone key s words ≤ estimate_of (counted_words s words) key) (sym is)
+    (never_less entries key words))

@@ -37,7 +37,8 @@ unfolding nibbles
 halved zero w = refl
 halved (suc n) w =
     let split : w ≡ (w / 16) * 16 + w % 16 = omega arith in
-    let a : bit_and (w / 2) (sevens (suc n)) ≡ bit_and ((w / 16) / 2) (sevens n) * 16 + (w % 16) / 2 = ap (λ z. bit_and (z / 2) (sevens (suc n))) split ∙ halved-word n (w / 16) (w % 16) (omega arith) in
+    let a : bit_and (w / 2) (sevens (suc n)) ≡ bit_and ((w / 16) / 2) (sevens n) * 16 + (w % 16) / 2 =
+    ap (λ z. bit_and (z / 2) (sevens (suc n))) split ∙ halved-word n (w / 16) (w % 16) (omega arith) in
     rw a (nibbles-cat n (bit_and ((w / 16) / 2) (sevens n)) ((w % 16) / 2) (omega arith) ∙ ap (λ ds. (w % 16) / 2 ∷ ds) (halved n (w / 16)))
 
 pub sevens_16 : sevens 16 ≡ 8608480567731124087
@@ -48,10 +49,12 @@ pow16 : (i : ℕ) → 16 ^ suc i ≡ 16 ^ i * 16
 pow16 i = pow-suc 16 i
 
 -- one number raised
-pub raised_digit : (n i w : ℕ) → i < n → get_or (nibbles n w) i 0 < 15 → nibbles n (w + 16 ^ i) ≡ set (nibbles n w) i (get_or (nibbles n w) i 0 + 1)
+pub raised_digit : (n i w : ℕ) → i < n → get_or (nibbles n w) i 0 < 15
+    → nibbles n (w + 16 ^ i) ≡ set (nibbles n w) i (get_or (nibbles n w) i 0 + 1)
 unfolding nibbles
 raised_digit zero i w h r = absurd (omega arith)
-raised_digit (suc n) zero w h r = let x : (w + 1) % 16 ≡ w % 16 + 1 = omega arith in let y : (w + 1) / 16 ≡ w / 16 = omega arith in rw (x, y)
+raised_digit (suc n) zero w h r = let x : (w + 1) % 16 ≡ w % 16 + 1 = omega arith in
+    let y : (w + 1) / 16 ≡ w / 16 = omega arith in rw (x, y)
 raised_digit (suc n) (suc i) w h r =
     let p : 16 ^ suc i ≡ 16 ^ i * 16 = pow16 i in
     let x : (w + 16 ^ suc i) % 16 ≡ w % 16 = omega (arith, p) in
@@ -63,7 +66,9 @@ pub read : (n i w : ℕ) → i < n → get_or (nibbles n w) i 0 ≡ w / 16 ^ i %
 unfolding nibbles
 read zero i w h = absurd (omega arith)
 read (suc n) zero w h = let x : w / 1 ≡ w = omega arith in rw x
-read (suc n) (suc i) w h = let p = pow16 i in let d : w / 16 ^ suc i ≡ w / 16 / 16 ^ i = ap (λ m. w / m) p ∙ ap (λ m. w / m) (mul_comm (16 ^ i) 16) ∙ sym (div-div-eq-div-mul w 16 (16 ^ i)) in rw d (read n i (w / 16) (omega arith))
+read (suc n) (suc i) w h = let p = pow16 i in
+    let d : w / 16 ^ suc i ≡ w / 16 / 16 ^ i = ap (λ m. w / m) p ∙ ap (λ m. w / m) (mul_comm (16 ^ i) 16)
+    ∙ sym (div-div-eq-div-mul w 16 (16 ^ i)) in rw d (read n i (w / 16) (omega arith))
 
 -- a raised number fits beside the others
 pub fits : (n i w : ℕ) → i < n → w < 16 ^ n → get_or (nibbles n w) i 0 < 15 → w + 16 ^ i < 16 ^ n
@@ -103,10 +108,12 @@ at_unpacked (w ∷ ws) p h =
       | inr high ↦
           let word : p / 16 ≡ suc ((p - 16) / 16) = omega arith in
           let digit : p % 16 ≡ (p - 16) % 16 = omega arith in
-          rw (word, digit) (get_or-append_right (nibbles 16 w) (unpacked ws) 16 p 0 (length-nibbles 16 w) high ∙ at_unpacked ws (p - 16) (omega arith))
+          rw (word, digit) (get_or-append_right (nibbles 16 w) (unpacked ws) 16 p 0 (length-nibbles 16 w) high
+          ∙ at_unpacked ws (p - 16) (omega arith))
     ]
 
-pub set_unpacked : (ws : List ℕ) (p v x : ℕ) → p < 16 * length ws → nibbles 16 x ≡ set (nibbles 16 (at ws (p / 16))) (p % 16) v → unpacked (set ws (p / 16) x) ≡ set (unpacked ws) p v
+pub set_unpacked : (ws : List ℕ) (p v x : ℕ) → p < 16 * length ws
+    → nibbles 16 x ≡ set (nibbles 16 (at ws (p / 16))) (p % 16) v → unpacked (set ws (p / 16) x) ≡ set (unpacked ws) p v
 unfolding unpacked
 set_unpacked [] p v x h e = absurd (omega arith)
 set_unpacked (w ∷ ws) p v x h e =
@@ -120,7 +127,8 @@ set_unpacked (w ∷ ws) p v x h e =
           let word : p / 16 ≡ suc ((p - 16) / 16) = omega arith in
           let digit : p % 16 ≡ (p - 16) % 16 = omega arith in
           let f : nibbles 16 x ≡ set (nibbles 16 (at ws ((p - 16) / 16))) ((p - 16) % 16) v = rw (word, digit) at e in
-          rw word (ap (λ ds. nibbles 16 w ++ ds) (set_unpacked ws (p - 16) v x (omega arith) f) ∙ sym (set-append_right (nibbles 16 w) (unpacked ws) 16 p v (length-nibbles 16 w) high))
+          rw word (ap (λ ds. nibbles 16 w ++ ds) (set_unpacked ws (p - 16) v x (omega arith) f)
+          ∙ sym (set-append_right (nibbles 16 w) (unpacked ws) 16 p v (length-nibbles 16 w) high))
     ]
 
 sixteen : (i : ℕ) → 2 ^ (4 * i) ≡ 16 ^ i
@@ -143,23 +151,29 @@ shifted_one i h =
     let one : 1 * 2 ^ (4 * i) ≡ 2 ^ (4 * i) = omega arith in
     rw one (mod-eq_of_lt (omega arith) ∙ sixteen i)
 
-pub raise_word : (ws : List ℕ) (p : ℕ) → p < 16 * length ws → at (unpacked ws) p < 15 → unpacked (set ws (p / 16) (at ws (p / 16) + 1 * 2 ^ (4 * (p % 16)) % 18446744073709551616)) ≡ raised p (unpacked ws)
+pub raise_word : (ws : List ℕ) (p : ℕ) → p < 16 * length ws → at (unpacked ws) p < 15
+    → unpacked (set ws (p / 16) (at ws (p / 16) + 1 * 2 ^ (4 * (p % 16)) % 18446744073709551616))
+    ≡ raised p (unpacked ws)
 raise_word ws p h low =
     let one = shifted_one (p % 16) (omega arith) in
     let here : at (unpacked ws) p ≡ at (nibbles 16 (at ws (p / 16))) (p % 16) = at_unpacked ws p h in
     let rising : nat_lt (at (unpacked ws) p) 15 ≡ true = grind arith in
     let word : nibbles 16 (at ws (p / 16) + 16 ^ (p % 16)) ≡ set (nibbles 16 (at ws (p / 16))) (p % 16) (at (unpacked ws) p + 1) =
-    raised_digit 16 (p % 16) (at ws (p / 16)) (omega arith) (rw here at low) ∙ ap (λ n. set (nibbles 16 (at ws (p / 16))) (p % 16) (n + 1)) (sym here) in
+    raised_digit 16 (p % 16) (at ws (p / 16)) (omega arith) (rw here at low)
+    ∙ ap (λ n. set (nibbles 16 (at ws (p / 16))) (p % 16) (n + 1)) (sym here) in
     rw (one, rising) (set_unpacked ws p (at (unpacked ws) p + 1) (at ws (p / 16) + 16 ^ (p % 16)) h word)
 
-pub raise_fits : (ws : List ℕ) (p : ℕ) → p < 16 * length ws → at (unpacked ws) p < 15 → at ws (p / 16) < 2 ^ 64 → at ws (p / 16) + 1 * 2 ^ (4 * (p % 16)) % 18446744073709551616 < 2 ^ 64
+pub raise_fits : (ws : List ℕ) (p : ℕ) → p < 16 * length ws → at (unpacked ws) p < 15 → at ws (p / 16) < 2 ^ 64
+    → at ws (p / 16) + 1 * 2 ^ (4 * (p % 16)) % 18446744073709551616 < 2 ^ 64
 raise_fits ws p h low word =
     let one = shifted_one (p % 16) (omega arith) in
     let here : at (unpacked ws) p ≡ at (nibbles 16 (at ws (p / 16))) (p % 16) = at_unpacked ws p h in
     rw one (fits 16 (p % 16) (at ws (p / 16)) (omega arith) word (rw here at low))
 
 -- rows of which each word is the other's, halved
-pub halved_words : (ws xs : List ℕ) → length xs ≡ length ws → ((k : ℕ) → k < length ws → nibbles 16 (at xs k) ≡ map half (nibbles 16 (at ws k))) → unpacked xs ≡ map half (unpacked ws)
+pub halved_words : (ws xs : List ℕ) → length xs ≡ length ws
+    → ((k : ℕ) → k < length ws → nibbles 16 (at xs k) ≡ map half (nibbles 16 (at ws k)))
+    → unpacked xs ≡ map half (unpacked ws)
 unfolding unpacked
 halved_words [] [] e h = refl
 halved_words [] (x ∷ xs) e h = absurd (omega arith)
@@ -189,7 +203,8 @@ words_fit b low high =
     let whole : b - 4 + 4 ≡ b = omega arith in
     rw (one, mod-eq_of_lt below) (sym (pow-add 2 (b - 4) 4) ∙ ap (λ n. 2 ^ n) whole)
 
-pub zero_row : (items : List ℕ) (b : ℕ) → 6 ≤ b → b ≤ 16 → items ≡ replicate (1 * 2 ^ (b - 4) % 18446744073709551616) 0 → (16 * length items ≡ 2 ^ b) × (unpacked items ≡ replicate (2 ^ b) 0)
+pub zero_row : (items : List ℕ) (b : ℕ) → 6 ≤ b → b ≤ 16 → items ≡ replicate (1 * 2 ^ (b - 4) % 18446744073709551616) 0
+    → (16 * length items ≡ 2 ^ b) × (unpacked items ≡ replicate (2 ^ b) 0)
 zero_row items b low high e =
     let fit = words_fit b low high in
     let len : length items ≡ 1 * 2 ^ (b - 4) % 18446744073709551616 = ap length e ∙ length-replicate _ _ in (

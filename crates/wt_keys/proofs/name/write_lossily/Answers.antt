@@ -13,7 +13,8 @@ loop-chunk-preserved-in-Continue-branch-2 g c =
     let text = utf8_lossy_chunk _ _ _ _ steps.0 steps.3.0 steps.3.1 some in
     let valid : List ℕ = c.in-Some.chunk.valid.now in (
       (so_far.0 ++ valid) ++ replacement_bytes,
-      has_written_append _ _ (so_far.0 ++ valid) _ replacement_bytes _ (has_written_append _ _ so_far.0 _ valid c.write_str.new.self so_far.1 (search rules)) (search rules),
+      has_written_append _ _ (so_far.0 ++ valid) _ replacement_bytes _
+          (has_written_append _ _ so_far.0 _ valid c.write_str.new.self so_far.1 (search rules)) (search rules),
       append_assoc (so_far.0 ++ valid) replacement_bytes _ ∙ append_assoc so_far.0 valid _ ∙ ap (λ l. so_far.0 ++ l) (sym text) ∙ so_far.2,
     )
 

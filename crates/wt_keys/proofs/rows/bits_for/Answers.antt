@@ -51,11 +51,13 @@ loop-bits-init c = record { range = (omega arith, omega arith); rest = from_six 
 
 pub returns-clause-value : goal.returns-clause-value
 returns-clause-value c =
-    let h : (c.args.entries ≤ 2 ^ c.loop-bits.bits) × (64 ≤ 2 ^ c.loop-bits.bits) = enough _ _ c.loop-bits.invariant c.loop-bits-test.false in
+    let h : (c.args.entries ≤ 2 ^ c.loop-bits.bits)
+    × (64 ≤ 2 ^ c.loop-bits.bits) = enough _ _ c.loop-bits.invariant c.loop-bits-test.false in
     let t : nat_le c.args.entries (2 ^ c.loop-bits.bits) ≡ true = grind (arith, common_steps) in
     sym (found_bits (16 - c.loop-bits.bits) c.loop-bits.bits c.args.entries t) ∙ c.loop-bits.invariant.rest
 
 pub returns-clause-wide : goal.returns-clause-wide
 returns-clause-wide c =
-    let h : (c.args.entries ≤ 2 ^ c.loop-bits.bits) × (64 ≤ 2 ^ c.loop-bits.bits) = enough _ _ c.loop-bits.invariant c.loop-bits-test.false in
+    let h : (c.args.entries ≤ 2 ^ c.loop-bits.bits)
+    × (64 ≤ 2 ^ c.loop-bits.bits) = enough _ _ c.loop-bits.invariant c.loop-bits-test.false in
     omega arith

@@ -12,4 +12,5 @@ overflow_add-row c =
     omega (arith, below)
 
 pub returns-clause-row : goal.returns-clause-row
-returns-clause-row c = let low : at (unpacked c.args.row.now) c.args.place < 15 = omega arith in raise_word c.args.row.now c.args.place c.requires low
+returns-clause-row c = let low : at (unpacked c.args.row.now) c.args.place < 15 = omega arith in
+    raise_word c.args.row.now c.args.place c.requires low

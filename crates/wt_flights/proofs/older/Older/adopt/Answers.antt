@@ -45,14 +45,17 @@ adopts : (g : Over) → (c : In-Ok g) → Adopts g.K.PartialEq.eq (get nat_eq c.
 adopts g c = record {
   newer = rw (← c.self.view_is) at c.requires.after;
   only = only g c;
-  opened = λ q. c.in-Ok.ensures.updates.0 q ∙ ap (cond (eqb c.args.row.id q) (Some (open_of c.args.row))) (c.in_ok-reserve.ensures.entries.2 q);
+  opened = λ q. c.in-Ok.ensures.updates.0 q
+      ∙ ap (cond (eqb c.args.row.id q) (Some (open_of c.args.row))) (c.in_ok-reserve.ensures.entries.2 q);
   named = c.in_ok-name_current.ensures.ok;
 }
 
 -- the table by id is one longer
 longer : (g : Over) → (c : In-Ok g) → hash_map_len c.insert.new.self ≡ hash_map_len c.self.inside.by_id + 1
-longer g c = one_longer (get nat_eq c.self.inside.by_id) (get nat_eq c.reserve.new.self) c.self.inside.next c.args.row.id _ _ _ c.in-Ok.field-0
-    c.in_ok-reserve.ensures.entries.2 c.self.invariant.tied.fresh (adopts g c).newer c.in_ok-reserve.ensures.entries.1 c.in-Ok.ensures.old c.in-Ok.ensures.len
+longer g c = one_longer (get nat_eq c.self.inside.by_id)
+    (get nat_eq c.reserve.new.self) c.self.inside.next c.args.row.id _ _ _ c.in-Ok.field-0
+    c.in_ok-reserve.ensures.entries.2 c.self.invariant.tied.fresh
+    (adopts g c).newer c.in_ok-reserve.ensures.entries.1 c.in-Ok.ensures.old c.in-Ok.ensures.len
 
 pub invariant_of-self-2 : goal.invariant_of-self-2
 invariant_of-self-2 g c =
@@ -65,8 +68,10 @@ invariant_of-self-2 g c =
     let counted = c.self.invariant.tied.counted in
     let last = c.requires.last in
     record {
-      tied = rw last at (adopt_keeps g.K.PartialEq.eq laws same _ _ _ _ _ c.args.row (adopts g ok) _ _ c.self.invariant.positive l c.self.invariant.tied);
-      marked = rw last at (adopt_marks g.K.PartialEq.eq laws same _ _ _ _ _ c.args.row (adopts g ok) _ _ c.self.invariant.tied c.self.invariant.marked);
+      tied = rw last at (adopt_keeps g.K.PartialEq.eq laws same _ _ _ _ _ c.args.row
+          (adopts g ok) _ _ c.self.invariant.positive l c.self.invariant.tied);
+      marked = rw last at (adopt_marks g.K.PartialEq.eq laws same _ _ _ _ _ c.args.row
+          (adopts g ok) _ _ c.self.invariant.tied c.self.invariant.marked);
       within = omega (arith, l, room, counted);
       positive = omega (arith, last);
     }
