@@ -12,14 +12,16 @@ use Rattle.wt_core.specs.Step.{sought}
 use Rattle.wt_core.specs.Stale.{ForeseesSeek, IsMetBy}
 
 module _ {K V : Type 0} (eq : K → K → Bool) (k : K) (s : State K V) where
-  hit-met : (v : V) (b : Bool) → IsMetBy (foreseen_of (cond b (HitLead v s.flights.next) (Hit v))) (sought eq k (cond b (HitLead v s.flights.next) (Hit v)) s).reply
+  hit-met : (v : V) (b : Bool) → IsMetBy (foreseen_of (cond b (HitLead v s.flights.next) (Hit v)))
+      (sought eq k (cond b (HitLead v s.flights.next) (Hit v)) s).reply
   hit-met v true = refl
   hit-met v false = tt
 
   abbrev reply : Reply V → Reply V
   reply r = r
 
-  miss-met : (o : Option ℕ) → IsMetBy (foreseen_of (reply (option_map_or Join o (Lead s.flights.next)))) (sought eq k (option_map_or Join o (Lead s.flights.next)) s).reply
+  miss-met : (o : Option ℕ) → IsMetBy (foreseen_of (reply (option_map_or Join o (Lead s.flights.next))))
+      (sought eq k (option_map_or Join o (Lead s.flights.next)) s).reply
   miss-met (Some id) = refl
   miss-met None = refl
 

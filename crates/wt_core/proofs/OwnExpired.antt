@@ -13,11 +13,14 @@ module _ {K V : Type 0} (eq : K → K → Bool) (laws : IsEquivalence eq) (k : K
   abbrev told : Lists K V → Bool → Held V → Told K V
   told rest b h = cond b (rest, notice Expired (k, h) ∷ []) (r, [])
 
-  without_if : (h : Held V) (b : Bool) → is_hit (cond b found.Expired (found.Hit h.value)) ≡ false → without eq k r ≡ (told (without eq k r) b h).0
+  without_if : (h : Held V) (b : Bool) → is_hit (cond b found.Expired (found.Hit h.value)) ≡ false
+      → without eq k r ≡ (told (without eq k r) b h).0
   without_if h true e = refl
   without_if h false e = absurd (cc)
 
-  without_at : (o : Option (Held V)) → held_for eq k r ≡ o → is_hit (option_map_or (λ (h : Held V). cond (is_expired r.caps now h) found.Expired (found.Hit h.value)) o found.Absent) ≡ false
+  without_at : (o : Option (Held V)) → held_for eq k r ≡ o
+      → is_hit (option_map_or (λ (h : Held V). cond (is_expired r.caps now h) found.Expired (found.Hit h.value)) o
+      found.Absent) ≡ false
       → without eq k r ≡ (option_map_or (λ (h : Held V). told (without eq k r) (is_expired r.caps now h) h) o (r, [])).0
   without_at None is e = without-none eq laws k r.caps r.window r.probation r.protected is
   without_at (Some h) is e = without_if h (is_expired r.caps now h) e

@@ -49,7 +49,7 @@ impl<K: CacheKey, V: Share + Weighs> Core<K, V> {
         ensures whole { KeepsWhole notices.old notices.new }
         // What the state refuses is refused whatever the memory does, and some calls take none.
         ensures refusal { IsSome (refusal_of K.eq K.word V.weight self.old call) → IsOk result }
-        ensures memory { TakesNone K.eq V.weight self.old call → IsOk result }
+        ensures memory { TakesNone V.Share.is_copied K.eq V.weight self.old call → IsOk result }
         ensures err { OnErr result ((self.new ≡ self.old) × (notices.new ≡ notices.old)) }
     {
         match call {

@@ -5,7 +5,7 @@
 //         ──► flights    the loads that are open
 //
 // Each of the eight steps (`steps/`) is a function of the whole state.
-ghost use Rattle.std.specs.Prelude.{◌≡◌, ◌==◌, IfOk, length};
+ghost use Rattle.std.specs.Prelude.{◌≡◌, ◌==◌, [], IfOk, IsOk, length};
 ghost use Rattle.std.specs.Map.{keys_of};
 ghost use Rattle.std.specs.Option.{option_map};
 ghost use Rattle.wt_regions.specs.Lawful.{FailsByField};
@@ -217,11 +217,13 @@ impl<K: CacheKey, V: Share + Weighs> Core<K, V> {
 
     /// Returns the keys of a region in a new list, the most recent first.
     ///
-    /// Takes memory for that list alone. O(entries of the region).
+    /// Takes memory for that list alone, and none if the region is empty. O(entries of the region).
     ///
     /// In use: `uses::plain::order`.
     pub fn order(&self, alloc: Global, region: Region) -> Result<Vec<K>, NoMemory>
-        ensures { IfOk result (λ keys. keys.items ≡ keys_of (region_of region self.now.regions)) }
+        ensures items { IfOk result
+            (λ keys. keys.items ≡ keys_of (region_of region self.now.regions)) }
+        ensures none_succeeds { region_of region self.now.regions ≡ [] → IsOk result }
     {
         self.regions.order(alloc, region)
     }

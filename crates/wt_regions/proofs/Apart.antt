@@ -21,7 +21,8 @@ module _ {X : Type 0} (P : X → Type 0) where
 pub all_last : {K V : Type 0} (P : K × V → Type 0) (es : List (K × V)) (l : K × V) → AllByRecursion P es → last_entry es ≡ Some l → P l
 all_last P es l h is = (all_after P (take (length es - 1) es) (l ∷ []) (subst (AllByRecursion P) (split_of_last es l is) h)).0
 
-pub none_at_last : {K V : Type 0} (test : K → Bool) (es : List (K × V)) (l : K × V) → lookup test es ≡ None → last_entry es ≡ Some l → test l.0 ≡ false
+pub none_at_last : {K V : Type 0} (test : K → Bool) (es : List (K × V)) (l : K × V) → lookup test es ≡ None
+    → last_entry es ≡ Some l → test l.0 ≡ false
 none_at_last test es l h is = all_last (λ e. test e.0 ≡ false) es l (none_passes_from_lookup test es h) is
 
 module _ {K V : Type 0} (P : K → Type 0) where
@@ -49,37 +50,46 @@ module _ {K V : Type 0} (eq : K → K → Bool) where
     lookup-congr k j h (e ∷ es) = let same = laws.congr k j e.0 h in rw (same, lookup-congr k j h es)
 
     -- a key that is in the first list is not in the second
-    pub apart : (k : K) (xs ys : List (Entry K V)) (h : Held V) → IsDistinct eq (keys_of ((xs ++ ys))) → lookup (eq k) xs ≡ Some h → lookup (eq k) ys ≡ None
+    pub apart : (k : K) (xs ys : List (Entry K V)) (h : Held V) → IsDistinct eq (keys_of ((xs ++ ys)))
+        → lookup (eq k) xs ≡ Some h → lookup (eq k) ys ≡ None
     unfolding IsDistinct
     apart k [] ys h d s = cc
-    apart k (x ∷ xs) ys h d s = (elim (eq k x.0) as (λ b. eq k x.0 ≡ b → cond b (Some x.1) (lookup (eq k) xs) ≡ Some h → lookup (eq k) ys ≡ None) [
-      | true ↦ λ t q. lookup-congr k x.0 t ys ∙ none_of_keys x.0 ys (all_keys_after (λ y. eq x.0 y ≡ false) xs ys d.0)
-      | false ↦ λ t q. apart k xs ys h d.1 q
-    ]) refl s
+    apart k (x ∷ xs) ys h d s = (elim (eq k x.0) as
+        (λ b. eq k x.0 ≡ b → cond b (Some x.1) (lookup (eq k) xs) ≡ Some h → lookup (eq k) ys ≡ None) [
+          | true ↦ λ t q. lookup-congr k x.0 t ys ∙ none_of_keys x.0 ys (all_keys_after (λ y. eq x.0 y ≡ false) xs ys d.0)
+          | false ↦ λ t q. apart k xs ys h d.1 q
+        ]) refl s
 
     -- the last of the second list is not in the first
-    pub last_apart : (xs ys : List (Entry K V)) (l : Entry K V) → IsDistinct eq (keys_of ((xs ++ ys))) → last_entry ys ≡ Some l → lookup (eq l.0) xs ≡ None
+    pub last_apart : (xs ys : List (Entry K V)) (l : Entry K V) → IsDistinct eq (keys_of ((xs ++ ys)))
+        → last_entry ys ≡ Some l → lookup (eq l.0) xs ≡ None
     unfolding IsDistinct
     last_apart [] ys l d is = refl
     last_apart (x ∷ xs) ys l d is =
-        let off : eq x.0 l.0 ≡ false = all_last (λ e. eq x.0 e.0 ≡ false) ys l (all_of_keys (λ y. eq x.0 y ≡ false) ys (all_keys_after (λ y. eq x.0 y ≡ false) xs ys d.0)) is in
+        let off : eq x.0 l.0 ≡ false = all_last (λ e. eq x.0 e.0 ≡ false) ys l
+        (all_of_keys (λ y. eq x.0 y ≡ false) ys (all_keys_after (λ y. eq x.0 y ≡ false) xs ys d.0)) is in
         rw (laws.symm l.0 x.0, off) (last_apart xs ys l d.1 is)
 
   -- keys that are equal are the same: the entry that a look-up finds is the key's
-  pub entry-from_lookup : ((a b : K) → eq a b ≡ true → a ≡ b) → (k : K) (es : List (Entry K V)) (h : Held V) → lookup (eq k) es ≡ Some h → lookup_entry (eq k) es ≡ Some (k, h)
+  pub entry-from_lookup : ((a b : K) → eq a b ≡ true → a ≡ b) → (k : K) (es : List (Entry K V)) (h : Held V)
+      → lookup (eq k) es ≡ Some h → lookup_entry (eq k) es ≡ Some (k, h)
   entry-from_lookup same k [] h s = cc
-  entry-from_lookup same k (e ∷ es) h s = (elim (eq k e.0) as (λ b. eq k e.0 ≡ b → cond b (Some e.1) (lookup (eq k) es) ≡ Some h → cond b (Some e) (lookup_entry (eq k) es) ≡ Some (k, h)) [
-    | true ↦ λ t q. let is : k ≡ e.0 = same k e.0 t in let value : e.1 ≡ h = cc in rw (is, ← value)
-    | false ↦ λ t q. entry-from_lookup same k es h q
-  ]) refl s
+  entry-from_lookup same k (e ∷ es) h s =
+      (elim (eq k e.0) as (λ b. eq k e.0 ≡ b → cond b (Some e.1) (lookup (eq k) es) ≡ Some h
+      → cond b (Some e) (lookup_entry (eq k) es) ≡ Some (k, h)) [
+        | true ↦ λ t q. let is : k ≡ e.0 = same k e.0 t in let value : e.1 ≡ h = cc in rw (is, ← value)
+        | false ↦ λ t q. entry-from_lookup same k es h q
+      ]) refl s
 
 module _ {K V : Type 0} (eq : K → K → Bool) (laws : IsEquivalence eq) (k : K) where
-  apart_if : (xs ys : List (Entry K V)) (o : Option (Held V)) (h : Held V) → IsDistinct eq (keys_of (xs ++ ys)) → lookup (eq k) xs ≡ o → lookup (eq k) ys ≡ Some h → lookup (eq k) xs ≡ None
+  apart_if : (xs ys : List (Entry K V)) (o : Option (Held V)) (h : Held V) → IsDistinct eq (keys_of (xs ++ ys))
+      → lookup (eq k) xs ≡ o → lookup (eq k) ys ≡ Some h → lookup (eq k) xs ≡ None
   apart_if xs ys None h once is at = is
   apart_if xs ys (Some g) h once is at = let off = apart eq laws k xs ys g once is in cc
 
   -- a key that is in the second list is not in the first
-  before : (xs ys : List (Entry K V)) (h : Held V) → IsDistinct eq (keys_of (xs ++ ys)) → lookup (eq k) ys ≡ Some h → lookup (eq k) xs ≡ None
+  before : (xs ys : List (Entry K V)) (h : Held V) → IsDistinct eq (keys_of (xs ++ ys)) → lookup (eq k) ys ≡ Some h
+      → lookup (eq k) xs ≡ None
   before xs ys h once at = apart_if xs ys (lookup (eq k) xs) h once refl at
 
   module _ (ws ps qs : List (Entry K V)) (h : Held V) (once : IsDistinct eq (keys_of (ws ++ (ps ++ qs)))) where
@@ -124,18 +134,21 @@ pub no_last_none : {K V : Type 0} (e : K × V) (es : List (K × V)) → last_ent
 no_last_none e es h = let n : length (e ∷ es) - 1 ≡ length es = omega arith in no_last_at e es (rw n at h)
 
 module _ {K V : Type 0} (c : Caps) (e : Entry K V) (ps qs : List (Entry K V)) where
-  pub promote-full : (l : Entry K V) → protected_cap c ≤ length qs → last_entry qs ≡ Some l → promoted c e ps qs ≡ (l ∷ ps, all_but_last (e ∷ qs))
+  pub promote-full : (l : Entry K V) → protected_cap c ≤ length qs → last_entry qs ≡ Some l
+      → promoted c e ps qs ≡ (l ∷ ps, all_but_last (e ∷ qs))
   promote-full l h is = let t : nat_lt (length qs) (protected_cap c) ≡ false = not_below (length qs) (protected_cap c) h in
       let there : last_entry (e ∷ qs) ≡ Some l = last_below e qs l is in rw (t, there)
 
-there_at : {K X : Type 0} (test : K → Bool) (es : List (K × X)) (o : Option (K × X)) → lookup_entry test es ≡ o → IsSome (lookup test es) → (e : K × X) × (lookup_entry test es ≡ Some e)
+there_at : {K X : Type 0} (test : K → Bool) (es : List (K × X)) (o : Option (K × X)) → lookup_entry test es ≡ o
+    → IsSome (lookup test es) → (e : K × X) × (lookup_entry test es ≡ Some e)
 there_at test es None h s = let n = lookup_none-entry test es h in let s' = rw n at s in cc
 there_at test es (Some e) h s = (e, h)
 
 pub there : {K X : Type 0} (test : K → Bool) (es : List (K × X)) → IsSome (lookup test es) → (e : K × X) × (lookup_entry test es ≡ Some e)
 there test es s = there_at test es (lookup_entry test es) refl s
 
-pub apart_there : {K V : Type 0} (eq : K → K → Bool) → IsEquivalence eq → (k : K) (xs ys : List (Entry K V)) → IsDistinct eq (keys_of ((xs ++ ys))) → IsSome (lookup (eq k) xs) → lookup (eq k) ys ≡ None
+pub apart_there : {K V : Type 0} (eq : K → K → Bool) → IsEquivalence eq → (k : K) (xs ys : List (Entry K V))
+    → IsDistinct eq (keys_of ((xs ++ ys))) → IsSome (lookup (eq k) xs) → lookup (eq k) ys ≡ None
 apart_there eq laws k xs ys d s = let e = there (eq k) xs s in apart eq laws k xs ys e.0.1 d (lookup-from_entry (eq k) xs e.0 e.1)
 
 pub there_same : {K X : Type 0} (test : K → Bool) (es : List (K × X)) (e : K × X) → lookup_entry test es ≡ Some e → test e.0 ≡ true

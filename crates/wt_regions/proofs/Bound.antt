@@ -44,18 +44,21 @@ module _ {K V : Type 0} (eq : K → K → Bool) (laws : IsEquivalence eq) (k : K
   light-take (suc n) [] h = tt
   light-take (suc n) (x ∷ xs) h = (h.0, light-take n xs h.1)
 
-  no_other-append : (xs ys : List (Entry K V)) → holds_other eq k xs ≡ false → holds_other eq k ys ≡ false → holds_other eq k (xs ++ ys) ≡ false
+  no_other-append : (xs ys : List (Entry K V)) → holds_other eq k xs ≡ false → holds_other eq k ys ≡ false
+      → holds_other eq k (xs ++ ys) ≡ false
   no_other-append [] ys h i = i
-  no_other-append (x ∷ xs) ys h i = (elim (eq k x.0) as (λ c. (not c || holds_other eq k xs) ≡ false → (not c || holds_other eq k (xs ++ ys)) ≡ false) [
-    | true ↦ λ q. no_other-append xs ys q i
-    | false ↦ λ q. cc
-  ]) h
+  no_other-append (x ∷ xs) ys h i =
+      (elim (eq k x.0) as (λ c. (not c || holds_other eq k xs) ≡ false → (not c || holds_other eq k (xs ++ ys)) ≡ false) [
+        | true ↦ λ q. no_other-append xs ys q i
+        | false ↦ λ q. cc
+      ]) h
 
   -- keys that stand once, and none but k: at most one entry
   own : (x : Entry K V) (es : List (Entry K V)) → (not (eq k x.0) || holds_other eq k es) ≡ false → eq k x.0 ≡ true
   own x es h = (elim (eq k x.0) as (λ c. (not c || holds_other eq k es) ≡ false → c ≡ true) [ true ↦ λ q. refl | false ↦ λ q. cc ]) h
 
-  light-alone : (es : List (Entry K V)) → IsDistinct eq (keys_of es) → holds_other eq k es ≡ false → IsLight es → sum_by (λ (e : Entry K V). e.1.weight) es ≤ b
+  light-alone : (es : List (Entry K V)) → IsDistinct eq (keys_of es) → holds_other eq k es ≡ false → IsLight es
+      → sum_by (λ (e : Entry K V). e.1.weight) es ≤ b
   unfolding IsDistinct
   light-alone [] d h l = omega arith
   light-alone (x ∷ []) d h l = let w = l.0 (own x [] h) in omega (arith, w)
@@ -71,18 +74,22 @@ module _ {K V : Type 0} (eq : K → K → Bool) (laws : IsEquivalence eq) (k : K
       (cond y (Some (lists_of r.caps r.window r.probation (all_but_last r.protected), last_told Size r.protected))
       (cond z (Some (lists_of r.caps (all_but_last r.window) r.probation r.protected, last_told Size r.window)) None))
 
-  none_other_at : (r : Lists K V) (x y z : Bool) → holds_other eq k r.probation ≡ x → holds_other eq k r.protected ≡ y → holds_other eq k r.window ≡ z
+  none_other_at : (r : Lists K V) (x y z : Bool) → holds_other eq k r.probation ≡ x → holds_other eq k r.protected ≡ y
+      → holds_other eq k r.window ≡ z
       → step_by r x y z ≡ None
       → holds_other eq k (all_entries r) ≡ false
   none_other_at r true y z hx hy hz h = cc
   none_other_at r false true z hx hy hz h = cc
   none_other_at r false false true hx hy hz h = cc
-  none_other_at r false false false hx hy hz h = no_other-append r.window (r.probation ++ r.protected) hz (no_other-append r.probation r.protected hx hy)
+  none_other_at r false false false hx hy hz h =
+      no_other-append r.window (r.probation ++ r.protected) hz (no_other-append r.probation r.protected hx hy)
 
   none_other : (r : Lists K V) → trimmed_once eq k r ≡ None → holds_other eq k (all_entries r) ≡ false
-  none_other r h = none_other_at r (holds_other eq k r.probation) (holds_other eq k r.protected) (holds_other eq k r.window) refl refl refl h
+  none_other r h = none_other_at r (holds_other eq k r.probation) (holds_other eq k r.protected)
+      (holds_other eq k r.window) refl refl refl h
 
-  light-lists : (r : Lists K V) → IsDistinct eq (keys_of ((all_entries r))) → trimmed_once eq k r ≡ None → IsLight (all_entries r) → weight_of r ≤ b
+  light-lists : (r : Lists K V) → IsDistinct eq (keys_of ((all_entries r))) → trimmed_once eq k r ≡ None
+      → IsLight (all_entries r) → weight_of r ≤ b
   light-lists r d h l = light-alone (all_entries r) d (none_other r h) l
 
   light-one_at : (r : Lists K V) (x y z : Bool) (one : Lists K V × List (Notice K V))
@@ -92,12 +99,17 @@ module _ {K V : Type 0} (eq : K → K → Bool) (laws : IsEquivalence eq) (k : K
       let is : (lists_of r.caps r.window (all_but_last r.probation) r.protected, last_told Size r.probation) ≡ one = cc in
       let lw = light-left r.window (r.probation ++ r.protected) l in let lr = light-right r.window (r.probation ++ r.protected) l in
       subst (λ (p : Lists K V × List (Notice K V)). IsLight (all_entries p.0)) is
-      (light-append r.window (all_but_last r.probation ++ r.protected) lw (light-append (all_but_last r.probation) r.protected (light-take (length r.probation - 1) r.probation (light-left r.probation r.protected lr)) (light-right r.probation r.protected lr)))
+      (light-append r.window (all_but_last r.probation ++ r.protected) lw
+      (light-append (all_but_last r.probation) r.protected
+      (light-take (length r.probation - 1) r.probation (light-left r.probation r.protected lr))
+      (light-right r.probation r.protected lr)))
   light-one_at r false true z one h l =
       let is : (lists_of r.caps r.window r.probation (all_but_last r.protected), last_told Size r.protected) ≡ one = cc in
       let lw = light-left r.window (r.probation ++ r.protected) l in let lr = light-right r.window (r.probation ++ r.protected) l in
       subst (λ (p : Lists K V × List (Notice K V)). IsLight (all_entries p.0)) is
-      (light-append r.window (r.probation ++ all_but_last r.protected) lw (light-append r.probation (all_but_last r.protected) (light-left r.probation r.protected lr) (light-take (length r.protected - 1) r.protected (light-right r.probation r.protected lr))))
+      (light-append r.window (r.probation ++ all_but_last r.protected) lw
+      (light-append r.probation (all_but_last r.protected) (light-left r.probation r.protected lr)
+      (light-take (length r.protected - 1) r.protected (light-right r.probation r.protected lr))))
   light-one_at r false false true one h l =
       let is : (lists_of r.caps (all_but_last r.window) r.probation r.protected, last_told Size r.window) ≡ one = cc in
       let lw = light-left r.window (r.probation ++ r.protected) l in let lr = light-right r.window (r.probation ++ r.protected) l in
@@ -106,9 +118,11 @@ module _ {K V : Type 0} (eq : K → K → Bool) (laws : IsEquivalence eq) (k : K
   light-one_at r false false false one h l = cc
 
   module _ (weigh : V → ℕ) where
-    trimmed-bound_at : (n : ℕ) (r : Lists K V) (c : Bool) (o : Option (Lists K V × List (Notice K V))) → nat_le (weight_of r) r.caps.bound ≡ c → trimmed_once eq k r ≡ o → r.caps.bound ≡ b
+    trimmed-bound_at : (n : ℕ) (r : Lists K V) (c : Bool) (o : Option (Lists K V × List (Notice K V)))
+        → nat_le (weight_of r) r.caps.bound ≡ c → trimmed_once eq k r ≡ o → r.caps.bound ≡ b
         → IsPlaced eq weigh r → IsLight (all_entries r) → length (all_entries r) ≡ suc n
-        → ((s : Lists K V) → s.caps.bound ≡ b → IsPlaced eq weigh s → IsLight (all_entries s) → length (all_entries s) ≡ n → weight_of (trimmed_within eq k n s).0 ≤ b)
+        → ((s : Lists K V) → s.caps.bound ≡ b → IsPlaced eq weigh s → IsLight (all_entries s)
+        → length (all_entries s) ≡ n → weight_of (trimmed_within eq k n s).0 ≤ b)
         → weight_of (turned eq laws weigh k n r c o).0 ≤ b
     trimmed-bound_at n r true o hc ho hb law l len more = subst (λ m. weight_of r ≤ m) hb (within (weight_of r) r.caps.bound hc)
     trimmed-bound_at n r false None hc ho hb law l len more = light-lists r law.distinct ho l
@@ -119,6 +133,9 @@ module _ {K V : Type 0} (eq : K → K → Bool) (laws : IsEquivalence eq) (k : K
         (omega (arith, less.1))
 
     -- where the entry of k is within the bound, trim ends within it
-    pub trimmed-bound : (n : ℕ) (r : Lists K V) → r.caps.bound ≡ b → IsPlaced eq weigh r → IsLight (all_entries r) → length (all_entries r) ≡ n → weight_of (trimmed_within eq k n r).0 ≤ b
+    pub trimmed-bound : (n : ℕ) (r : Lists K V) → r.caps.bound ≡ b → IsPlaced eq weigh r → IsLight (all_entries r)
+        → length (all_entries r) ≡ n → weight_of (trimmed_within eq k n r).0 ≤ b
     trimmed-bound zero r hb law l len = let e = empty_list (all_entries r) len in weightless r b e
-    trimmed-bound (suc n) r hb law l len = trimmed-bound_at n r (nat_le (weight_of r) r.caps.bound) (trimmed_once eq k r) refl refl hb law l len (trimmed-bound n)
+    trimmed-bound (suc n) r hb law l len =
+        trimmed-bound_at n r (nat_le (weight_of r) r.caps.bound) (trimmed_once eq k r) refl refl hb law l len
+        (trimmed-bound n)

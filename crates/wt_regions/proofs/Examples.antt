@@ -12,7 +12,16 @@ use Rattle.wt_regions.specs.Touch.{looked_at}
 use Rattle.wt_regions.specs.Steps.{stored, cleaned, new_entry}
 
 abbrev caps : ℕ → ℕ → ℕ → Option ℕ → Caps
-caps entries window bound write = record { entries = entries; window = window; bound = bound; after_write = write; after_access = None; refresh = None }
+caps entries window bound write =
+    record {
+      entries = entries;
+      window = window;
+      bound = bound;
+      after_write = write;
+      after_access = None;
+      refresh =
+          None;
+    }
 
 -- a key's own uses stand for the sketch; a value is its version, and weighs 1 + key mod 10 where it is weighed
 abbrev uses : List ℕ → ℕ → ℕ
@@ -55,7 +64,9 @@ abbrev order : Run → List (List ℕ)
 order s = keys_of s.regions.window ∷ keys_of s.regions.probation ∷ keys_of s.regions.protected ∷ []
 
 -- a hit in probation brings the entry to protected, and protected's last goes back to probation's front
-pub a_hit_in_probation_promotes : order (looks (1 ∷ 2 ∷ 3 ∷ []) (puts (1 ∷ 2 ∷ 3 ∷ 4 ∷ []) 1 (opened (caps 4 1 1000 None)))) ≡ (4 ∷ []) ∷ (1 ∷ []) ∷ (3 ∷ 2 ∷ []) ∷ []
+pub a_hit_in_probation_promotes : order
+    (looks (1 ∷ 2 ∷ 3 ∷ []) (puts (1 ∷ 2 ∷ 3 ∷ 4 ∷ []) 1 (opened (caps 4 1 1000 None))))
+    ≡ (4 ∷ []) ∷ (1 ∷ []) ∷ (3 ∷ 2 ∷ []) ∷ []
 a_hit_in_probation_promotes = refl
 
 -- with no place in protected the entry goes to probation's front
@@ -70,7 +81,9 @@ abbrev five : Run
 five = look 1 0 (puts (1 ∷ 2 ∷ 3 ∷ 4 ∷ []) 1 (opened (caps 4 1 1000 None)))
 
 -- ties refuse the candidates 4 and 5; then 4, counted twice, ousts 2
-pub a_tie_refuses_the_candidate : (puts (5 ∷ []) 6 five).told ∷ (puts (5 ∷ 4 ∷ []) 6 five).told ∷ (puts (5 ∷ 4 ∷ 6 ∷ []) 6 five).told ∷ [] ≡ ((4, (4, Size)) ∷ []) ∷ ((5, (6, Size)) ∷ []) ∷ ((2, (2, Size)) ∷ []) ∷ []
+pub a_tie_refuses_the_candidate : (puts (5 ∷ []) 6 five).told ∷ (puts (5 ∷ 4 ∷ []) 6 five).told
+    ∷ (puts (5 ∷ 4 ∷ 6 ∷ []) 6 five).told ∷ []
+    ≡ ((4, (4, Size)) ∷ []) ∷ ((5, (6, Size)) ∷ []) ∷ ((2, (2, Size)) ∷ []) ∷ []
 a_tie_refuses_the_candidate = refl
 
 -- weights 4 and 3 are above the bound of 5: the older entry leaves
@@ -81,9 +94,12 @@ the_weight_is_trimmed = refl
 abbrev old : Run
 old = put one 5 5 100 (puts (1 ∷ 2 ∷ 3 ∷ 4 ∷ []) 1 (opened (caps 4 1 1000 (Some 100))))
 
-pub expired_entries_leave : old.told ∷ (put one 6 6 150 old).told ∷ seen (cleaned 150 (put one 6 6 150 old).regions).1 ∷ [] ≡ ((4, (4, Expired)) ∷ []) ∷ ((1, (1, Expired)) ∷ []) ∷ ((2, (2, Expired)) ∷ (3, (3, Expired)) ∷ []) ∷ []
+pub expired_entries_leave : old.told ∷ (put one 6 6 150 old).told ∷ seen
+    (cleaned 150 (put one 6 6 150 old).regions).1 ∷ []
+    ≡ ((4, (4, Expired)) ∷ []) ∷ ((1, (1, Expired)) ∷ []) ∷ ((2, (2, Expired)) ∷ (3, (3, Expired)) ∷ []) ∷ []
 expired_entries_leave = refl
 
 -- an own expired entry leaves as Expired and not as Replaced
-pub an_own_expired_entry_leaves_as_expired : (put one 1 2 100 (put one 1 1 0 (opened (caps 4 1 1000 (Some 100))))).told ≡ (1, (1, Expired)) ∷ []
+pub an_own_expired_entry_leaves_as_expired : (put one 1 2 100 (put one 1 1 0 (opened (caps 4 1 1000 (Some 100))))).told
+    ≡ (1, (1, Expired)) ∷ []
 an_own_expired_entry_leaves_as_expired = refl

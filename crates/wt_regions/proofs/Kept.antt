@@ -18,7 +18,8 @@ use Rattle.wt_regions.specs.Notices.{NoticeList, appended}
 use Rattle.wt_regions.specs.Lawful.{IsLawful}
 use Rattle.wt_regions.specs.Moves.{IsFirst, IsPlaced, others}
 
-module _ {K V : Type 0} (eq : K → K → Bool) (laws : IsEquivalence eq) (weigh : V → ℕ) (f : K → ℕ) (now : ℕ) (k : K) (h : Held V) (c : Caps) (ws ps qs : List (Entry K V))
+module _ {K V : Type 0} (eq : K → K → Bool) (laws : IsEquivalence eq) (weigh : V → ℕ) (f : K → ℕ) (now : ℕ) (k : K)
+    (h : Held V) (c : Caps) (ws ps qs : List (Entry K V))
     (law : IsPlaced eq weigh (lists_of c ws ps qs)) (w : h.weight ≡ weigh h.value) (low : h.weight ≤ c.bound) where
   abbrev outcome : Lists K V × List (Notice K V)
   outcome = placed eq f now (k, h) (lists_of c ws ps qs)
@@ -32,7 +33,8 @@ module _ {K V : Type 0} (eq : K → K → Bool) (laws : IsEquivalence eq) (weigh
   pub kept-first : (m : Lists K V) → m ≡ outcome.0 → IsFirst eq k m
   kept-first m is = rw is ready.first
 
-  pub kept-room : (m : Lists K V) (n0 n1 : NoticeList K V) → m ≡ outcome.0 → n1 ≡ appended outcome.1 n0 → c.entries ≤ n0.room → others eq k (all_entries m) ≤ n1.room
+  pub kept-room : (m : Lists K V) (n0 n1 : NoticeList K V) → m ≡ outcome.0 → n1 ≡ appended outcome.1 n0
+      → c.entries ≤ n0.room → others eq k (all_entries m) ≤ n1.room
   kept-room m n0 n1 is told room = let a = ready.others in let b = count in rw (is, told) (omega (arith, a, b, room))
 
   bounded : (z y : Lists K V) → z ≡ y → z.caps ≡ c → weight_of y ≤ c.bound → weight_of z ≤ z.caps.bound
@@ -46,7 +48,8 @@ module _ {K V : Type 0} (eq : K → K → Bool) (laws : IsEquivalence eq) (weigh
       let same = kept-caps m z is end in
       let pm : IsPlaced eq weigh m = rw is ready.placed in
       let cm : m.caps.bound ≡ c.bound = rw (is, ready.caps) in
-      let lm : AllByRecursion (Light eq k c.bound) (all_entries m) = rw is (by_recursion (Light eq k c.bound) (all_entries outcome.0) ready.light) in
+      let lm : AllByRecursion (Light eq k c.bound) (all_entries m) =
+      rw is (by_recursion (Light eq k c.bound) (all_entries outcome.0) ready.light) in
       let b = trimmed-bound eq laws k c.bound weigh (length (all_entries m)) m cm pm lm refl in
       lawful_of eq weigh z (rw end (trimmed-placed eq laws weigh k (length (all_entries m)) m pm)) (bounded z (trimmed eq k m).0 end same b)
 
@@ -55,5 +58,8 @@ module _ {K V : Type 0} (eq : K → K → Bool) (k : K) where
   pub both-lists : (m z : Lists K V) (s : Lists K V × List (Notice K V)) → m ≡ s.0 → z ≡ (trimmed eq k m).0 → z ≡ (trimmed eq k s.0).0
   both-lists m z s is end = rw end (ap (λ (x : Lists K V). (trimmed eq k x).0) is)
 
-  pub both-told : (m : Lists K V) (s : Lists K V × List (Notice K V)) (n0 n1 n2 : NoticeList K V) → m ≡ s.0 → n1 ≡ appended s.1 n0 → n2 ≡ appended (trimmed eq k m).1 n1 → n2 ≡ appended (s.1 ++ (trimmed eq k s.0).1) n0
-  both-told m s n0 n1 n2 is one two = rw (two, one) (ap (λ (x : Lists K V). appended (trimmed eq k x).1 (appended s.1 n0)) is ∙ sym (appended-twice s.1 (trimmed eq k s.0).1 n0))
+  pub both-told : (m : Lists K V) (s : Lists K V × List (Notice K V)) (n0 n1 n2 : NoticeList K V) → m ≡ s.0
+      → n1 ≡ appended s.1 n0 → n2 ≡ appended (trimmed eq k m).1 n1 → n2 ≡ appended (s.1 ++ (trimmed eq k s.0).1) n0
+  both-told m s n0 n1 n2 is one two =
+      rw (two, one) (ap (λ (x : Lists K V). appended (trimmed eq k x).1 (appended s.1 n0)) is
+      ∙ sym (appended-twice s.1 (trimmed eq k s.0).1 n0))

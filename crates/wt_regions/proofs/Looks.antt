@@ -31,13 +31,15 @@ module _ {K V : Type 0} (eq : K → K → Bool) (k : K) (now : ℕ) where
     pub held-probation : (h : Held V) → lookup (eq k) ws ≡ None → lookup (eq k) ps ≡ Some h → held_for eq k (lists_of c ws ps qs) ≡ Some h
     held-probation h nw is = rw (lookup-append (eq k) ws (ps ++ qs), nw, lookup-append (eq k) ps qs, is)
 
-    pub held-protected : (h : Held V) → lookup (eq k) ws ≡ None → lookup (eq k) ps ≡ None → lookup (eq k) qs ≡ Some h → held_for eq k (lists_of c ws ps qs) ≡ Some h
+    pub held-protected : (h : Held V) → lookup (eq k) ws ≡ None → lookup (eq k) ps ≡ None → lookup (eq k) qs ≡ Some h
+        → held_for eq k (lists_of c ws ps qs) ≡ Some h
     held-protected h nw np is = rw (lookup-append (eq k) ws (ps ++ qs), nw, lookup-append (eq k) ps qs, np, is)
 
     held-nowhere : lookup (eq k) ws ≡ None → lookup (eq k) ps ≡ None → lookup (eq k) qs ≡ None → held_for eq k (lists_of c ws ps qs) ≡ None
     held-nowhere nw np nq = rw (lookup-append (eq k) ws (ps ++ qs), nw, lookup-append (eq k) ps qs, np, nq)
 
-    last_if : (o : Option (Held V)) → lookup (eq k) ws ≡ o → lookup (eq k) ps ≡ None → lookup (eq k) qs ≡ None → held_for eq k (lists_of c ws ps qs) ≡ o
+    last_if : (o : Option (Held V)) → lookup (eq k) ws ≡ o → lookup (eq k) ps ≡ None → lookup (eq k) qs ≡ None
+        → held_for eq k (lists_of c ws ps qs) ≡ o
     last_if (Some h) is np nq = held-window h is
     last_if None is np nq = held-nowhere is np nq
 
@@ -51,7 +53,8 @@ never-gone None None w u now e = refl
 never-gone (Some d) b w u now e = cc
 never-gone None (Some d) w u now e = cc
 
-module _ {K V : Type 0} (eq : K → K → Bool) (laws : IsEquivalence eq) (same : (a b : K) → eq a b ≡ true → a ≡ b) (k : K) (now : ℕ) (c : Caps) (ws ps qs : List (Entry K V)) (once : IsDistinct eq (keys_of (ws ++ (ps ++ qs)))) where
+module _ {K V : Type 0} (eq : K → K → Bool) (laws : IsEquivalence eq) (same : (a b : K) → eq a b ≡ true → a ≡ b) (k : K)
+    (now : ℕ) (c : Caps) (ws ps qs : List (Entry K V)) (once : IsDistinct eq (keys_of (ws ++ (ps ++ qs)))) where
   abbrev r : Lists K V
   r = lists_of c ws ps qs
 
@@ -75,7 +78,8 @@ module _ {K V : Type 0} (eq : K → K → Bool) (laws : IsEquivalence eq) (same 
       let there : is_some (lookup (eq k) ws) ≡ true = rw at refl in
       (rw (is, e) refl, rw (is, e) (touched-window eq k (used now) c ws ps qs there))
 
-  probation_if : (h : Held V) (b : Bool) → lookup (eq k) ws ≡ None → lookup (eq k) ps ≡ Some h → is_expired c now h ≡ b → IsLook (cond b Expired (InProbation h.value (used now h)))
+  probation_if : (h : Held V) (b : Bool) → lookup (eq k) ws ≡ None → lookup (eq k) ps ≡ Some h → is_expired c now h ≡ b
+      → IsLook (cond b Expired (InProbation h.value (used now h)))
   probation_if h true nw at e = expired h (held-probation eq k now c ws ps qs h nw at) e
   probation_if h false nw at e =
       let is = held-probation eq k now c ws ps qs h nw at in
@@ -83,7 +87,8 @@ module _ {K V : Type 0} (eq : K → K → Bool) (laws : IsEquivalence eq) (same 
       let entry = entry-from_lookup eq same k ps h at in
       (rw (is, e) refl, rw (is, e, lookup_entry-none (eq k) ws nw, entry) refl, nw, there)
 
-  protected_if : (h : Held V) (b : Bool) → lookup (eq k) ws ≡ None → lookup (eq k) ps ≡ None → lookup (eq k) qs ≡ Some h → is_expired c now h ≡ b → IsLook (cond b Expired (InProtected h.value))
+  protected_if : (h : Held V) (b : Bool) → lookup (eq k) ws ≡ None → lookup (eq k) ps ≡ None → lookup (eq k) qs ≡ Some h
+      → is_expired c now h ≡ b → IsLook (cond b Expired (InProtected h.value))
   protected_if h true nw np at e = expired h (held-protected eq k now c ws ps qs h nw np at) e
   protected_if h false nw np at e =
       let is = held-protected eq k now c ws ps qs h nw np at in
@@ -96,7 +101,8 @@ module _ {K V : Type 0} (eq : K → K → Bool) (laws : IsEquivalence eq) (same 
       → IsLook (option_map_or (λ (h : Held V). cond (is_expired c now h) Expired (InProtected h.value)) oq
       (option_map_or (λ (h : Held V). cond (is_expired c now h) Expired (InProbation h.value (used now h))) op
       (option_map_or (λ (h : Held V). cond (is_expired c now h) Expired (InWindow h.value)) ow Nowhere)))
-  look_at (Some h) op ow iq ip iw = let off = above-protected eq laws k ws ps qs h once iq in protected_if h (is_expired c now h) off.0 off.1 iq refl
+  look_at (Some h) op ow iq ip iw = let off = above-protected eq laws k ws ps qs h once iq in
+      protected_if h (is_expired c now h) off.0 off.1 iq refl
   look_at None (Some h) ow iq ip iw = probation_if h (is_expired c now h) (above-probation eq laws k ws ps qs h once ip) ip refl
   look_at None None (Some h) iq ip iw = window_if h (is_expired c now h) iw refl
   look_at None None None iq ip iw = nowhere iw ip iq
@@ -106,7 +112,8 @@ module _ {K V : Type 0} (eq : K → K → Bool) (laws : IsEquivalence eq) (same 
     fresh : (h : Held V) → is_expired c now h ≡ false
     fresh h = never-gone c.after_write c.after_access h.written h.accessed now unaging
 
-    protected_of : (o : Option (Held V)) (v : V) → lookup (eq k) qs ≡ o → option_map (λ (h : Held V). h.value) o ≡ Some v → IsLook (InProtected v)
+    protected_of : (o : Option (Held V)) (v : V) → lookup (eq k) qs ≡ o
+        → option_map (λ (h : Held V). h.value) o ≡ Some v → IsLook (InProtected v)
     protected_of None v at is = cc
     protected_of (Some h) v at is =
         let off = above-protected eq laws k ws ps qs h once at in
@@ -131,7 +138,8 @@ module _ {K V : Type 0} (eq : K → K → Bool) (laws : IsEquivalence eq) (same 
   unmapped (Some h) is = cc
 
   -- the same for what three caches don't give
-  pub copied-nowhere : None ≡ option_map (λ (h : Held V). h.value) (lookup (eq k) ws) → lookup (eq k) ps ≡ None → None ≡ option_map (λ (h : Held V). h.value) (lookup (eq k) qs) → IsLook Nowhere
+  pub copied-nowhere : None ≡ option_map (λ (h : Held V). h.value) (lookup (eq k) ws) → lookup (eq k) ps ≡ None
+      → None ≡ option_map (λ (h : Held V). h.value) (lookup (eq k) qs) → IsLook Nowhere
   copied-nowhere iw ip iq = nowhere (unmapped (lookup (eq k) ws) iw) ip (unmapped (lookup (eq k) qs) iq)
 
   pub look-is : IsLook (seen_at eq k now r)

@@ -25,36 +25,45 @@ use Rattle.wt_regions.specs.Moves.{IsPlaced, places_of}
 module _ {K X : Type 0} (test : K → Bool) where
   pub lookup-append : (xs ys : List (K × X)) → lookup test (xs ++ ys) ≡ option_or (lookup test xs) (lookup test ys)
   lookup-append [] ys = refl
-  lookup-append (x ∷ xs) ys = (elim (test x.0) as (λ b. cond b (Some x.1) (lookup test (xs ++ ys)) ≡ option_or (cond b (Some x.1) (lookup test xs)) (lookup test ys)) [
-    | true ↦ refl
-    | false ↦ lookup-append xs ys
-  ])
+  lookup-append (x ∷ xs) ys = (elim (test x.0) as
+      (λ b. cond b (Some x.1) (lookup test (xs ++ ys))
+      ≡ option_or (cond b (Some x.1) (lookup test xs)) (lookup test ys)) [
+        | true ↦ refl
+        | false ↦ lookup-append xs ys
+      ])
 
   pub lookup_entry-none : (xs : List (K × X)) → lookup test xs ≡ None → lookup_entry test xs ≡ None
   lookup_entry-none [] h = refl
-  lookup_entry-none (x ∷ xs) h = (elim (test x.0) as (λ b. cond b (Some x.1) (lookup test xs) ≡ None → cond b (Some x) (lookup_entry test xs) ≡ None) [
-    | true ↦ λ e. cc
-    | false ↦ λ e. lookup_entry-none xs e
-  ]) h
+  lookup_entry-none (x ∷ xs) h = (elim (test x.0) as
+      (λ b. cond b (Some x.1) (lookup test xs) ≡ None → cond b (Some x) (lookup_entry test xs) ≡ None) [
+        | true ↦ λ e. cc
+        | false ↦ λ e. lookup_entry-none xs e
+      ]) h
 
   pub lookup_none-entry : (xs : List (K × X)) → lookup_entry test xs ≡ None → lookup test xs ≡ None
   lookup_none-entry [] h = refl
-  lookup_none-entry (x ∷ xs) h = (elim (test x.0) as (λ b. cond b (Some x) (lookup_entry test xs) ≡ None → cond b (Some x.1) (lookup test xs) ≡ None) [
-    | true ↦ λ e. cc
-    | false ↦ λ e. lookup_none-entry xs e
-  ]) h
+  lookup_none-entry (x ∷ xs) h = (elim (test x.0) as
+      (λ b. cond b (Some x) (lookup_entry test xs) ≡ None → cond b (Some x.1) (lookup test xs) ≡ None) [
+        | true ↦ λ e. cc
+        | false ↦ λ e. lookup_none-entry xs e
+      ]) h
 
   pub lookup-from_entry : (xs : List (K × X)) (e : K × X) → lookup_entry test xs ≡ Some e → lookup test xs ≡ Some e.1
   lookup-from_entry [] e h = cc
-  lookup-from_entry (x ∷ xs) e h = (elim (test x.0) as (λ b. cond b (Some x) (lookup_entry test xs) ≡ Some e → cond b (Some x.1) (lookup test xs) ≡ Some e.1) [
-    | true ↦ λ q. cc
-    | false ↦ λ q. lookup-from_entry xs e q
-  ]) h
+  lookup-from_entry (x ∷ xs) e h =
+      (elim (test x.0) as (λ b. cond b (Some x) (lookup_entry test xs) ≡ Some e
+      → cond b (Some x.1) (lookup test xs) ≡ Some e.1) [
+        | true ↦ λ q. cc
+        | false ↦ λ q. lookup-from_entry xs e q
+      ]) h
 
-pub put-fresh : {K V : Type 0} (eq : K → K → Bool) (c : LruCache K V) (k : K) (v : V) → lookup (eq k) c.entries ≡ None → length c.entries < c.cap → put_entries eq c k v ≡ (k, v) ∷ c.entries
-put-fresh eq c k v h room = let n = lookup_entry-none (eq k) c.entries h in let all = take_all (c.cap - 1) c.entries (omega arith) in rw n (ap (λ es. (k, v) ∷ es) all)
+pub put-fresh : {K V : Type 0} (eq : K → K → Bool) (c : LruCache K V) (k : K) (v : V) → lookup (eq k) c.entries ≡ None
+    → length c.entries < c.cap → put_entries eq c k v ≡ (k, v) ∷ c.entries
+put-fresh eq c k v h room = let n = lookup_entry-none (eq k) c.entries h in
+    let all = take_all (c.cap - 1) c.entries (omega arith) in rw n (ap (λ es. (k, v) ∷ es) all)
 
-full_at : {X : Type 0} (x : X) (es : List X) (cap : ℕ) → 0 < cap → length es ≡ cap → x ∷ take (cap - 1) es ≡ take (length (x ∷ es) - 1) (x ∷ es)
+full_at : {X : Type 0} (x : X) (es : List X) (cap : ℕ) → 0 < cap → length es ≡ cap
+    → x ∷ take (cap - 1) es ≡ take (length (x ∷ es) - 1) (x ∷ es)
 full_at x [] cap some full = absurd (omega (arith, some, full))
 full_at x (e ∷ es) cap some full =
     let n : length (x ∷ e ∷ es) - 1 ≡ suc (length es) = omega arith in
@@ -62,11 +71,13 @@ full_at x (e ∷ es) cap some full =
     rw (n, m)
 
 -- a push into a full cache
-pub put-full : {K V : Type 0} (eq : K → K → Bool) (c : LruCache K V) (k : K) (v : V) → lookup (eq k) c.entries ≡ None → 0 < c.cap → length c.entries ≡ c.cap
+pub put-full : {K V : Type 0} (eq : K → K → Bool) (c : LruCache K V) (k : K) (v : V) → lookup (eq k) c.entries ≡ None
+    → 0 < c.cap → length c.entries ≡ c.cap
     → put_entries eq c k v ≡ take (length ((k, v) ∷ c.entries) - 1) ((k, v) ∷ c.entries)
 put-full eq c k v h some full = let n = lookup_entry-none (eq k) c.entries h in rw n (full_at (k, v) c.entries c.cap some full)
 
-pub displaced-full : {K V : Type 0} (eq : K → K → Bool) (c : LruCache K V) (k : K) (v : V) → lookup (eq k) c.entries ≡ None → length c.entries ≡ c.cap → displaced eq c k v ≡ last_entry c.entries
+pub displaced-full : {K V : Type 0} (eq : K → K → Bool) (c : LruCache K V) (k : K) (v : V)
+    → lookup (eq k) c.entries ≡ None → length c.entries ≡ c.cap → displaced eq c k v ≡ last_entry c.entries
 displaced-full eq c k v h full = rw (h, full)
 
 -- the places of a cache
@@ -107,12 +118,14 @@ module _ {K X : Type 0} (test : K → Bool) (f : X → X) where
 module _ {K X : Type 0} (test : K → Bool) where
   pub IsPermutation-pull : (es : List (K × X)) (e : K × X) → lookup_entry test es ≡ Some e → IsPermutation es (e ∷ remove_entry test es)
   IsPermutation-pull [] e h = cc
-  IsPermutation-pull (x ∷ xs) e h = (elim (test x.0) as (λ b. cond b (Some x) (lookup_entry test xs) ≡ Some e → IsPermutation (x ∷ xs) (e ∷ cond b xs (x ∷ remove_entry test xs))) [
-    | true ↦ λ q. let is : x ≡ e = cc in subst (λ y. IsPermutation (x ∷ xs) (y ∷ xs)) is (IsPermutation-refl (x ∷ xs))
-    | false ↦ λ q. IsPermutation-trans (x ∷ xs) (x ∷ e ∷ remove_entry test xs) (e ∷ x ∷ remove_entry test xs)
-        (IsPermutation-cons x xs (e ∷ remove_entry test xs) (IsPermutation-pull xs e q))
-        (IsPermutation-middle (x ∷ []) e (remove_entry test xs))
-  ]) h
+  IsPermutation-pull (x ∷ xs) e h =
+      (elim (test x.0) as (λ b. cond b (Some x) (lookup_entry test xs) ≡ Some e
+      → IsPermutation (x ∷ xs) (e ∷ cond b xs (x ∷ remove_entry test xs))) [
+        | true ↦ λ q. let is : x ≡ e = cc in subst (λ y. IsPermutation (x ∷ xs) (y ∷ xs)) is (IsPermutation-refl (x ∷ xs))
+        | false ↦ λ q. IsPermutation-trans (x ∷ xs) (x ∷ e ∷ remove_entry test xs) (e ∷ x ∷ remove_entry test xs)
+            (IsPermutation-cons x xs (e ∷ remove_entry test xs) (IsPermutation-pull xs e q))
+            (IsPermutation-middle (x ∷ []) e (remove_entry test xs))
+      ]) h
 
 module _ {X : Type 0} where
   -- the last goes first
@@ -124,15 +137,18 @@ pub split_of_last : {K V : Type 0} (es : List (K × V)) (l : K × V) → last_en
 split_of_last [] l h = cc
 split_of_last (x ∷ xs) l h = let n : length (x ∷ xs) - 1 ≡ length xs = omega arith in rw n (last_split x xs l (rw n at h))
 
-pub IsPermutation-last : {K V : Type 0} (es : List (K × V)) (l : K × V) → last_entry es ≡ Some l → IsPermutation es (l ∷ take (length es - 1) es)
-IsPermutation-last es l h = subst (λ xs. IsPermutation xs (l ∷ take (length es - 1) es)) (sym (split_of_last es l h)) (IsPermutation-to_front (take (length es - 1) es) l)
+pub IsPermutation-last : {K V : Type 0} (es : List (K × V)) (l : K × V) → last_entry es ≡ Some l
+    → IsPermutation es (l ∷ take (length es - 1) es)
+IsPermutation-last es l h = subst (λ xs. IsPermutation xs (l ∷ take (length es - 1) es)) (sym (split_of_last es l h))
+    (IsPermutation-to_front (take (length es - 1) es) l)
 
 module _ {K V : Type 0} where
   -- what promote does is a move
   abbrev pub promoted_so : Entry K V → List (Entry K V) → List (Entry K V) → Bool → Option (Entry K V) → List (Entry K V) × List (Entry K V)
   promoted_so e ps qs b o = cond b (ps, e ∷ qs) (option_map_or (λ last. (last ∷ ps, all_but_last (e ∷ qs))) o (ps, e ∷ qs))
 
-  promoted-moves-all_at : (c : Caps) (e : Entry K V) (ps qs : List (Entry K V)) (b : Bool) (o : Option (Entry K V)) → last_entry (e ∷ qs) ≡ o
+  promoted-moves-all_at : (c : Caps) (e : Entry K V) (ps qs : List (Entry K V)) (b : Bool) (o : Option (Entry K V))
+      → last_entry (e ∷ qs) ≡ o
       → IsPermutation ((e ∷ ps) ++ qs) ((promoted_so e ps qs b o).0 ++ (promoted_so e ps qs b o).1)
   promoted-moves-all_at c e ps qs true o h = IsPermutation-sym _ _ (IsPermutation-middle ps e qs)
   promoted-moves-all_at c e ps qs false None h = IsPermutation-sym _ _ (IsPermutation-middle ps e qs)
@@ -143,7 +159,8 @@ module _ {K V : Type 0} where
       (IsPermutation-append_right ps (e ∷ qs) (l ∷ all_but_last (e ∷ qs)) (IsPermutation-last (e ∷ qs) l h))
       (IsPermutation-middle ps l (all_but_last (e ∷ qs))))
 
-  pub promoted-moves-all : (c : Caps) (e : Entry K V) (ps qs : List (Entry K V)) → IsPermutation ((e ∷ ps) ++ qs) ((promoted c e ps qs).0 ++ (promoted c e ps qs).1)
+  pub promoted-moves-all : (c : Caps) (e : Entry K V) (ps qs : List (Entry K V))
+      → IsPermutation ((e ∷ ps) ++ qs) ((promoted c e ps qs).0 ++ (promoted c e ps qs).1)
   promoted-moves-all c e ps qs = promoted-moves-all_at c e ps qs (nat_lt (length qs) (protected_cap c)) (last_entry (e ∷ qs)) refl
 
   -- the key, the value and the weight of an entry: what its use keeps
@@ -178,7 +195,8 @@ module _ {K V : Type 0} where
 
   module _ (eq : K → K → Bool) (k : K) (f : Held V → Held V) (keeps : (e : Entry K V) → bare e ≡ bare (e.0, f e.1)) where
     -- the entry of k comes to the front of its list
-    pub bring-moves : (es : List (Entry K V)) (e : Entry K V) → lookup_entry (eq k) es ≡ Some e → Moves es ((e.0, f e.1) ∷ remove_entry (eq k) es)
+    pub bring-moves : (es : List (Entry K V)) (e : Entry K V) → lookup_entry (eq k) es ≡ Some e
+        → Moves es ((e.0, f e.1) ∷ remove_entry (eq k) es)
     bring-moves es e h = moves-trans es (e ∷ remove_entry (eq k) es) ((e.0, f e.1) ∷ remove_entry (eq k) es)
         (moves es (e ∷ remove_entry (eq k) es) (IsPermutation-pull (eq k) es e h))
         (moves-head e (e.0, f e.1) (remove_entry (eq k) es) (keeps e))
@@ -192,7 +210,8 @@ module _ {K V : Type 0} where
     moves-right zs xs ys h = rw (bares-append zs xs, bares-append zs ys) (IsPermutation-append_right (bares zs) (bares xs) (bares ys) h)
 
     pub promote-brings : (c : Caps) (ps qs : List (Entry K V)) (e : Entry K V) → lookup_entry (eq k) ps ≡ Some e
-        → Moves (ps ++ qs) ((promoted c (e.0, f e.1) (remove_entry (eq k) ps) qs).0 ++ (promoted c (e.0, f e.1) (remove_entry (eq k) ps) qs).1)
+        → Moves (ps ++ qs) ((promoted c (e.0, f e.1) (remove_entry (eq k) ps) qs).0
+        ++ (promoted c (e.0, f e.1) (remove_entry (eq k) ps) qs).1)
     promote-brings c ps qs e h =
         let p : List (Entry K V) × List (Entry K V) = promoted c (e.0, f e.1) (remove_entry (eq k) ps) qs in
         moves-trans (ps ++ qs) (((e.0, f e.1) ∷ remove_entry (eq k) ps) ++ qs) (p.0 ++ p.1)
@@ -203,7 +222,8 @@ module _ {K V : Type 0} where
 module _ {K V : Type 0} where
   weights-bares : (es : List (Entry K V)) → sum_by (λ (b : K × (V × ℕ)). b.1.1) (bares es) ≡ weights es
   weights-bares [] = refl
-  weights-bares (e ∷ es) = sum_by-cons (λ (b : K × (V × ℕ)). b.1.1) (bare e) (bares es) ∙ ap (λ n. e.1.weight + n) (weights-bares es) ∙ sym (sum_by-cons (λ (f : Entry K V). f.1.weight) e es)
+  weights-bares (e ∷ es) = sum_by-cons (λ (b : K × (V × ℕ)). b.1.1) (bare e) (bares es)
+      ∙ ap (λ n. e.1.weight + n) (weights-bares es) ∙ sym (sum_by-cons (λ (f : Entry K V). f.1.weight) e es)
 
   keys-bares : (es : List (Entry K V)) → keys_of (bares es) ≡ keys_of es
   keys-bares [] = refl
@@ -216,7 +236,8 @@ module _ {K V : Type 0} where
 
   unbared : (P : K × (V × ℕ) → Type 0) (es : List (Entry K V)) → All P (bares es) → All (λ (e : Entry K V). P (bare e)) es
   unbared P [] h = λ i d l. absurd (omega arith)
-  unbared P (e ∷ es) h = All-cons (λ (e : Entry K V). P (bare e)) e es (h 0 (bare e) (omega arith)) (unbared P es (All-tail P (bare e) (bares es) h))
+  unbared P (e ∷ es) h = All-cons (λ (e : Entry K V). P (bare e)) e es (h 0 (bare e) (omega arith))
+      (unbared P es (All-tail P (bare e) (bares es) h))
 
   pub moves-length : (xs ys : List (Entry K V)) → Moves xs ys → length ys ≡ length xs
   unfolding Moves
@@ -224,21 +245,28 @@ module _ {K V : Type 0} where
 
   pub moves-weight : (xs ys : List (Entry K V)) → Moves xs ys → weights ys ≡ weights xs
   unfolding Moves
-  moves-weight xs ys h = sym (weights-bares ys) ∙ sum_by-IsPermutation (λ (b : K × (V × ℕ)). b.1.1) (bares xs) (bares ys) h ∙ weights-bares xs
+  moves-weight xs ys h = sym (weights-bares ys)
+      ∙ sum_by-IsPermutation (λ (b : K × (V × ℕ)). b.1.1) (bares xs) (bares ys) h ∙ weights-bares xs
 
-  pub moves-distinct : (eq : K → K → Bool) → IsEquivalence eq → (xs ys : List (Entry K V)) → Moves xs ys → IsDistinct eq (keys_of xs) → IsDistinct eq (keys_of ys)
+  pub moves-distinct : (eq : K → K → Bool) → IsEquivalence eq → (xs ys : List (Entry K V)) → Moves xs ys
+      → IsDistinct eq (keys_of xs) → IsDistinct eq (keys_of ys)
   unfolding Moves
-  moves-distinct eq laws xs ys h d = subst (IsDistinct eq) (keys-bares ys) (IsDistinct-IsPermutation eq laws.symm (keys_of (bares xs)) (keys_of (bares ys))
+  moves-distinct eq laws xs ys h d =
+      subst (IsDistinct eq) (keys-bares ys)
+      (IsDistinct-IsPermutation eq laws.symm (keys_of (bares xs)) (keys_of (bares ys))
       (IsPermutation-map (λ (b : K × (V × ℕ)). b.0) (bares xs) (bares ys) h) (subst (IsDistinct eq) (sym (keys-bares xs)) d))
 
-  pub moves-weights : (weight : V → ℕ) (xs ys : List (Entry K V)) → Moves xs ys → All (λ (e : Entry K V). e.1.weight ≡ weight e.1.value) xs → All (λ (e : Entry K V). e.1.weight ≡ weight e.1.value) ys
+  pub moves-weights : (weight : V → ℕ) (xs ys : List (Entry K V)) → Moves xs ys
+      → All (λ (e : Entry K V). e.1.weight ≡ weight e.1.value) xs
+      → All (λ (e : Entry K V). e.1.weight ≡ weight e.1.value) ys
   unfolding Moves
   moves-weights weight xs ys h d =
       let P : K × (V × ℕ) → Type 0 = λ b. b.1.1 ≡ weight b.1.0 in
       unbared P ys (All-permutation P (bares xs) (bares ys) h (bared P xs d))
 
   -- regions are lawful where each thing is in its place, within the bound
-  pub lawful_of : (eq : K → K → Bool) (weight : V → ℕ) (r : Lists K V) → IsPlaced eq weight r → weight_of r ≤ r.caps.bound → IsLawful eq weight r
+  pub lawful_of : (eq : K → K → Bool) (weight : V → ℕ) (r : Lists K V) → IsPlaced eq weight r
+      → weight_of r ≤ r.caps.bound → IsLawful eq weight r
   lawful_of eq weight r law low = record {
     fit = law.fit;
     distinct = law.distinct;
@@ -260,8 +288,10 @@ module _ {K V : Type 0} where
   }
 
   -- regions that are the same but for places and uses are lawful, where none is too long
-  pub lawful-moves : (eq : K → K → Bool) (weigh : V → ℕ) → IsEquivalence eq → (r s : Lists K V) → s.caps ≡ r.caps → Moves (all_entries r) (all_entries s)
-      → length s.window ≤ s.caps.window → length s.protected ≤ protected_cap s.caps → length s.probation + length s.protected ≤ main_cap s.caps
+  pub lawful-moves : (eq : K → K → Bool) (weigh : V → ℕ) → IsEquivalence eq → (r s : Lists K V) → s.caps ≡ r.caps
+      → Moves (all_entries r) (all_entries s)
+      → length s.window ≤ s.caps.window → length s.protected ≤ protected_cap s.caps
+      → length s.probation + length s.protected ≤ main_cap s.caps
       → IsLawful eq weigh r → IsLawful eq weigh s × (weight_of s ≡ weight_of r)
   lawful-moves eq weigh laws r s same h w q m law =
       let n : weight_of s ≡ weight_of r = moves-weight (all_entries r) (all_entries s) h in (

@@ -23,7 +23,8 @@ use Rattle.wt_regions.specs.Settle.{settled}
 use Rattle.wt_regions.specs.Steps.{placed}
 use Rattle.wt_regions.specs.Moves.{IsPlaced}
 
-module _ {K V : Type 0} (eq : K → K → Bool) (laws : IsEquivalence eq) (same : (a b : K) → eq a b ≡ true → a ≡ b) (weigh : V → ℕ) (f : K → ℕ) (now : ℕ) (k : K) (h : Held V) (c : Caps) (ws ps qs : List (Entry K V))
+module _ {K V : Type 0} (eq : K → K → Bool) (laws : IsEquivalence eq) (same : (a b : K) → eq a b ≡ true → a ≡ b)
+    (weigh : V → ℕ) (f : K → ℕ) (now : ℕ) (k : K) (h : Held V) (c : Caps) (ws ps qs : List (Entry K V))
     (law : IsPlaced eq weigh (lists_of c ws ps qs)) where
   abbrev r : Lists K V
   r = lists_of c ws ps qs
@@ -31,8 +32,11 @@ module _ {K V : Type 0} (eq : K → K → Bool) (laws : IsEquivalence eq) (same 
   abbrev outcome : Lists K V × List (Notice K V)
   outcome = placed eq f now (k, h) r
 
-  weighed : (s t : Lists K V) (n : ℕ) → s ≡ t → weights (all_entries s) + n ≡ weights (ws ++ (ps ++ qs)) + h.weight → weight_of t + n ≡ weight_of r + h.weight
-  weighed s t n is w = let a = weight-is t in let b = weight-is r in let e : weights (all_entries s) ≡ weights (all_entries t) = ap (λ (x : Lists K V). weights (all_entries x)) is in omega (arith, a, b, e, w)
+  weighed : (s t : Lists K V) (n : ℕ) → s ≡ t → weights (all_entries s) + n ≡ weights (ws ++ (ps ++ qs)) + h.weight
+      → weight_of t + n ≡ weight_of r + h.weight
+  weighed s t n is w = let a = weight-is t in let b = weight-is r in
+      let e : weights (all_entries s) ≡ weights (all_entries t) = ap (λ (x : Lists K V). weights (all_entries x)) is in
+      omega (arith, a, b, e, w)
 
   -- ---- in window
   module _ (g : Held V) (at : lookup (eq k) ws ≡ Some g) where
@@ -46,14 +50,19 @@ module _ {K V : Type 0} (eq : K → K → Bool) (laws : IsEquivalence eq) (same 
     whole-w = rw (lookup-append (eq k) ws (ps ++ qs), at)
 
     shorter-w : length ((k, h) ∷ remove_entry (eq k) ws) ≤ c.window
-    shorter-w = let n = length_permutation ws ((k, g) ∷ remove_entry (eq k) ws) (IsPermutation-pull (eq k) ws (k, g) entry-w) in omega (arith, n, law.window)
+    shorter-w = let n = length_permutation ws ((k, g) ∷ remove_entry (eq k) ws)
+        (IsPermutation-pull (eq k) ws (k, g) entry-w) in omega (arith, n, law.window)
 
-    window_by : (x : Bool) → is_expired c now g ≡ x → outcome ≡ (lists_of c ((k, h) ∷ remove_entry (eq k) ws) ps qs, notice (cond x Expired Replaced) (k, g) ∷ [])
+    window_by : (x : Bool) → is_expired c now g ≡ x
+        → outcome ≡ (lists_of c ((k, h) ∷ remove_entry (eq k) ws) ps qs, notice (cond x Expired Replaced) (k, g) ∷ [])
     window_by true is = let b = in_by (length ((k, h) ∷ remove_entry (eq k) ws)) c.window shorter-w in
         rw (whole-w, is, remove-none (eq k) ps off-w.0, remove-none (eq k) qs off-w.1, b)
     window_by false is = rw (whole-w, is, entry-w)
 
-    by-window : outcome ≡ (lists_of c ((k, h) ∷ remove_entry (eq k) ws) ps qs, notice (cond (is_expired c now g) Expired Replaced) (k, g) ∷ [])
+    by-window : outcome ≡ (
+      lists_of c ((k, h) ∷ remove_entry (eq k) ws) ps qs,
+      notice (cond (is_expired c now g) Expired Replaced) (k, g) ∷ [],
+    )
     by-window = window_by (is_expired c now g) refl
 
     pub window-lists : lists_of c (brought eq k (λ _. h) ws) ps qs ≡ outcome.0
@@ -125,7 +134,11 @@ module _ {K V : Type 0} (eq : K → K → Bool) (laws : IsEquivalence eq) (same 
     on : IsSome (lookup (eq k) (ps ++ qs))
     on = rw at refl
 
-    past_by : outcome ≡ ((settled f now (k, h) (without eq k r)).0, (notice Expired (k, g) ∷ []) ++ (settled f now (k, h) (without eq k r)).1)
+    past_by : outcome ≡ (
+      (settled f now (k, h) (without eq k r)).0,
+      (notice Expired (k, g) ∷ [])
+          ++ (settled f now (k, h) (without eq k r)).1,
+    )
     past_by = rw (lookup-append (eq k) ws (ps ++ qs), off, at, is)
 
     any : settled (λ _. 0) now (k, h) (without eq k r) ≡ settled f now (k, h) (without eq k r)
@@ -134,8 +147,10 @@ module _ {K V : Type 0} (eq : K → K → Bool) (laws : IsEquivalence eq) (same 
     pub past-in-lists : (settled (λ _. 0) now (k, h) (without eq k r)).0 ≡ outcome.0
     past-in-lists = ap (λ (p : Lists K V × List (Notice K V)). p.0) any ∙ sym (ap (λ (p : Lists K V × List (Notice K V)). p.0) past_by)
 
-    pub past-in-told : option_map_or (λ (g : Held V). notice Expired (k, g) ∷ []) (lookup (eq k) (ps ++ qs)) [] ++ (settled (λ _. 0) now (k, h) (without eq k r)).1 ≡ outcome.1
-    past-in-told = rw at (ap (λ (p : Lists K V × List (Notice K V)). (notice Expired (k, g) ∷ []) ++ p.1) any ∙ sym (ap (λ (p : Lists K V × List (Notice K V)). p.1) past_by))
+    pub past-in-told : option_map_or (λ (g : Held V). notice Expired (k, g) ∷ []) (lookup (eq k) (ps ++ qs)) []
+        ++ (settled (λ _. 0) now (k, h) (without eq k r)).1 ≡ outcome.1
+    past-in-told = rw at (ap (λ (p : Lists K V × List (Notice K V)). (notice Expired (k, g) ∷ []) ++ p.1) any
+        ∙ sym (ap (λ (p : Lists K V × List (Notice K V)). p.1) past_by))
 
   -- ---- nowhere
   pub by-new : lookup (eq k) ws ≡ None → lookup (eq k) ps ≡ None → lookup (eq k) qs ≡ None → outcome ≡ settled f now (k, h) r

@@ -4,5 +4,6 @@ use Rattle.wt_regions.specs.declared.notices.Notice.{Notice}
 use Rattle.wt_regions.specs.Notices.{NoticeList, appended}
 
 -- they don't fall
-pub whole-appended : {K V : Type 0} (n : ℕ) (ns : List (Notice K V)) (t u : NoticeList K V) → u ≡ appended ns t → n ≤ t.room + length t.list → n ≤ u.room + length u.list
+pub whole-appended : {K V : Type 0} (n : ℕ) (ns : List (Notice K V)) (t u : NoticeList K V) → u ≡ appended ns t
+    → n ≤ t.room + length t.list → n ≤ u.room + length u.list
 whole-appended n ns t u is room = rw is (omega (arith, room, length-append t.list ns))

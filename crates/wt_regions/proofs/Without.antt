@@ -17,10 +17,11 @@ use Rattle.wt_regions.specs.Moves.{IsPlaced}
 
 pub remove-none : {K X : Type 0} (test : K → Bool) (es : List (K × X)) → lookup test es ≡ None → remove_entry test es ≡ es
 remove-none test [] h = refl
-remove-none test (e ∷ es) h = (elim (test e.0) as (λ b. cond b (Some e.1) (lookup test es) ≡ None → cond b es (e ∷ remove_entry test es) ≡ e ∷ es) [
-  | true ↦ λ q. cc
-  | false ↦ λ q. ap (λ fs. e ∷ fs) (remove-none test es q)
-]) h
+remove-none test (e ∷ es) h = (elim (test e.0) as
+    (λ b. cond b (Some e.1) (lookup test es) ≡ None → cond b es (e ∷ remove_entry test es) ≡ e ∷ es) [
+      | true ↦ λ q. cc
+      | false ↦ λ q. ap (λ fs. e ∷ fs) (remove-none test es q)
+    ]) h
 
 pub length-removed : {K X : Type 0} (test : K → Bool) (es : List (K × X)) → length (remove_entry test es) ≤ length es
 length-removed test [] = omega arith
@@ -42,24 +43,32 @@ module _ {K V : Type 0} (eq : K → K → Bool) (laws : IsEquivalence eq) (k : K
       ⊎ (((lookup (eq k) ws ≡ None) × (lookup_entry (eq k) ps ≡ Some o) × (lookup (eq k) qs ≡ None))
       ⊎ ((lookup (eq k) ws ≡ None) × (lookup (eq k) ps ≡ None) × (lookup_entry (eq k) qs ≡ Some o)))
 
-  pub where-w : (ws ps qs : List (Entry K V)) (o : Entry K V) → lookup_entry (eq k) ws ≡ Some o → lookup (eq k) ps ≡ None → lookup (eq k) qs ≡ None → Where ws ps qs o
+  pub where-w : (ws ps qs : List (Entry K V)) (o : Entry K V) → lookup_entry (eq k) ws ≡ Some o
+      → lookup (eq k) ps ≡ None → lookup (eq k) qs ≡ None → Where ws ps qs o
   unfolding Where
   where-w ws ps qs o a b d = inl (a, b, d)
 
-  pub where-p : (ws ps qs : List (Entry K V)) (o : Entry K V) → lookup (eq k) ws ≡ None → lookup_entry (eq k) ps ≡ Some o → lookup (eq k) qs ≡ None → Where ws ps qs o
+  pub where-p : (ws ps qs : List (Entry K V)) (o : Entry K V) → lookup (eq k) ws ≡ None
+      → lookup_entry (eq k) ps ≡ Some o → lookup (eq k) qs ≡ None → Where ws ps qs o
   unfolding Where
   where-p ws ps qs o a b d = inr (inl (a, b, d))
 
-  pub where-q : (ws ps qs : List (Entry K V)) (o : Entry K V) → lookup (eq k) ws ≡ None → lookup (eq k) ps ≡ None → lookup_entry (eq k) qs ≡ Some o → Where ws ps qs o
+  pub where-q : (ws ps qs : List (Entry K V)) (o : Entry K V) → lookup (eq k) ws ≡ None → lookup (eq k) ps ≡ None
+      → lookup_entry (eq k) qs ≡ Some o → Where ws ps qs o
   unfolding Where
   where-q ws ps qs o a b d = inr (inr (a, b, d))
 
-  where-qs : (ws ps qs : List (Entry K V)) (h : Held V) (o : Option (Entry K V)) → lookup_entry (eq k) qs ≡ o → lookup (eq k) ws ≡ None → lookup (eq k) ps ≡ None → lookup (eq k) qs ≡ Some h → (e : Entry K V) × (e.1 ≡ h) × Where ws ps qs e
+  where-qs : (ws ps qs : List (Entry K V)) (h : Held V) (o : Option (Entry K V)) → lookup_entry (eq k) qs ≡ o
+      → lookup (eq k) ws ≡ None → lookup (eq k) ps ≡ None → lookup (eq k) qs ≡ Some h → (e : Entry K V) × (e.1 ≡ h)
+      × Where ws ps qs e
   unfolding Where
   where-qs ws ps qs h None is nw np s = let n = lookup_none-entry (eq k) qs is in cc
-  where-qs ws ps qs h (Some e) is nw np s = let l = lookup-from_entry (eq k) qs e is in let same : e.1 ≡ h = cc in (e, same, inr (inr (nw, np, is)))
+  where-qs ws ps qs h (Some e) is nw np s = let l = lookup-from_entry (eq k) qs e is in let same : e.1 ≡ h = cc in
+      (e, same, inr (inr (nw, np, is)))
 
-  where-ps : (ws ps qs : List (Entry K V)) (h : Held V) (o : Option (Entry K V)) → lookup_entry (eq k) ps ≡ o → IsDistinct eq (keys_of ((ps ++ qs))) → lookup (eq k) ws ≡ None → lookup (eq k) (ps ++ qs) ≡ Some h → (e : Entry K V) × (e.1 ≡ h) × Where ws ps qs e
+  where-ps : (ws ps qs : List (Entry K V)) (h : Held V) (o : Option (Entry K V)) → lookup_entry (eq k) ps ≡ o
+      → IsDistinct eq (keys_of ((ps ++ qs))) → lookup (eq k) ws ≡ None → lookup (eq k) (ps ++ qs) ≡ Some h
+      → (e : Entry K V) × (e.1 ≡ h) × Where ws ps qs e
   unfolding Where
   where-ps ws ps qs h None is d nw s =
       let n = lookup_none-entry (eq k) ps is in
@@ -71,7 +80,9 @@ module _ {K V : Type 0} (eq : K → K → Bool) (laws : IsEquivalence eq) (k : K
       let same : e.1 ≡ h = cc in
       (e, same, inr (inl (nw, is, apart eq laws k ps qs e.1 d l)))
 
-  where-ws : (ws ps qs : List (Entry K V)) (h : Held V) (o : Option (Entry K V)) → lookup_entry (eq k) ws ≡ o → IsDistinct eq (keys_of ((ws ++ (ps ++ qs)))) → lookup (eq k) (ws ++ (ps ++ qs)) ≡ Some h → (e : Entry K V) × (e.1 ≡ h) × Where ws ps qs e
+  where-ws : (ws ps qs : List (Entry K V)) (h : Held V) (o : Option (Entry K V)) → lookup_entry (eq k) ws ≡ o
+      → IsDistinct eq (keys_of ((ws ++ (ps ++ qs)))) → lookup (eq k) (ws ++ (ps ++ qs)) ≡ Some h → (e : Entry K V)
+      × (e.1 ≡ h) × Where ws ps qs e
   unfolding Where
   where-ws ws ps qs h None is d s =
       let n = lookup_none-entry (eq k) ws is in
@@ -84,7 +95,8 @@ module _ {K V : Type 0} (eq : K → K → Bool) (laws : IsEquivalence eq) (k : K
       let n = fresh_parts (eq k) ps qs (apart eq laws k ws (ps ++ qs) e.1 d l) in
       (e, same, inl (is, n.0, n.1))
 
-  pub where-is : (ws ps qs : List (Entry K V)) (h : Held V) → IsDistinct eq (keys_of ((ws ++ (ps ++ qs)))) → lookup (eq k) (ws ++ (ps ++ qs)) ≡ Some h → (e : Entry K V) × (e.1 ≡ h) × Where ws ps qs e
+  pub where-is : (ws ps qs : List (Entry K V)) (h : Held V) → IsDistinct eq (keys_of ((ws ++ (ps ++ qs))))
+      → lookup (eq k) (ws ++ (ps ++ qs)) ≡ Some h → (e : Entry K V) × (e.1 ≡ h) × Where ws ps qs e
   where-is ws ps qs h d s = where-ws ws ps qs h (lookup_entry (eq k) ws) refl d s
 
   pub where-same : (ws ps qs : List (Entry K V)) (o : Entry K V) → Where ws ps qs o → eq k o.0 ≡ true
@@ -94,22 +106,30 @@ module _ {K V : Type 0} (eq : K → K → Bool) (laws : IsEquivalence eq) (k : K
   where-same ws ps qs o (inr (inr w)) = there_same (eq k) qs o w.2
 
   -- the entry and the rest
-  pub without-perm : (c : Caps) (ws ps qs : List (Entry K V)) (o : Entry K V) → Where ws ps qs o → IsPermutation (ws ++ (ps ++ qs)) (o ∷ all_entries (without eq k (lists_of c ws ps qs)))
+  pub without-perm : (c : Caps) (ws ps qs : List (Entry K V)) (o : Entry K V) → Where ws ps qs o
+      → IsPermutation (ws ++ (ps ++ qs)) (o ∷ all_entries (without eq k (lists_of c ws ps qs)))
   unfolding Where
   without-perm c ws ps qs o (inl w) =
-      rw (remove-none (eq k) ps w.1, remove-none (eq k) qs w.2) (IsPermutation-append_left (ps ++ qs) ws (o ∷ remove_entry (eq k) ws) (IsPermutation-pull (eq k) ws o w.0))
+      rw (remove-none (eq k) ps w.1, remove-none (eq k) qs w.2)
+      (IsPermutation-append_left (ps ++ qs) ws (o ∷ remove_entry (eq k) ws) (IsPermutation-pull (eq k) ws o w.0))
   without-perm c ws ps qs o (inr (inl w)) =
-      rw (remove-none (eq k) ws w.0, remove-none (eq k) qs w.2) (loses-below eq laws (λ _. 0) o ws (ps ++ qs) (remove_entry (eq k) ps ++ qs) (IsPermutation-append_left qs ps (o ∷ remove_entry (eq k) ps) (IsPermutation-pull (eq k) ps o w.1)))
+      rw (remove-none (eq k) ws w.0, remove-none (eq k) qs w.2)
+      (loses-below eq laws (λ _. 0) o ws (ps ++ qs) (remove_entry (eq k) ps ++ qs)
+      (IsPermutation-append_left qs ps (o ∷ remove_entry (eq k) ps) (IsPermutation-pull (eq k) ps o w.1)))
   without-perm c ws ps qs o (inr (inr w)) =
-      rw (remove-none (eq k) ws w.0, remove-none (eq k) ps w.1) (loses-below eq laws (λ _. 0) o ws (ps ++ qs) (ps ++ remove_entry (eq k) qs) (loses-below eq laws (λ _. 0) o ps qs (remove_entry (eq k) qs) (IsPermutation-pull (eq k) qs o w.2)))
+      rw (remove-none (eq k) ws w.0, remove-none (eq k) ps w.1)
+      (loses-below eq laws (λ _. 0) o ws (ps ++ qs) (ps ++ remove_entry (eq k) qs)
+      (loses-below eq laws (λ _. 0) o ps qs (remove_entry (eq k) qs) (IsPermutation-pull (eq k) qs o w.2)))
 
-  pub without-none : (c : Caps) (ws ps qs : List (Entry K V)) → lookup (eq k) (ws ++ (ps ++ qs)) ≡ None → without eq k (lists_of c ws ps qs) ≡ lists_of c ws ps qs
+  pub without-none : (c : Caps) (ws ps qs : List (Entry K V)) → lookup (eq k) (ws ++ (ps ++ qs)) ≡ None
+      → without eq k (lists_of c ws ps qs) ≡ lists_of c ws ps qs
   without-none c ws ps qs n =
       let a = fresh_parts (eq k) ws (ps ++ qs) n in
       let b = fresh_parts (eq k) ps qs a.1 in
       rw (remove-none (eq k) ws a.0, remove-none (eq k) ps b.0, remove-none (eq k) qs b.1)
 
-  pub without-fresh : (c : Caps) (ws ps qs : List (Entry K V)) → IsDistinct eq (keys_of ((ws ++ (ps ++ qs)))) → lookup (eq k) (all_entries (without eq k (lists_of c ws ps qs))) ≡ None
+  pub without-fresh : (c : Caps) (ws ps qs : List (Entry K V)) → IsDistinct eq (keys_of ((ws ++ (ps ++ qs))))
+      → lookup (eq k) (all_entries (without eq k (lists_of c ws ps qs))) ≡ None
   without-fresh c ws ps qs d =
       let dw = distinct_after eq (ps ++ qs) ws (distinct-comm eq laws (λ (v : V). 0) ws (ps ++ qs) d) in
       let db = distinct_after eq ws (ps ++ qs) d in
@@ -123,9 +143,15 @@ module _ {K V : Type 0} (eq : K → K → Bool) (laws : IsEquivalence eq) (k : K
         lookup-removed qs dq,
       )
 
-  pub without-placed : (weigh : V → ℕ) (c : Caps) (ws ps qs : List (Entry K V)) (o : Entry K V) → Where ws ps qs o → IsPlaced eq weigh (lists_of c ws ps qs) → IsPlaced eq weigh (without eq k (lists_of c ws ps qs))
-  without-placed weigh c ws ps qs o w law = loses eq laws weigh (lists_of c ws ps qs) (without eq k (lists_of c ws ps qs)) o refl (without-perm c ws ps qs o w)
+  pub without-placed : (weigh : V → ℕ) (c : Caps) (ws ps qs : List (Entry K V)) (o : Entry K V) → Where ws ps qs o
+      → IsPlaced eq weigh (lists_of c ws ps qs) → IsPlaced eq weigh (without eq k (lists_of c ws ps qs))
+  without-placed weigh c ws ps qs o w law =
+      loses eq laws weigh (lists_of c ws ps qs) (without eq k (lists_of c ws ps qs)) o refl
+      (without-perm c ws ps qs o w)
       (length-removed (eq k) ws) (length-removed (eq k) ps) (length-removed (eq k) qs) law
 
-  pub without-length : (c : Caps) (ws ps qs : List (Entry K V)) (o : Entry K V) → Where ws ps qs o → suc (length (all_entries (without eq k (lists_of c ws ps qs)))) ≡ length (ws ++ (ps ++ qs))
-  without-length c ws ps qs o w = let n = length_permutation (ws ++ (ps ++ qs)) (o ∷ all_entries (without eq k (lists_of c ws ps qs))) (without-perm c ws ps qs o w) in omega (arith, n)
+  pub without-length : (c : Caps) (ws ps qs : List (Entry K V)) (o : Entry K V) → Where ws ps qs o
+      → suc (length (all_entries (without eq k (lists_of c ws ps qs)))) ≡ length (ws ++ (ps ++ qs))
+  without-length c ws ps qs o w = let n =
+      length_permutation (ws ++ (ps ++ qs)) (o ∷ all_entries (without eq k (lists_of c ws ps qs)))
+      (without-perm c ws ps qs o w) in omega (arith, n)

@@ -1,5 +1,5 @@
 // The caches of the three regions with their limits, which the movers change as one.
-ghost use Rattle.std.specs.Prelude.{◌≡◌, length, IfOk, option_copied};
+ghost use Rattle.std.specs.Prelude.{◌≡◌, [], length, IfOk, IsOk, option_copied};
 ghost use Rattle.std.specs.List.{IsDistinct};
 ghost use Rattle.std.specs.Map.{keys_of};
 ghost use Rattle.wt_regions.specs.Lawful.{IsFit};
@@ -92,7 +92,8 @@ impl<K: CacheKey, V: Drop> Caches<K, V> {
 
     // The keys of a region, the most recent first.
     pub(crate) fn order(&self, alloc: Global, region: Region) -> Result<Vec<K>, NoMemory>
-        ensures { IfOk result (λ keys. keys.items ≡ keys_of (region_of region self.now)) }
+        ensures items { IfOk result (λ keys. keys.items ≡ keys_of (region_of region self.now)) }
+        ensures none_succeeds { region_of region self.now ≡ [] → IsOk result }
     {
         match region {
             Region::Window => keys_in(alloc, &self.window),

@@ -1,7 +1,7 @@
 // What the regions do with one `LruCache`. Window and protected have the places that they may hold:
 // a push into a full one hands its last out, and keeps the block of memory that held it. Probation
 // has one more, as its last may only leave once another has come.
-ghost use Rattle.std.specs.Prelude.{◌≡◌, ◌<◌, ◌≤◌, [], length, None, IfOk, OnOk, OnErr, IsSome, IsNone, is_some, IsTrue, option_copied};
+ghost use Rattle.std.specs.Prelude.{◌≡◌, ◌<◌, ◌≤◌, [], length, None, IfOk, OnOk, OnErr, IsOk, IsSome, IsNone, is_some, IsTrue, option_copied};
 ghost use Rattle.std.specs.Map.{keys_of, lookup};
 ghost use Rattle.std.specs.Option.{option_map};
 ghost use Rattle.lru.specs.LruCache.{last_entry, lru_cache};
@@ -131,13 +131,17 @@ pub(crate) fn replace_in<K: CacheKey, V: Drop>(
     }
 }
 
-// The keys of a region, the most recent first.
+// The keys of a region, the most recent first. Takes no memory for an empty region.
 pub(crate) fn keys_in<K: CacheKey, V>(
     alloc: Global,
     cache: &LruCache<K, Held<V>>,
 ) -> Result<Vec<K>, NoMemory>
-    ensures { IfOk result (λ keys. keys.items ≡ keys_of cache.now.entries) }
+    ensures items { IfOk result (λ keys. keys.items ≡ keys_of cache.now.entries) }
+    ensures none_succeeds { cache.now.entries ≡ [] → IsOk result }
 {
+    if cache.is_empty() {
+        return Ok(Vec::new(alloc));
+    }
     let mut keys = Vec::with_capacity(alloc, cache.len())?;
     for (key, _) in cache.iter() {
         keys.push(*key)?;

@@ -1,5 +1,6 @@
 // The three regions and their running weight, with what callers see of them.
-ghost use Rattle.std.specs.Prelude.{◌≡◌, ◌≤◌, false, IfOk, IfErr, OnOk, OnErr, IsOk};
+ghost use Rattle.std.specs.Prelude.{◌≡◌, ◌≤◌, false, None, IfOk, IfErr, OnOk, OnErr, IsOk, IsTrue};
+ghost use Rattle.std.specs.Map.{lookup};
 ghost use Rattle.wt_regions.specs.Lawful.{FailsByField, caps_fault, store_fault};
 ghost use Rattle.wt_regions.specs.Lists.{found_at, has_at, no_entries};
 ghost use Rattle.wt_regions.specs.Moves.{storing};
@@ -71,13 +72,16 @@ impl<K: CacheKey, V: Share + Weighs> Regions<K, V> {
     ///
     /// Returns `Expired` for an expired entry, which stays where it is. `now` is in milliseconds.
     /// Only a hit takes memory: a share for the caller, and from probation one or two more with a
-    /// place for each. Expected O(1), unless an attacker chooses the keys (see `Seeded`): the key
-    /// is looked up in each region at most twice. The rule of the move is segmented LRU's.
+    /// place for each. So a hit takes none if a share is a copy and the entry isn't in probation.
+    /// Expected O(1), unless an attacker chooses the keys (see `Seeded`): the key is looked up in
+    /// each region at most twice. The rule of the move is segmented LRU's.
     pub fn get(&mut self, key: K, now: u64) -> Result<Found<V>, NoMemory>
         ensures found { IfOk result (λ found. found ≡ found_at K.eq key now self.old) }
         ensures state { OnOk result (self.new ≡ looked_at K.eq key now self.old) }
         ensures same { self.new.caps ≡ self.old.caps }
         ensures miss_succeeds { has_at K.eq key now self.old ≡ false → IsOk result }
+        ensures hit_succeeds { IsTrue V.Share.is_copied
+            → lookup (K.eq key) self.old.probation ≡ None → IsOk result }
         ensures err { OnErr result (self.new ≡ self.old) }
     {
         Ok(self.caches.get(key, now)?)

@@ -41,12 +41,13 @@ pub(crate) enum Seen<V> {
 }
 
 impl<K: CacheKey, V: Share + Weighs> Caches<K, V> {
-    // Looks the key up, and makes the shares. Only a hit takes memory. Protected comes first: most
-    // look-ups that hit find their entry there.
+    // Looks the key up, and makes the shares. Only a hit takes memory, and none if a share is a copy.
+    // Protected comes first: most look-ups that hit find their entry there.
     fn look(&self, key: K, now: u64) -> Result<Seen<V>, NoMemory>
         requires { IsDistinct K.eq (keys_of (all_entries self.now)) }
         ensures found { IfOk result (λ seen. seen ≡ seen_at K.eq key now self.now) }
         ensures miss_succeeds { has_at K.eq key now self.now ≡ false → IsOk result }
+        ensures hit_succeeds { IsTrue V.Share.is_copied → IsOk result }
     {
         if let Some(held) = held_in(&self.protected, key) {
             if self.caps.is_expired(now, held) {
@@ -76,6 +77,8 @@ impl<K: CacheKey, V: Share + Weighs> Caches<K, V> {
         ensures found { IfOk result (λ found. found ≡ found_at K.eq key now self.old) }
         ensures state { OnOk result (self.new ≡ looked_at K.eq key now self.old) }
         ensures miss_succeeds { has_at K.eq key now self.old ≡ false → IsOk result }
+        ensures hit_succeeds { IsTrue V.Share.is_copied
+            → lookup (K.eq key) self.old.probation ≡ None → IsOk result }
         ensures err { OnErr result (self.new ≡ self.old) }
     {
         if V::is_copied() && self.caps.never_expires() {
@@ -109,6 +112,7 @@ impl<K: CacheKey, V: Share + Weighs> Caches<K, V> {
         ensures found { IfOk result (λ found. found ≡ found_at K.eq key now self.old) }
         ensures state { OnOk result (self.new ≡ looked_at K.eq key now self.old) }
         ensures miss_succeeds { has_at K.eq key now self.old ≡ false → IsOk result }
+        ensures hit_succeeds { lookup (K.eq key) self.old.probation ≡ None → IsOk result }
         ensures err { OnErr result (self.new ≡ self.old) }
     {
         if let Some(value) = use_in(&mut self.protected, key, now) {

@@ -10,14 +10,15 @@ use wt_keys::{CacheKey, Fault, Share};
 use wt_regions::{Found, Notices, Weighs};
 
 impl<K: CacheKey, V: Share + Weighs> Core<K, V> {
-    ghost use Rattle.wt_core.specs.Contract.{Steps, Replies, Tells, Refuses, KeepsWhole, SucceedsAbsent};
+    ghost use Rattle.wt_core.specs.Contract.{Steps, Replies, Tells, Refuses, KeepsWhole, SucceedsAbsent, SucceedsBare};
 
     /// Looks the key up at the moment `now`, in milliseconds, and returns `Hit` with a share of its
     /// value, or `Absent`. A hit is a use: the entry moves as in segmented LRU.
     ///
     /// The key's own expired entry leaves first. The key is counted last. `StepsSpent` comes before
-    /// memory is asked for. Only a hit takes memory: shares, and from probation a place or two.
-    /// Expected O(1), unless an attacker chooses the keys (see `Seeded`).
+    /// memory is asked for. Only a hit takes memory: shares, and from probation a place or two. So a
+    /// hit takes none if a share is a copy and the entry isn't in probation. Expected O(1), unless
+    /// an attacker chooses the keys (see `Seeded`).
     ///
     /// In use: `uses::plain::look`.
     pub fn look(&mut self, key: K, now: u64, notices: &mut Notices<K, V>) -> Result<Reply<V>, Fault>
@@ -32,6 +33,9 @@ impl<K: CacheKey, V: Share + Weighs> Core<K, V> {
         ensures same { self.new.regions.caps ≡ self.old.regions.caps }
         ensures whole { KeepsWhole notices.old notices.new }
         ensures miss_succeeds { SucceedsAbsent K.eq key now self.old result }
+        // Nor does a hit take memory if it moves no entry of probation and a share is a copy.
+        ensures none_succeeds { SucceedsBare K.eq K.word V.weight V.Share.is_copied
+            (Look key now) self.old result }
         ensures err { OnErr result ((self.new ≡ self.old) × (notices.new ≡ notices.old)) }
     {
         unspent(self.step)?;

@@ -1,5 +1,5 @@
-// What is to be seen of the regions.
-ghost use Rattle.std.specs.Prelude.{◌≡◌, length, IfOk};
+// Calls that only read the regions.
+ghost use Rattle.std.specs.Prelude.{◌≡◌, [], length, IfOk, IsOk};
 ghost use Rattle.std.specs.Map.{keys_of};
 ghost use Rattle.wt_regions.specs.Lawful.{IsLawful};
 ghost use Rattle.wt_regions.specs.Lists.{all_entries, due_at, has_at, region_of, weight_of};
@@ -70,9 +70,10 @@ impl<K: CacheKey, V: Share + Weighs> Regions<K, V> {
 
     /// Returns the keys of a region in a new list, the most recent first.
     ///
-    /// Takes memory for that list alone. O(entries of the region).
+    /// Takes memory for that list alone, and none if the region is empty. O(entries of the region).
     pub fn order(&self, alloc: Global, region: Region) -> Result<Vec<K>, NoMemory>
-        ensures { IfOk result (λ keys. keys.items ≡ keys_of (region_of region self.now)) }
+        ensures items { IfOk result (λ keys. keys.items ≡ keys_of (region_of region self.now)) }
+        ensures none_succeeds { region_of region self.now ≡ [] → IsOk result }
     {
         self.caches.order(alloc, region)
     }

@@ -10,7 +10,8 @@ returns g c =
     elim c.if-contains.branch [
       | then-contains w ↦
           let there : is_some (lookup (g.K.PartialEq.eq c.args.key) c.args.cache.now.entries) ≡ true = search rules in
-          rw (w.own-is, c.len.ensures.len) (others_with g.K.PartialEq.eq laws c.args.key c.args.cache.now.entries c.len.ensures.valid.0 there)
+          rw (w.own-is, c.len.ensures.len)
+          (others_with g.K.PartialEq.eq laws c.args.key c.args.cache.now.entries c.len.ensures.valid.0 there)
       | else-contains w ↦
           let there : is_some (lookup (g.K.PartialEq.eq c.args.key) c.args.cache.now.entries) ≡ false = search rules in
           rw (w.own-is, c.len.ensures.len) (others_without g.K.PartialEq.eq c.args.key c.args.cache.now.entries there)

@@ -15,9 +15,14 @@ overflow_add-self g c =
     let i = c.self.inside in
     let s : State g.row.K.Denot g.row.V.Denot = state_of i.regions i.sketch i.flights i.counts i.latest i.step in
     let call : Call g.row.K.Denot g.row.V.Denot = (Clear c.args.now) in
-    let told : c.evicted_since.result ≡ evictions (cleared c.max-now.result i.regions).1 = told-since (cleared c.max-now.result i.regions).1 c.list-from.result.now c.args.notices.now c.clear.new.notices c.evicted_since.result c.clear.ensures.notices c.list-from.ensures c.evicted_since.ensures in
-    let law = counted-step g.K.PartialEq.eq g.K.CacheKey.word g.V.Weighs.weight s call c.self.invariant.0 (unspent-is s c.in_ok-unspent.ensures.ok) in
-    let now : evictions (cleared c.max-now.result i.regions).1 ≡ evictions (cleared (max i.latest c.args.now) i.regions).1 = ap (λ (m : ℕ). evictions (cleared m i.regions).1) c.max-now.ensures in
+    let told : c.evicted_since.result ≡ evictions (cleared c.max-now.result i.regions).1 =
+    told-since (cleared c.max-now.result i.regions).1 c.list-from.result.now c.args.notices.now c.clear.new.notices
+    c.evicted_since.result c.clear.ensures.notices c.list-from.ensures c.evicted_since.ensures in
+    let law = counted-step g.K.PartialEq.eq g.K.CacheKey.word g.V.Weighs.weight s call c.self.invariant.0
+    (unspent-is s c.in_ok-unspent.ensures.ok) in
+    let now : evictions (cleared c.max-now.result i.regions).1
+    ≡ evictions (cleared (max i.latest c.args.now) i.regions).1 =
+    ap (λ (m : ℕ). evictions (cleared m i.regions).1) c.max-now.ensures in
     omega (arith, told, now, law.evicted, c.in_ok-unspent.ensures.ok)
 
 pub returns-clause-whole : goal.returns-clause-whole
@@ -25,13 +30,18 @@ returns-clause-whole g c =
     let i = c.self.inside in
     let room : i.regions.caps.entries ≤ c.args.notices.now.room = rw (← c.self.view_is) at c.requires.room in
     whole-told (cleared c.max-now.result i.regions).1 c.args.notices.now c.clear.new.notices c.clear.ensures.notices
-    (balanced-told g.K.PartialEq.eq g.V.Weighs.weight i.regions (cleared c.max-now.result i.regions) c.args.notices.now.room c.len-len.ensures.lawful (cleared-balanced c.max-now.result i.regions) room)
+    (balanced-told g.K.PartialEq.eq g.V.Weighs.weight i.regions
+    (cleared c.max-now.result i.regions) c.args.notices.now.room c.len-len.ensures.lawful
+    (cleared-balanced c.max-now.result i.regions) room)
 
 pub invariant_of-self : goal.invariant_of-self
 invariant_of-self g c =
     let i = c.self.inside in
     let s : State g.row.K.Denot g.row.V.Denot = state_of i.regions i.sketch i.flights i.counts i.latest i.step in
     let call : Call g.row.K.Denot g.row.V.Denot = (Clear c.args.now) in
-    let told : c.evicted_since.result ≡ evictions (cleared c.max-now.result i.regions).1 = told-since (cleared c.max-now.result i.regions).1 c.list-from.result.now c.args.notices.now c.clear.new.notices c.evicted_since.result c.clear.ensures.notices c.list-from.ensures c.evicted_since.ensures in
-    let law = counted-step g.K.PartialEq.eq g.K.CacheKey.word g.V.Weighs.weight s call c.self.invariant.0 (unspent-is s c.in_ok-unspent.ensures.ok) in
+    let told : c.evicted_since.result ≡ evictions (cleared c.max-now.result i.regions).1 =
+    told-since (cleared c.max-now.result i.regions).1 c.list-from.result.now c.args.notices.now c.clear.new.notices
+    c.evicted_since.result c.clear.ensures.notices c.list-from.ensures c.evicted_since.ensures in
+    let law = counted-step g.K.PartialEq.eq g.K.CacheKey.word g.V.Weighs.weight s call c.self.invariant.0
+    (unspent-is s c.in_ok-unspent.ensures.ok) in
     rw (c.clear.ensures.state, c.forget_all.ensures, told, c.max-now.ensures) (law, c.self.invariant.1, c.self.invariant.2)

@@ -13,7 +13,8 @@ invariant_of-result g c =
     let flights : c.in-Ok-new-2.flights ≡ no_flights c.args.config.now.flights = c.in-Ok-new-2.ensures.ok in
     let regions : c.in-Ok.regions ≡ no_entries (caps_of c.args.config.now) = c.in-Ok.ensures.ok ∙ ap no_entries c.caps.ensures in
     let opened : State g.row.K.Denot g.row.V.Denot = opening c.args.config.now in
-    let is : state_of c.in-Ok.regions c.in-Ok-new.sketch c.in-Ok-new-2.flights nothing_happened 0 0 ≡ opened = λ i. state_of (regions i) (c.in-Ok-new.ensures.ok i) (flights i) nothing_happened 0 0 in
+    let is : state_of c.in-Ok.regions c.in-Ok-new.sketch c.in-Ok-new-2.flights nothing_happened 0 0 ≡ opened =
+    λ i. state_of (regions i) (c.in-Ok-new.ensures.ok i) (flights i) nothing_happened 0 0 in
     let law : IsCounted opened = counted-opened c.args.config.now right in
     (subst IsCounted (sym is) law, rw regions refl, rw flights refl)
 

@@ -9,8 +9,10 @@ returns-in-Some-clause-allowed g c =
     let word = g.K.CacheKey.word in
     let weight = g.V.Weighs.weight in
     let found = sym c.row_of.ensures ∙ c.in-Some.is in
-    let less = land-rows eq word weight c.in-Land.key c.args.self.now c.in-Land.id c.in-Land.field-2 c.in-Land.field-3 c.in-Some.field-0 found c.stats-stats.ensures.lawful.flights.rising in
+    let less = land-rows eq word weight c.in-Land.key c.args.self.now c.in-Land.id c.in-Land.field-2 c.in-Land.field-3
+    c.in-Some.field-0 found c.stats-stats.ensures.lawful.flights.rising in
     rw c.in-Land.is (
-      land-taken eq word weight c.args.self.now c.in-Land.key c.in-Land.field-3 _ refl c.in-Land.id c.in-Some.field-0 found c.in-Land.field-2,
+      land-taken eq word weight c.args.self.now c.in-Land.key c.in-Land.field-3 _ refl c.in-Land.id c.in-Some.field-0
+          found c.in-Land.field-2,
       omega (arith, less, c.open_flights.ensures),
     )

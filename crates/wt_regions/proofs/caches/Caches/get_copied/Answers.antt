@@ -8,7 +8,11 @@ returns-in-Some-clause-found g c =
     let i = c.self.inside in
     let once = (rw (← c.self.view_is) at c.requires.placed).distinct in
     let unaging = rw (← c.self.view_is) at c.requires.unaging in
-    let look = copied-protected g.K.PartialEq.eq (g.met.K.Eq g.world.𝓛 g.world.𝓜 g.world.𝓡 ((λ s x. x), (λ x. x), (λ x. x), λ x. x)).laws (g.met.K.CacheKey g.world.𝓛 g.world.𝓜 g.world.𝓡 ((λ s x. x), (λ x. x), (λ x. x), λ x. x)).same c.args.key c.args.now i.caps i.window.entries i.probation.entries i.protected.entries once unaging c.in-Some.value (sym c.in-Some.ensures.answer) in
+    let look = copied-protected g.K.PartialEq.eq
+    (g.met.K.Eq g.world.𝓛 g.world.𝓜 g.world.𝓡 ((λ s x. x), (λ x. x), (λ x. x), λ x. x)).laws
+    (g.met.K.CacheKey g.world.𝓛 g.world.𝓜 g.world.𝓡 ((λ s x. x), (λ x. x), (λ x. x), λ x. x)).same c.args.key
+    c.args.now i.caps i.window.entries i.probation.entries i.protected.entries once unaging c.in-Some.value
+    (sym c.in-Some.ensures.answer) in
     rw (← c.self.view_is) (sym look.0)
 
 pub returns-in-Some-clause-state : goal.returns-in-Some-clause-state
@@ -16,7 +20,11 @@ returns-in-Some-clause-state g c =
     let i = c.self.inside in
     let once = (rw (← c.self.view_is) at c.requires.placed).distinct in
     let unaging = rw (← c.self.view_is) at c.requires.unaging in
-    let look = copied-protected g.K.PartialEq.eq (g.met.K.Eq g.world.𝓛 g.world.𝓜 g.world.𝓡 ((λ s x. x), (λ x. x), (λ x. x), λ x. x)).laws (g.met.K.CacheKey g.world.𝓛 g.world.𝓜 g.world.𝓡 ((λ s x. x), (λ x. x), (λ x. x), λ x. x)).same c.args.key c.args.now i.caps i.window.entries i.probation.entries i.protected.entries once unaging c.in-Some.value (sym c.in-Some.ensures.answer) in
+    let look = copied-protected g.K.PartialEq.eq
+    (g.met.K.Eq g.world.𝓛 g.world.𝓜 g.world.𝓡 ((λ s x. x), (λ x. x), (λ x. x), λ x. x)).laws
+    (g.met.K.CacheKey g.world.𝓛 g.world.𝓜 g.world.𝓡 ((λ s x. x), (λ x. x), (λ x. x), λ x. x)).same c.args.key
+    c.args.now i.caps i.window.entries i.probation.entries i.protected.entries once unaging c.in-Some.value
+    (sym c.in-Some.ensures.answer) in
     rw (c.in-Some.ensures.state, ← c.self.view_is) (sym look.1)
 
 pub promote-requires-clause-placed : goal.promote-requires-clause-placed
@@ -31,7 +39,11 @@ promote-requires-clause-elsewhere g c κs within =
     let once = (rw (← c.self.view_is) at c.requires.placed).distinct in
     let unaging = rw (← c.self.view_is) at c.requires.unaging in
     let at : lookup (g.K.PartialEq.eq c.args.key) i.probation.entries ≡ Some c.in-Some-held_in.held.now = search rules in
-    let look = copied-probation g.K.PartialEq.eq (g.met.K.Eq g.world.𝓛 g.world.𝓜 g.world.𝓡 ((λ s x. x), (λ x. x), (λ x. x), λ x. x)).laws (g.met.K.CacheKey g.world.𝓛 g.world.𝓜 g.world.𝓡 ((λ s x. x), (λ x. x), (λ x. x), λ x. x)).same c.args.key c.args.now i.caps i.window.entries i.probation.entries i.protected.entries once unaging c.in-Some-held_in.held.now at in
+    let look = copied-probation g.K.PartialEq.eq
+    (g.met.K.Eq g.world.𝓛 g.world.𝓜 g.world.𝓡 ((λ s x. x), (λ x. x), (λ x. x), λ x. x)).laws
+    (g.met.K.CacheKey g.world.𝓛 g.world.𝓜 g.world.𝓡 ((λ s x. x), (λ x. x), (λ x. x), λ x. x)).same c.args.key
+    c.args.now i.caps i.window.entries i.probation.entries i.protected.entries once unaging
+    c.in-Some-held_in.held.now at in
     look.2
 
 pub returns-in_err-promote-clause-miss_succeeds : goal.returns-in_err-promote-clause-miss_succeeds
@@ -40,8 +52,18 @@ returns-in_err-promote-clause-miss_succeeds g c =
     let once = (rw (← c.self.view_is) at c.requires.placed).distinct in
     let unaging = rw (← c.self.view_is) at c.requires.unaging in
     let at : lookup (g.K.PartialEq.eq c.args.key) i.probation.entries ≡ Some c.in-Some-held_in.held.now = search rules in
-    let look = copied-probation g.K.PartialEq.eq (g.met.K.Eq g.world.𝓛 g.world.𝓜 g.world.𝓡 ((λ s x. x), (λ x. x), (λ x. x), λ x. x)).laws (g.met.K.CacheKey g.world.𝓛 g.world.𝓜 g.world.𝓡 ((λ s x. x), (λ x. x), (λ x. x), λ x. x)).same c.args.key c.args.now i.caps i.window.entries i.probation.entries i.protected.entries once unaging c.in-Some-held_in.held.now at in
+    let look = copied-probation g.K.PartialEq.eq
+    (g.met.K.Eq g.world.𝓛 g.world.𝓜 g.world.𝓡 ((λ s x. x), (λ x. x), (λ x. x), λ x. x)).laws
+    (g.met.K.CacheKey g.world.𝓛 g.world.𝓜 g.world.𝓡 ((λ s x. x), (λ x. x), (λ x. x), λ x. x)).same c.args.key
+    c.args.now i.caps i.window.entries i.probation.entries i.protected.entries once unaging
+    c.in-Some-held_in.held.now at in
     λ miss. let never = rw (← c.self.view_is, look.0) at miss in cc
+
+pub returns-in_err-promote-clause-hit_succeeds : goal.returns-in_err-promote-clause-hit_succeeds
+returns-in_err-promote-clause-hit_succeeds g c =
+    let i = c.self.inside in
+    let at : lookup (g.K.PartialEq.eq c.args.key) i.probation.entries ≡ Some c.in-Some-held_in.held.now = search rules in
+    λ outside. let never = rw (← c.self.view_is) at outside in cc
 
 pub returns-in_err-promote-clause-err : goal.returns-in_err-promote-clause-err
 returns-in_err-promote-clause-err g c =
@@ -56,7 +78,11 @@ returns-in-Some-held_in-clause-found g c =
     let once = (rw (← c.self.view_is) at c.requires.placed).distinct in
     let unaging = rw (← c.self.view_is) at c.requires.unaging in
     let at : lookup (g.K.PartialEq.eq c.args.key) i.probation.entries ≡ Some c.in-Some-held_in.held.now = search rules in
-    let look = copied-probation g.K.PartialEq.eq (g.met.K.Eq g.world.𝓛 g.world.𝓜 g.world.𝓡 ((λ s x. x), (λ x. x), (λ x. x), λ x. x)).laws (g.met.K.CacheKey g.world.𝓛 g.world.𝓜 g.world.𝓡 ((λ s x. x), (λ x. x), (λ x. x), λ x. x)).same c.args.key c.args.now i.caps i.window.entries i.probation.entries i.protected.entries once unaging c.in-Some-held_in.held.now at in
+    let look = copied-probation g.K.PartialEq.eq
+    (g.met.K.Eq g.world.𝓛 g.world.𝓜 g.world.𝓡 ((λ s x. x), (λ x. x), (λ x. x), λ x. x)).laws
+    (g.met.K.CacheKey g.world.𝓛 g.world.𝓜 g.world.𝓡 ((λ s x. x), (λ x. x), (λ x. x), λ x. x)).same c.args.key
+    c.args.now i.caps i.window.entries i.probation.entries i.protected.entries once unaging
+    c.in-Some-held_in.held.now at in
     rw (c.in_ok-value.ensures.answer, ← c.self.view_is) (sym look.0)
 
 pub returns-in-Some-held_in-clause-state : goal.returns-in-Some-held_in-clause-state
@@ -66,7 +92,11 @@ returns-in-Some-held_in-clause-state g c =
     let unaging = rw (← c.self.view_is) at c.requires.unaging in
     let gone : c.use_in.new.cache ≡ i.protected = c.in_default.ensures.missed refl in
     let at : lookup (g.K.PartialEq.eq c.args.key) i.probation.entries ≡ Some c.in-Some-held_in.held.now = search rules in
-    let look = copied-probation g.K.PartialEq.eq (g.met.K.Eq g.world.𝓛 g.world.𝓜 g.world.𝓡 ((λ s x. x), (λ x. x), (λ x. x), λ x. x)).laws (g.met.K.CacheKey g.world.𝓛 g.world.𝓜 g.world.𝓡 ((λ s x. x), (λ x. x), (λ x. x), λ x. x)).same c.args.key c.args.now i.caps i.window.entries i.probation.entries i.protected.entries once unaging c.in-Some-held_in.held.now at in
+    let look = copied-probation g.K.PartialEq.eq
+    (g.met.K.Eq g.world.𝓛 g.world.𝓜 g.world.𝓡 ((λ s x. x), (λ x. x), (λ x. x), λ x. x)).laws
+    (g.met.K.CacheKey g.world.𝓛 g.world.𝓜 g.world.𝓡 ((λ s x. x), (λ x. x), (λ x. x), λ x. x)).same c.args.key
+    c.args.now i.caps i.window.entries i.probation.entries i.protected.entries once unaging
+    c.in-Some-held_in.held.now at in
     rw (c.in_ok-promote.ensures.state, c.in_ok-moved.ensures.answer, gone, ← c.self.view_is) (sym look.1)
 
 pub returns-in-Some-use_in-clause-found : goal.returns-in-Some-use_in-clause-found
@@ -74,7 +104,11 @@ returns-in-Some-use_in-clause-found g c =
     let i = c.self.inside in
     let once = (rw (← c.self.view_is) at c.requires.placed).distinct in
     let unaging = rw (← c.self.view_is) at c.requires.unaging in
-    let look = copied-window g.K.PartialEq.eq (g.met.K.Eq g.world.𝓛 g.world.𝓜 g.world.𝓡 ((λ s x. x), (λ x. x), (λ x. x), λ x. x)).laws (g.met.K.CacheKey g.world.𝓛 g.world.𝓜 g.world.𝓡 ((λ s x. x), (λ x. x), (λ x. x), λ x. x)).same c.args.key c.args.now i.caps i.window.entries i.probation.entries i.protected.entries once unaging c.in-Some-use_in.value (sym c.in-Some-use_in.ensures.answer) in
+    let look = copied-window g.K.PartialEq.eq
+    (g.met.K.Eq g.world.𝓛 g.world.𝓜 g.world.𝓡 ((λ s x. x), (λ x. x), (λ x. x), λ x. x)).laws
+    (g.met.K.CacheKey g.world.𝓛 g.world.𝓜 g.world.𝓡 ((λ s x. x), (λ x. x), (λ x. x), λ x. x)).same c.args.key
+    c.args.now i.caps i.window.entries i.probation.entries i.protected.entries once unaging c.in-Some-use_in.value
+    (sym c.in-Some-use_in.ensures.answer) in
     rw (← c.self.view_is) (sym look.0)
 
 pub returns-in-Some-use_in-clause-state : goal.returns-in-Some-use_in-clause-state
@@ -83,7 +117,11 @@ returns-in-Some-use_in-clause-state g c =
     let once = (rw (← c.self.view_is) at c.requires.placed).distinct in
     let unaging = rw (← c.self.view_is) at c.requires.unaging in
     let gone : c.use_in.new.cache ≡ i.protected = c.in_default.ensures.missed refl in
-    let look = copied-window g.K.PartialEq.eq (g.met.K.Eq g.world.𝓛 g.world.𝓜 g.world.𝓡 ((λ s x. x), (λ x. x), (λ x. x), λ x. x)).laws (g.met.K.CacheKey g.world.𝓛 g.world.𝓜 g.world.𝓡 ((λ s x. x), (λ x. x), (λ x. x), λ x. x)).same c.args.key c.args.now i.caps i.window.entries i.probation.entries i.protected.entries once unaging c.in-Some-use_in.value (sym c.in-Some-use_in.ensures.answer) in
+    let look = copied-window g.K.PartialEq.eq
+    (g.met.K.Eq g.world.𝓛 g.world.𝓜 g.world.𝓡 ((λ s x. x), (λ x. x), (λ x. x), λ x. x)).laws
+    (g.met.K.CacheKey g.world.𝓛 g.world.𝓜 g.world.𝓡 ((λ s x. x), (λ x. x), (λ x. x), λ x. x)).same c.args.key
+    c.args.now i.caps i.window.entries i.probation.entries i.protected.entries once unaging c.in-Some-use_in.value
+    (sym c.in-Some-use_in.ensures.answer) in
     rw (c.in-Some-use_in.ensures.state, gone, ← c.self.view_is) (sym look.1)
 
 pub returns-clause-found : goal.returns-clause-found
@@ -91,7 +129,11 @@ returns-clause-found g c =
     let i = c.self.inside in
     let once = (rw (← c.self.view_is) at c.requires.placed).distinct in
     let none : lookup (g.K.PartialEq.eq c.args.key) i.probation.entries ≡ None = search rules in
-    let look = copied-nowhere g.K.PartialEq.eq (g.met.K.Eq g.world.𝓛 g.world.𝓜 g.world.𝓡 ((λ s x. x), (λ x. x), (λ x. x), λ x. x)).laws (g.met.K.CacheKey g.world.𝓛 g.world.𝓜 g.world.𝓡 ((λ s x. x), (λ x. x), (λ x. x), λ x. x)).same c.args.key c.args.now i.caps i.window.entries i.probation.entries i.protected.entries once c.in_default-use_in.ensures.answer none c.in_default.ensures.answer in
+    let look = copied-nowhere g.K.PartialEq.eq
+    (g.met.K.Eq g.world.𝓛 g.world.𝓜 g.world.𝓡 ((λ s x. x), (λ x. x), (λ x. x), λ x. x)).laws
+    (g.met.K.CacheKey g.world.𝓛 g.world.𝓜 g.world.𝓡 ((λ s x. x), (λ x. x), (λ x. x), λ x. x)).same c.args.key
+    c.args.now i.caps i.window.entries i.probation.entries i.protected.entries once
+    c.in_default-use_in.ensures.answer none c.in_default.ensures.answer in
     rw (← c.self.view_is) (sym look.0)
 
 pub returns-clause-state : goal.returns-clause-state
@@ -101,5 +143,9 @@ returns-clause-state g c =
     let gone : c.use_in.new.cache ≡ i.protected = c.in_default.ensures.missed refl in
     let none : lookup (g.K.PartialEq.eq c.args.key) i.probation.entries ≡ None = search rules in
     let still : c.use_in-2.new.cache ≡ i.window = c.in_default-use_in.ensures.missed refl in
-    let look = copied-nowhere g.K.PartialEq.eq (g.met.K.Eq g.world.𝓛 g.world.𝓜 g.world.𝓡 ((λ s x. x), (λ x. x), (λ x. x), λ x. x)).laws (g.met.K.CacheKey g.world.𝓛 g.world.𝓜 g.world.𝓡 ((λ s x. x), (λ x. x), (λ x. x), λ x. x)).same c.args.key c.args.now i.caps i.window.entries i.probation.entries i.protected.entries once c.in_default-use_in.ensures.answer none c.in_default.ensures.answer in
+    let look = copied-nowhere g.K.PartialEq.eq
+    (g.met.K.Eq g.world.𝓛 g.world.𝓜 g.world.𝓡 ((λ s x. x), (λ x. x), (λ x. x), λ x. x)).laws
+    (g.met.K.CacheKey g.world.𝓛 g.world.𝓜 g.world.𝓡 ((λ s x. x), (λ x. x), (λ x. x), λ x. x)).same c.args.key
+    c.args.now i.caps i.window.entries i.probation.entries i.protected.entries once
+    c.in_default-use_in.ensures.answer none c.in_default.ensures.answer in
     rw (still, gone, ← c.self.view_is) (sym look.1)

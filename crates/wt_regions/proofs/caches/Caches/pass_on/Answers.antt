@@ -10,4 +10,6 @@ push_new-requires-clause-fresh g c κs within =
     let laws = (g.met.K.Eq g.world.𝓛 g.world.𝓜 g.world.𝓡 ((λ s x. x), (λ x. x), (λ x. x), λ x. x)).laws in
     let placed = rw (← c.self.view_is) at c.requires.full.placed in
     let last : last_entry i.window.entries ≡ Some (c.in-Some.last_key.now, c.in-Some.last.now) = search rules in
-    last_apart g.K.PartialEq.eq laws i.probation.entries i.window.entries (c.in-Some.last_key.now, c.in-Some.last.now) (distinct_turned g.K.PartialEq.eq laws i.window.entries i.probation.entries i.protected.entries placed.distinct) last
+    last_apart g.K.PartialEq.eq laws i.probation.entries i.window.entries (c.in-Some.last_key.now, c.in-Some.last.now)
+    (distinct_turned g.K.PartialEq.eq laws i.window.entries i.probation.entries i.protected.entries placed.distinct)
+    last

@@ -15,6 +15,8 @@ settle_full-requires-clause-full g c κs within =
     let whole : i.caps.window ≤ length i.window.entries = omega (arith, c.len.ensures.len, c.if-len-self.false) in
     record {
       placed = c.requires.placed;
-      elsewhere = rw (← c.self.view_is) (fresh_parts (g.K.PartialEq.eq c.args.key) i.window.entries (i.probation.entries ++ i.protected.entries) off).0;
+      elsewhere = rw (← c.self.view_is)
+          (fresh_parts (g.K.PartialEq.eq c.args.key) i.window.entries
+          (i.probation.entries ++ i.protected.entries) off).0;
       full = rw (← c.self.view_is) whole;
     }

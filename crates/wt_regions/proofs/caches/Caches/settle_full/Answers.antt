@@ -19,8 +19,10 @@ returns-in_ok-left-in-Leaves-clause-state g c =
     let there = last_below x i.window.entries l last in
     let r : Lists g.row.K.Denot g.row.V.Denot = lists_of i.caps (x ∷ i.window.entries) i.probation.entries i.protected.entries in
     let is = rw (← c.self.view_is) at (sym c.fate_of.ensures ∙ c.in-Leaves.is) in
-    let o = overflowed-leaves (λ k. estimate_of c.args.sketch.now (g.K.CacheKey.word k)) c.args.held.written r l c.in-Leaves.cause there is in
-    rw (c.in_ok-left-in-Leaves.ensures.state, ← c.self.view_is) (sym (ap (λ (p : Lists g.row.K.Denot g.row.V.Denot × List (Notice g.row.K.Denot g.row.V.Denot)). p.0) o))
+    let o = overflowed-leaves (λ k. estimate_of c.args.sketch.now (g.K.CacheKey.word k)) c.args.held.written r l
+    c.in-Leaves.cause there is in
+    rw (c.in_ok-left-in-Leaves.ensures.state, ← c.self.view_is)
+    (sym (ap (λ (p : Lists g.row.K.Denot g.row.V.Denot × List (Notice g.row.K.Denot g.row.V.Denot)). p.0) o))
 
 pub returns-in_ok-left-in-Leaves-clause-notices : goal.returns-in_ok-left-in-Leaves-clause-notices
 returns-in_ok-left-in-Leaves-clause-notices g c =
@@ -31,8 +33,11 @@ returns-in_ok-left-in-Leaves-clause-notices g c =
     let there = last_below x i.window.entries l last in
     let r : Lists g.row.K.Denot g.row.V.Denot = lists_of i.caps (x ∷ i.window.entries) i.probation.entries i.protected.entries in
     let is = rw (← c.self.view_is) at (sym c.fate_of.ensures ∙ c.in-Leaves.is) in
-    let o = overflowed-leaves (λ k. estimate_of c.args.sketch.now (g.K.CacheKey.word k)) c.args.held.written r l c.in-Leaves.cause there is in
-    rw (c.tell_left.ensures.notices, c.in_ok-left-in-Leaves.ensures.left, last, ← c.self.view_is) (ap (λ (ns : List (Notice g.row.K.Denot g.row.V.Denot)). appended ns c.args.notices.now) (sym (ap (λ (p : Lists g.row.K.Denot g.row.V.Denot × List (Notice g.row.K.Denot g.row.V.Denot)). p.1) o)))
+    let o = overflowed-leaves (λ k. estimate_of c.args.sketch.now (g.K.CacheKey.word k)) c.args.held.written r l
+    c.in-Leaves.cause there is in
+    rw (c.tell_left.ensures.notices, c.in_ok-left-in-Leaves.ensures.left, last, ← c.self.view_is)
+    (ap (λ (ns : List (Notice g.row.K.Denot g.row.V.Denot)). appended ns c.args.notices.now)
+    (sym (ap (λ (p : Lists g.row.K.Denot g.row.V.Denot × List (Notice g.row.K.Denot g.row.V.Denot)). p.1) o)))
 
 pub returns-in_ok-left-in-Leaves-clause-weight : goal.returns-in_ok-left-in-Leaves-clause-weight
 returns-in_ok-left-in-Leaves-clause-weight g c =
@@ -55,7 +60,8 @@ returns-in_ok-pass_on-in-Enters-clause-state g c =
     let r : Lists g.row.K.Denot g.row.V.Denot = lists_of i.caps (x ∷ i.window.entries) i.probation.entries i.protected.entries in
     let is = rw (← c.self.view_is) at (sym c.fate_of.ensures ∙ c.in-Enters.is) in
     let o = overflowed-enters (λ k. estimate_of c.args.sketch.now (g.K.CacheKey.word k)) c.args.held.written r l there is in
-    rw (c.in_ok-pass_on-in-Enters.ensures.state, ← c.self.view_is, last) (sym (ap (λ (p : Lists g.row.K.Denot g.row.V.Denot × List (Notice g.row.K.Denot g.row.V.Denot)). p.0) o))
+    rw (c.in_ok-pass_on-in-Enters.ensures.state, ← c.self.view_is, last)
+    (sym (ap (λ (p : Lists g.row.K.Denot g.row.V.Denot × List (Notice g.row.K.Denot g.row.V.Denot)). p.0) o))
 
 pub returns-in_ok-pass_on-in-Enters-clause-notices :
     goal.returns-in_ok-pass_on-in-Enters-clause-notices
@@ -68,7 +74,9 @@ returns-in_ok-pass_on-in-Enters-clause-notices g c =
     let r : Lists g.row.K.Denot g.row.V.Denot = lists_of i.caps (x ∷ i.window.entries) i.probation.entries i.protected.entries in
     let is = rw (← c.self.view_is) at (sym c.fate_of.ensures ∙ c.in-Enters.is) in
     let o = overflowed-enters (λ k. estimate_of c.args.sketch.now (g.K.CacheKey.word k)) c.args.held.written r l there is in
-    rw (← c.self.view_is) (sym (appended-none c.args.notices.now) ∙ ap (λ (ns : List (Notice g.row.K.Denot g.row.V.Denot)). appended ns c.args.notices.now) (sym (ap (λ (p : Lists g.row.K.Denot g.row.V.Denot × List (Notice g.row.K.Denot g.row.V.Denot)). p.1) o)))
+    rw (← c.self.view_is) (sym (appended-none c.args.notices.now)
+    ∙ ap (λ (ns : List (Notice g.row.K.Denot g.row.V.Denot)). appended ns c.args.notices.now)
+    (sym (ap (λ (p : Lists g.row.K.Denot g.row.V.Denot × List (Notice g.row.K.Denot g.row.V.Denot)). p.1) o)))
 
 pub returns-in_ok-pass_on-in-Enters-clause-weight :
     goal.returns-in_ok-pass_on-in-Enters-clause-weight
@@ -90,10 +98,13 @@ returns-in_ok-pass_on-in-Ousts-clause-state g c =
     let last : last_entry i.window.entries ≡ Some (c.in-Some.last_key.now, c.in-Some.last.now) = search rules in
     let there = last_below x i.window.entries l last in
     let after = rw (← c.self.view_is, last) at c.in_ok-pass_on-in-Ousts.ensures.state in
-    let now : lists_of s.caps s.window.entries s.probation.entries s.protected.entries ≡ lists_of i.caps (all_but_last (x ∷ i.window.entries)) (l ∷ i.probation.entries) i.protected.entries = c.self-in-Ousts.view_is ∙ after in
+    let now : lists_of s.caps s.window.entries s.probation.entries s.protected.entries
+    ≡ lists_of i.caps (all_but_last (x ∷ i.window.entries)) (l ∷ i.probation.entries) i.protected.entries =
+    c.self-in-Ousts.view_is ∙ after in
     let r : Lists g.row.K.Denot g.row.V.Denot = lists_of i.caps (x ∷ i.window.entries) i.probation.entries i.protected.entries in
     let is = rw (← c.self.view_is) at (sym c.fate_of.ensures ∙ c.in-Ousts.is) in
-    let told = overflowed-ousts-0 (λ k. estimate_of c.args.sketch.now (g.K.CacheKey.word k)) c.args.held.written r l c.in-Ousts.cause there is in
+    let told = overflowed-ousts-0 (λ k. estimate_of c.args.sketch.now (g.K.CacheKey.word k)) c.args.held.written r l
+    c.in-Ousts.cause there is in
     let out = ap (λ (r : Lists g.row.K.Denot g.row.V.Denot). lists_of r.caps r.window (all_but_last r.probation) r.protected) now in
     rw (c.pop_lru.ensures.entries, ← c.self.view_is) (out ∙ sym told)
 
@@ -107,12 +118,16 @@ returns-in_ok-pass_on-in-Ousts-clause-notices g c =
     let last : last_entry i.window.entries ≡ Some (c.in-Some.last_key.now, c.in-Some.last.now) = search rules in
     let there = last_below x i.window.entries l last in
     let after = rw (← c.self.view_is, last) at c.in_ok-pass_on-in-Ousts.ensures.state in
-    let now : lists_of s.caps s.window.entries s.probation.entries s.protected.entries ≡ lists_of i.caps (all_but_last (x ∷ i.window.entries)) (l ∷ i.probation.entries) i.protected.entries = c.self-in-Ousts.view_is ∙ after in
+    let now : lists_of s.caps s.window.entries s.probation.entries s.protected.entries
+    ≡ lists_of i.caps (all_but_last (x ∷ i.window.entries)) (l ∷ i.probation.entries) i.protected.entries =
+    c.self-in-Ousts.view_is ∙ after in
     let r : Lists g.row.K.Denot g.row.V.Denot = lists_of i.caps (x ∷ i.window.entries) i.probation.entries i.protected.entries in
     let is = rw (← c.self.view_is) at (sym c.fate_of.ensures ∙ c.in-Ousts.is) in
-    let told = overflowed-ousts-1 (λ k. estimate_of c.args.sketch.now (g.K.CacheKey.word k)) c.args.held.written r l c.in-Ousts.cause there is in
+    let told = overflowed-ousts-1 (λ k. estimate_of c.args.sketch.now (g.K.CacheKey.word k)) c.args.held.written r l
+    c.in-Ousts.cause there is in
     let pushed = ap (λ (r : Lists g.row.K.Denot g.row.V.Denot). r.probation) now in
-    rw (c.tell_left-in-Ousts.ensures.notices, c.pop_lru.ensures.value, pushed, ← c.self.view_is) (ap (λ (ns : List (Notice g.row.K.Denot g.row.V.Denot)). appended ns c.args.notices.now) (sym told))
+    rw (c.tell_left-in-Ousts.ensures.notices, c.pop_lru.ensures.value, pushed, ← c.self.view_is)
+    (ap (λ (ns : List (Notice g.row.K.Denot g.row.V.Denot)). appended ns c.args.notices.now) (sym told))
 
 pub returns-in_ok-pass_on-in-Ousts-clause-weight :
     goal.returns-in_ok-pass_on-in-Ousts-clause-weight
@@ -124,9 +139,14 @@ returns-in_ok-pass_on-in-Ousts-clause-weight g c =
     let last : last_entry i.window.entries ≡ Some (c.in-Some.last_key.now, c.in-Some.last.now) = search rules in
     let there = last_below x i.window.entries l last in
     let after = rw (← c.self.view_is, last) at c.in_ok-pass_on-in-Ousts.ensures.state in
-    let now : lists_of s.caps s.window.entries s.probation.entries s.protected.entries ≡ lists_of i.caps (all_but_last (x ∷ i.window.entries)) (l ∷ i.probation.entries) i.protected.entries = c.self-in-Ousts.view_is ∙ after in
+    let now : lists_of s.caps s.window.entries s.probation.entries s.protected.entries
+    ≡ lists_of i.caps (all_but_last (x ∷ i.window.entries)) (l ∷ i.probation.entries) i.protected.entries =
+    c.self-in-Ousts.view_is ∙ after in
     let gone = weight-probation s.caps s.window.entries s.probation.entries s.protected.entries in
     let same = ap (λ (r : Lists g.row.K.Denot g.row.V.Denot). weight_of r) now in
     let w = weight-enters i.caps l (x ∷ i.window.entries) i.probation.entries i.protected.entries there in
-    let moved : weight_of (lists_of i.caps (all_but_last (x ∷ i.window.entries)) (l ∷ i.probation.entries) i.protected.entries) ≡ weight_of (lists_of i.caps (x ∷ i.window.entries) i.probation.entries i.protected.entries) = omega (arith, w) in
+    let moved : weight_of (lists_of i.caps (all_but_last (x ∷ i.window.entries))
+    (l ∷ i.probation.entries) i.protected.entries)
+    ≡ weight_of (lists_of i.caps (x ∷ i.window.entries) i.probation.entries i.protected.entries) =
+    omega (arith, w) in
     rw (c.tell_left-in-Ousts.ensures.weight, c.pop_lru.ensures.value, c.pop_lru.ensures.entries, ← c.self.view_is) (gone ∙ same ∙ moved)

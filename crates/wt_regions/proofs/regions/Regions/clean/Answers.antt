@@ -8,6 +8,9 @@ pub invariant_of-self : goal.invariant_of-self
 invariant_of-self g c =
     let r = c.self.inside.caches in
     let weight = rw c.clean-self-inside.ensures.state at c.clean-self-inside.ensures.weight in
-    let less : weight_of (cleaned c.args.now r).0 ≤ weight_of r = omega (arith, weight, c.clean-self-inside.ensures.lighter, c.self.invariant.1) in
-    let law = cleaned-lawful g.K.PartialEq.eq (g.met.K.Eq g.world.𝓛 g.world.𝓜 g.world.𝓡 ((λ s x. x), (λ x. x), (λ x. x), λ x. x)).laws g.V.Weighs.weight c.args.now r.caps r.window r.probation r.protected c.self.invariant.0 less in
+    let less : weight_of (cleaned c.args.now r).0 ≤ weight_of r =
+    omega (arith, weight, c.clean-self-inside.ensures.lighter, c.self.invariant.1) in
+    let law = cleaned-lawful g.K.PartialEq.eq
+    (g.met.K.Eq g.world.𝓛 g.world.𝓜 g.world.𝓡 ((λ s x. x), (λ x. x), (λ x. x), λ x. x)).laws g.V.Weighs.weight
+    c.args.now r.caps r.window r.probation r.protected c.self.invariant.0 less in
     rw c.clean-self-inside.ensures.state (law, weight)

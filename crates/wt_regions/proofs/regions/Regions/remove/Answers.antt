@@ -7,19 +7,25 @@ pub overflow_sub-self : goal.overflow_sub-self
 overflow_sub-self g c =
     let r = c.self.inside.caches in
     let is : held_for g.K.PartialEq.eq c.args.key r ≡ Some c.in-Some.held = sym c.take_out.ensures.held ∙ c.in-Some.is in
-    let t = taken-some g.K.PartialEq.eq (g.met.K.Eq g.world.𝓛 g.world.𝓜 g.world.𝓡 ((λ s x. x), (λ x. x), (λ x. x), λ x. x)).laws g.V.Weighs.weight c.args.key r.caps r.window r.probation r.protected c.self.invariant.0 c.in-Some.held is in
+    let t = taken-some g.K.PartialEq.eq
+    (g.met.K.Eq g.world.𝓛 g.world.𝓜 g.world.𝓡 ((λ s x. x), (λ x. x), (λ x. x), λ x. x)).laws g.V.Weighs.weight
+    c.args.key r.caps r.window r.probation r.protected c.self.invariant.0 c.in-Some.held is in
     omega (arith, t.1, c.self.invariant.1)
 
 pub invariant_of-self : goal.invariant_of-self
 invariant_of-self g c =
     let r = c.self.inside.caches in
     let is : held_for g.K.PartialEq.eq c.args.key r ≡ Some c.in-Some.held = sym c.take_out.ensures.held ∙ c.in-Some.is in
-    let t = taken-some g.K.PartialEq.eq (g.met.K.Eq g.world.𝓛 g.world.𝓜 g.world.𝓡 ((λ s x. x), (λ x. x), (λ x. x), λ x. x)).laws g.V.Weighs.weight c.args.key r.caps r.window r.probation r.protected c.self.invariant.0 c.in-Some.held is in
+    let t = taken-some g.K.PartialEq.eq
+    (g.met.K.Eq g.world.𝓛 g.world.𝓜 g.world.𝓡 ((λ s x. x), (λ x. x), (λ x. x), λ x. x)).laws g.V.Weighs.weight
+    c.args.key r.caps r.window r.probation r.protected c.self.invariant.0 c.in-Some.held is in
     rw c.take_out.ensures.state (t.0, omega (arith, t.1, c.self.invariant.1))
 
 pub invariant_of-self-in-None : goal.invariant_of-self-in-None
 invariant_of-self-in-None g c =
     let r = c.self.inside.caches in
     let is : held_for g.K.PartialEq.eq c.args.key r ≡ None = sym c.take_out.ensures.held ∙ c.in-None.is in
-    let t = taken-none g.K.PartialEq.eq (g.met.K.Eq g.world.𝓛 g.world.𝓜 g.world.𝓡 ((λ s x. x), (λ x. x), (λ x. x), λ x. x)).laws g.V.Weighs.weight c.args.key r.caps r.window r.probation r.protected c.self.invariant.0 is in
+    let t = taken-none g.K.PartialEq.eq
+    (g.met.K.Eq g.world.𝓛 g.world.𝓜 g.world.𝓡 ((λ s x. x), (λ x. x), (λ x. x), λ x. x)).laws g.V.Weighs.weight
+    c.args.key r.caps r.window r.probation r.protected c.self.invariant.0 is in
     rw c.take_out.ensures.state (t.0, c.self.invariant.1 ∙ sym t.1)
