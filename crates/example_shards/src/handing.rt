@@ -5,16 +5,16 @@ ghost use Rattle.wt_shards.specs.Place.{home_of};
 ghost use Rattle.wt_shards.specs.Served.{IsHandedOver};
 
 use std::sync::Wait;
-use wt_core::{Notices, Reply, Weighs};
-use wt_keys::{Answers, CacheKey, Fault, Share};
-use wt_shards::{Books, Done, Pass, Shards};
+use wt_core::{Notices, Reply};
+use wt_keys::{CacheKey, Fault};
+use wt_shards::{Books, Done, Pass, Shards, Value};
 
 /// Puts the value with one caller's pass, lets the other caller's pass meet it, and looks the key
 /// up with that one.
 ///
 /// Both calls are in the one history of the key's shard, the look-up behind the put. So it hits
 /// only that value, or one that somebody else put or loaded for the key in between.
-pub fn hand_over<K: CacheKey, V: Share + Weighs + Answers<K> + Send + Sync, B: Books, R: Wait>(
+pub fn hand_over<K: CacheKey, V: Value<K>, B: Books, R: Wait>(
     rt: &R,
     shards: &Shards<K, V, B>,
     giver: &mut Pass<K, V, B>,

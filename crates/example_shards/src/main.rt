@@ -1,13 +1,15 @@
 //! Two threads put into a cache for many threads, one reads what the other has put, and the passes
-//! show that nothing is missing; then one pass is left out, and that is told.
+//! show that nothing is missing; then one pass is left out, and that is told. A value is served for
+//! less than 1000 ms.
 #![tactic(auto)]
 
 mod handing;
 mod page;
+mod reading;
 mod session;
 mod writer;
 
-use session::session;
+use session::{Seen, session};
 use std::alloc::Global;
 use std::marker::Brand;
 use std::sync::Wait;
@@ -21,7 +23,7 @@ const CONFIG: Config = Config {
     entries: 64,
     window: 1,
     bound: 1000,
-    after_write: None,
+    after_write: Some(1000),
     after_access: None,
     refresh: None,
     flights: 4,
@@ -29,16 +31,18 @@ const CONFIG: Config = Config {
 };
 
 // The one place that names the ledgers: the pick for `Brand` stands in proofs/run/Invariants.antt.
-fn run<R: Threads + Wait + Sync>(rt: &R, alloc: Global, all: bool) -> Result<(u64, u64), Fault> {
+fn run<R: Threads + Wait + Sync>(rt: &R, alloc: Global, all: bool) -> Result<Seen, Fault> {
     session::<Brand, R>(rt, alloc, Blanks::new(), &CONFIG, all)
 }
 
 fn main(rt: HostRuntime) -> Result<(), anyhow::Error> {
     for all in [true, false] {
         match run(&rt, rt.alloc(), all) {
-            Ok((version, steps)) => {
-                println!(rt; "the second caller reads version {version}")?;
-                println!(rt; "{steps} steps, and no pass is missing")?;
+            Ok(seen) => {
+                println!(rt; "the second caller reads version {}", seen.version)?;
+                println!(rt; "after 999 ms it reads version {}", seen.young)?;
+                println!(rt; "after 1000 ms it reads version {}", seen.old)?;
+                println!(rt; "{} steps, and no pass is missing", seen.steps)?;
             }
             Err(fault) => println!(rt; "fault {}: {fault}", fault.number())?,
         }

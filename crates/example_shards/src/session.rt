@@ -5,6 +5,7 @@ ghost use Rattle.wt_shards.specs.Opening.{AreBlanksOf};
 
 use crate::handing::hand_over;
 use crate::page::Page;
+use crate::reading::read;
 use crate::writer::put_ten;
 use std::alloc::Global;
 use std::sync::Wait;
@@ -12,19 +13,64 @@ use std::thread;
 use std::thread::Threads;
 use wt_core::{Config, Notices, Reply};
 use wt_keys::Fault;
-use wt_shards::{Blanks, Names, Of, Shards};
+use wt_shards::{Blanks, Books, Names, Of, Pass, Shards};
+
+/// What the second caller reads, and how many steps were made.
+#[derive(Clone, Copy)]
+pub struct Seen {
+    /// The version of the page that was handed over, at moment 0.
+    pub version: u64,
+    /// Its version at moment 999.
+    pub young: u64,
+    /// Its version at moment 1000; 0 if it isn't served.
+    pub old: u64,
+    /// How many steps the settled books hold.
+    pub steps: u64,
+}
+
+// The version that a look-up hits, or 0.
+fn version_of(found: Reply<Page>) -> u64 {
+    match found {
+        Reply::Hit(page) => page.version,
+        _ => 0,
+    }
+}
+
+// Hands a page over from the first caller to the second one. Returns the version that this one reads
+// at moment 0, at 999 and at 1000.
+fn hands_over<B: Books, R: Wait>(
+    rt: &R,
+    alloc: Global,
+    shards: &Shards<u64, Page, B>,
+    a: &mut Pass<u64, Page, B>,
+    b: &mut Pass<u64, Page, B>,
+) -> Result<(u64, u64, u64), Fault> {
+    let mut notices = Notices::new(alloc, 2 * shards.entries() as usize)?;
+    let page = Page {
+        number: 5,
+        version: 99,
+    };
+    let (_, found) = hand_over(rt, shards, a, b, page.number, page, 0, &mut notices)?;
+    let later = read(rt, alloc, shards, b, page.number, 999)?;
+    let latest = read(rt, alloc, shards, b, page.number, 1000)?;
+    Ok((
+        version_of(found.reply),
+        version_of(later.reply),
+        version_of(latest.reply),
+    ))
+}
 
 /// Lets two threads put ten pages each, and hands a page over from the first one to the second.
 ///
-/// Returns the version of the page that the second one reads, and how many steps the settled books
-/// hold. If not all passes are handed back, returns the fault that tells of it.
+/// Returns what the second one reads of it, then and later. If not all passes are handed back,
+/// returns the fault that tells of it.
 pub fn session<N: Names + Send + Sync, R: Threads + Wait + Sync>(
     rt: &R,
     alloc: Global,
     blanks: Blanks<u64, Page>,
     config: &Config,
     all: bool,
-) -> Result<(u64, u64), Fault>
+) -> Result<Seen, Fault>
     requires layout { N.layout ≡ record { shards = 4; config = config.now } }
     requires blanks { AreBlanksOf N.name N.book blanks }
 {
@@ -37,25 +83,7 @@ pub fn session<N: Names + Send + Sync, R: Threads + Wait + Sync>(
         || put_ten(rt, alloc, shared, b, 101),
     );
     let (mut a, mut b) = (a?, b?);
-    let mut notices = Notices::new(alloc, 2 * shards.entries() as usize)?;
-    let page = Page {
-        number: 5,
-        version: 99,
-    };
-    let (_, found) = hand_over(
-        rt,
-        shared,
-        &mut a,
-        &mut b,
-        page.number,
-        page,
-        0,
-        &mut notices,
-    )?;
-    let version = match found.reply {
-        Reply::Hit(page) => page.version,
-        _ => 0,
-    };
+    let (version, young, old) = hands_over(rt, alloc, shared, &mut a, &mut b)?;
     let mut passes = Vec::with_capacity(alloc, 2)?;
     passes.push_reserved(a);
     if all {
@@ -66,5 +94,10 @@ pub fn session<N: Names + Send + Sync, R: Threads + Wait + Sync>(
     for shard in 0..4 {
         steps = steps.saturating_add(totals.of(shard).map_or(0, |total| total.steps));
     }
-    Ok((version, steps))
+    Ok(Seen {
+        version,
+        young,
+        old,
+        steps,
+    })
 }

@@ -1,5 +1,5 @@
 -- What a call promises that hands on what another one made: one record for each layer.
-use Rattle.std.specs.Prelude.{◌≡◌, ◌+◌, ◌*◌, ◌<◌, ◌≤◌, ℕ, Bool, true, List, Result, Err, None, IfOk, IfErr, OnOk, OnErr, IsOk, IsOkUnless, MatchOption}
+use Rattle.std.specs.Prelude.{◌≡◌, ◌+◌, ◌*◌, ◌<◌, ◌≤◌, ℕ, Bool, true, false, List, Result, Err, None, IfOk, IfErr, OnOk, OnErr, IsOk, IsOkUnless, MatchOption}
 use Rattle.wt_keys.specs.declared.fault.Fault.{Fault}
 use Rattle.wt_keys.specs.declared.fault.Fault.TheVariants.{NoMemory}
 use Rattle.wt_flights.specs.Outcomes.{Leading}
@@ -7,7 +7,7 @@ use Rattle.wt_regions.specs.Notices.{NoticeList, appended}
 use Rattle.wt_core.specs.declared.calls.Call.{Call}
 use Rattle.wt_core.specs.declared.calls.Reply.{Reply}
 use Rattle.wt_core.specs.Faults.{is_fault_of, is_step_fault}
-use Rattle.wt_core.specs.Landings.{TakesNone}
+use Rattle.wt_core.specs.Landings.{TakesNone, is_join}
 use Rattle.wt_core.specs.Step.{step, refusal_of}
 use Rattle.wt_shards.specs.Audited.{Audited, IsCaughtUp, excess, shard_step}
 use Rattle.wt_shards.specs.Counts.{Counted, counted, is_hit}
@@ -19,8 +19,8 @@ use Rattle.wt_shards.specs.Told.{HasTold}
 use Rattle.wt_shards.specs.declared.done.Done.{Done}
 
 -- what a call of a shard promises that its caller owns: one recorded step, or a refusal that leaves the cache. `said` makes the cache's
--- reply of what is returned, and `opens` the landings that the call opens
-pub record IsShardCall {K V R : Type 0} (eq : K → K → Bool) (word : K → ℕ) (weight : V → ℕ) (entries : ℕ) (c : Call K V)
+-- reply of what is returned, `opens` the landings that the call opens, and `copied` tells whether a share of a value is a copy
+pub record IsShardCall {K V R : Type 0} (copied : Bool) (eq : K → K → Bool) (word : K → ℕ) (weight : V → ℕ) (entries : ℕ) (c : Call K V)
     (said : R → Reply V) (opens : R → List (Leading K)) (old new : Audited K V) (mine after : Counted) (before list : NoticeList K V)
     (result : Result R Fault) : Type 0 where
   -- the shard makes the call's step, and records it
@@ -39,8 +39,10 @@ pub record IsShardCall {K V R : Type 0} (eq : K → K → Bool) (word : K → �
   pub refusal : MatchOption (refusal_of eq word weight old.core c) (IsOkUnless result NoMemory) (λ f. (result ≡ Err f) × (new ≡ old))
   -- no other fault comes than the call's own
   pub faults : IfErr result (λ f. is_fault_of c f ≡ true)
-  -- no memory is refused to a call that takes none in the cache, if no record has to go over to the lagging copy
-  pub none_succeeds : refusal_of eq word weight old.core c ≡ None → TakesNone eq weight old.core c → excess eq word weight c old ≡ 0 → IsOk result
+  -- no memory is refused to a call that takes none in the cache, if no record has to go over to the lagging copy; but a seek that joins
+  -- a load takes memory here, for its ticket
+  pub none_succeeds : refusal_of eq word weight old.core c ≡ None → TakesNone copied eq weight old.core c → is_join eq old.core c ≡ false
+      → excess eq word weight c old ≡ 0 → IsOk result
   -- whatever is returned: few notices, and no room lost
   pub told : HasTold entries before list
   -- a fault leaves the cache, the caller's shares and the notices; some records may have gone over to the lagging copy

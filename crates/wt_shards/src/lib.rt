@@ -25,6 +25,7 @@ mod sought;
 mod sweep;
 mod total;
 mod totals;
+mod value;
 
 pub use books::{Blanks, Books, Named};
 pub use closed::Closed;
@@ -32,7 +33,8 @@ pub use done::Done;
 pub use explained::Explained;
 pub use laws::{
     loads_land_once, one_load_is_current, outline_of_step, own_put_is_read,
-    served_values_were_brought, sharers_are_counted, stale_loads_are_not_stored,
+    served_values_are_young, served_values_were_brought, sharers_are_counted,
+    stale_loads_are_not_stored,
 };
 pub use names::{Hits, Names, Of, Steps};
 pub use pass::Pass;
@@ -44,3 +46,4 @@ pub use shares::Shares;
 pub use sought::Sought;
 pub use total::Total;
 pub use totals::Totals;
+pub use value::Value;

@@ -9,10 +9,11 @@ mod sweeps;
 
 use crate::books::Books;
 use crate::recorded::Recorded;
+use crate::value::Value;
 use std::marker::Model;
 use std::sync::Mutex;
-use wt_core::{Config, Weighs};
-use wt_keys::{Answers, CacheKey, Share};
+use wt_core::Config;
+use wt_keys::CacheKey;
 
 /// Audited shards of a cache, 1, 2 or 4 of them, each with the history of its calls behind a lock of
 /// its own.
@@ -21,7 +22,7 @@ use wt_keys::{Answers, CacheKey, Share};
 /// Which shard stands in a field is in the types of its ledgers, since of a value behind a lock
 /// nothing else is known.
 #[derive(Drop)]
-pub struct Shards<K: CacheKey, V: Share + Weighs + Answers<K> + Send + Sync, B: Books> {
+pub struct Shards<K: CacheKey, V: Value<K>, B: Books> {
     // How many are in use, and what each was made for; never change.
     pub(crate) shards: usize,
     pub(crate) config: Config,
@@ -31,8 +32,7 @@ pub struct Shards<K: CacheKey, V: Share + Weighs + Answers<K> + Send + Sync, B: 
     pub(crate) three: Option<Mutex<Recorded<K, V, B::S3, B::H3>>>,
 }
 
-impl<K: CacheKey, V: Share + Weighs + Answers<K> + Send + Sync, B: Books> Model
-    for Shards<K, V, B> {
+impl<K: CacheKey, V: Value<K>, B: Books> Model for Shards<K, V, B> {
     ghost use Rattle.std.specs.Prelude.{◌≡◌, ◌<◌, ◌==◌, ◌||◌, ◌↔◌, IsSome, IsTrue};
     ghost use Rattle.wt_shards.specs.Place.{Layout};
 

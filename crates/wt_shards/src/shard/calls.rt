@@ -26,9 +26,9 @@ impl<K: CacheKey, V: Share + Weighs + Answers<K>, S: ShardLedger, H: Ledger> Sha
     ) -> Result<Reply<V>, Fault>
         requires asked { MayAsk V.answers K.word S.ShardLedger.place call notices.old }
         requires plain { is_seek call ≡ false }
-        ensures made { IsShardCall K.eq K.word V.weight S.ShardLedger.place.config.entries
-            call (λ reply. reply) (λ _. []) self.old self.new mine.old mine.new notices.old
-            notices.new result }
+        ensures made { IsShardCall V.Share.is_copied K.eq K.word V.weight
+            S.ShardLedger.place.config.entries call (λ reply. reply) (λ _. []) self.old self.new
+            mine.old mine.new notices.old notices.new result }
         ensures answers { IfOk result (AnswersAsked V.answers call) }
         // A landing of an open load has its place.
         ensures place { IsLanding K.eq self.old.core call
@@ -41,8 +41,9 @@ impl<K: CacheKey, V: Share + Weighs + Answers<K>, S: ShardLedger, H: Ledger> Sha
     /// Looks the key up at the moment `now`, in milliseconds, and returns `Hit` with a share of its
     /// value, or `Absent`.
     ///
-    /// `StepsSpent` comes before `NoMemory`; a hit takes memory, and the lagging copy may. Expected
-    /// O(1), unless an attacker chooses the keys (see `Seeded`), and what the dropped records cost.
+    /// `StepsSpent` comes before `NoMemory`. Only a hit takes memory, and none if a share is a copy
+    /// and the entry isn't in probation; the lagging copy may. Expected O(1), unless an attacker
+    /// chooses the keys (see `Seeded`), and what the dropped records cost.
     pub fn look(
         &mut self,
         mine: &mut Shares<S, H>,
@@ -52,9 +53,9 @@ impl<K: CacheKey, V: Share + Weighs + Answers<K>, S: ShardLedger, H: Ledger> Sha
     ) -> Result<Reply<V>, Fault>
         requires asked { MayAsk V.answers K.word S.ShardLedger.place
             (call.Look key now) notices.old }
-        ensures made { IsShardCall K.eq K.word V.weight S.ShardLedger.place.config.entries
-            (call.Look key now) (λ reply. reply) (λ _. []) self.old self.new mine.old mine.new
-            notices.old notices.new result }
+        ensures made { IsShardCall V.Share.is_copied K.eq K.word V.weight
+            S.ShardLedger.place.config.entries (call.Look key now) (λ reply. reply) (λ _. [])
+            self.old self.new mine.old mine.new notices.old notices.new result }
         ensures answers { IfOk result (λ reply. ReplyAnswers V.answers key reply) }
     {
         self.step(mine, Call::Look(key, now), notices)
@@ -78,9 +79,9 @@ impl<K: CacheKey, V: Share + Weighs + Answers<K>, S: ShardLedger, H: Ledger> Sha
     ) -> Result<Reply<V>, Fault>
         requires asked { MayAsk V.answers K.word S.ShardLedger.place
             (call.Land id key what now) notices.old }
-        ensures made { IsShardCall K.eq K.word V.weight S.ShardLedger.place.config.entries
-            (call.Land id key what now) (λ reply. reply) (λ _. []) self.old self.new mine.old
-            mine.new notices.old notices.new result }
+        ensures made { IsShardCall V.Share.is_copied K.eq K.word V.weight
+            S.ShardLedger.place.config.entries (call.Land id key what now) (λ reply. reply)
+            (λ _. []) self.old self.new mine.old mine.new notices.old notices.new result }
         // An open load drops no record.
         ensures place { IsTrue (is_some (row_of K.eq key id self.old.core.flights))
             → excess K.eq K.word V.weight (call.Land id key what now) self.old ≡ 0 }
@@ -105,9 +106,9 @@ impl<K: CacheKey, V: Share + Weighs + Answers<K>, S: ShardLedger, H: Ledger> Sha
     ) -> Result<(), Fault>
         requires asked { MayAsk V.answers K.word S.ShardLedger.place
             (call.Put key value now) notices.old }
-        ensures made { IsShardCall K.eq K.word V.weight S.ShardLedger.place.config.entries
-            (call.Put key value now) (λ _. reply.Stored) (λ _. []) self.old self.new mine.old
-            mine.new notices.old notices.new result }
+        ensures made { IsShardCall V.Share.is_copied K.eq K.word V.weight
+            S.ShardLedger.place.config.entries (call.Put key value now) (λ _. reply.Stored)
+            (λ _. []) self.old self.new mine.old mine.new notices.old notices.new result }
     {
         self.step(mine, Call::Put(key, value, now), notices)?;
         Ok(())
@@ -128,9 +129,9 @@ impl<K: CacheKey, V: Share + Weighs + Answers<K>, S: ShardLedger, H: Ledger> Sha
     ) -> Result<bool, Fault>
         requires asked { MayAsk V.answers K.word S.ShardLedger.place
             (call.DropKey key now) notices.old }
-        ensures made { IsShardCall K.eq K.word V.weight S.ShardLedger.place.config.entries
-            (call.DropKey key now) reply.Dropped (λ _. []) self.old self.new mine.old mine.new
-            notices.old notices.new result }
+        ensures made { IsShardCall V.Share.is_copied K.eq K.word V.weight
+            S.ShardLedger.place.config.entries (call.DropKey key now) reply.Dropped (λ _. [])
+            self.old self.new mine.old mine.new notices.old notices.new result }
     {
         match self.step(mine, Call::DropKey(key, now), notices)? {
             Reply::Dropped(left) => Ok(left),
@@ -149,9 +150,9 @@ impl<K: CacheKey, V: Share + Weighs + Answers<K>, S: ShardLedger, H: Ledger> Sha
         notices: &mut Notices<K, V>,
     ) -> Result<(), Fault>
         requires room { S.ShardLedger.place.config.entries ≤ notices.old.room }
-        ensures made { IsShardCall K.eq K.word V.weight S.ShardLedger.place.config.entries
-            (call.Clear now) (λ _. reply.Cleared) (λ _. []) self.old self.new mine.old mine.new
-            notices.old notices.new result }
+        ensures made { IsShardCall V.Share.is_copied K.eq K.word V.weight
+            S.ShardLedger.place.config.entries (call.Clear now) (λ _. reply.Cleared) (λ _. [])
+            self.old self.new mine.old mine.new notices.old notices.new result }
     {
         self.step(mine, Call::Clear(now), notices)?;
         Ok(())
@@ -172,9 +173,9 @@ impl<K: CacheKey, V: Share + Weighs + Answers<K>, S: ShardLedger, H: Ledger> Sha
     ) -> Result<bool, Fault>
         requires asked { MayAsk V.answers K.word S.ShardLedger.place
             (call.Forget key now) notices.old }
-        ensures made { IsShardCall K.eq K.word V.weight S.ShardLedger.place.config.entries
-            (call.Forget key now) reply.Forgot (λ _. []) self.old self.new mine.old mine.new
-            notices.old notices.new result }
+        ensures made { IsShardCall V.Share.is_copied K.eq K.word V.weight
+            S.ShardLedger.place.config.entries (call.Forget key now) reply.Forgot (λ _. []) self.old
+            self.new mine.old mine.new notices.old notices.new result }
     {
         match self.step(mine, Call::Forget(key, now), notices)? {
             Reply::Forgot(was) => Ok(was),
@@ -193,9 +194,9 @@ impl<K: CacheKey, V: Share + Weighs + Answers<K>, S: ShardLedger, H: Ledger> Sha
         notices: &mut Notices<K, V>,
     ) -> Result<(), Fault>
         requires room { S.ShardLedger.place.config.entries ≤ notices.old.room }
-        ensures made { IsShardCall K.eq K.word V.weight S.ShardLedger.place.config.entries
-            (call.Clean now) (λ _. reply.Cleaned) (λ _. []) self.old self.new mine.old mine.new
-            notices.old notices.new result }
+        ensures made { IsShardCall V.Share.is_copied K.eq K.word V.weight
+            S.ShardLedger.place.config.entries (call.Clean now) (λ _. reply.Cleaned) (λ _. [])
+            self.old self.new mine.old mine.new notices.old notices.new result }
     {
         self.step(mine, Call::Clean(now), notices)?;
         Ok(())

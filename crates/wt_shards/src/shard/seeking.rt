@@ -23,10 +23,11 @@ impl<K: CacheKey, V: Share + Weighs + Answers<K>, S: ShardLedger, H: Ledger> Sha
     /// Returns `Hit`, a `Join` with a ticket, or a `Lead` with the right to load and a ticket; or
     /// `HitLead`, if the entry is due. Leads and tickets are of the landing that the shard keeps
     /// for the load; the lead's moment is `now`, in milliseconds. `StepsSpent` comes before
-    /// `TooManyFlights`, and both before memory is asked for. Expected O(1), unless an attacker
+    /// `TooManyFlights`, and both before memory is asked for. A load takes memory, a join does for
+    /// its ticket, and a hit as a look's; the lagging copy may. Expected O(1), unless an attacker
     /// chooses the keys (see `Seeded`); O(log(open loads)) on a join; and what the dropped records
     /// cost.
-    #[tactic(auto, using(crate::proofs::Told::told_none))]
+    #[tactic(auto, using(crate::proofs::Told::told_none, crate::proofs::Seeks::free_foreseen))]
     pub fn seek(
         &mut self,
         mine: &mut Shares<S, H>,
@@ -36,9 +37,9 @@ impl<K: CacheKey, V: Share + Weighs + Answers<K>, S: ShardLedger, H: Ledger> Sha
     ) -> Result<Sought<K, V>, Fault>
         requires asked { MayAsk V.answers K.word S.ShardLedger.place
             (call.Seek key now) notices.old }
-        ensures made { IsShardCall K.eq K.word V.weight S.ShardLedger.place.config.entries
-            (call.Seek key now) reply_of opened_by self.old self.new mine.old mine.new notices.old
-            notices.new result }
+        ensures made { IsShardCall V.Share.is_copied K.eq K.word V.weight
+            S.ShardLedger.place.config.entries (call.Seek key now) reply_of opened_by self.old
+            self.new mine.old mine.new notices.old notices.new result }
         ensures landings { IfOk result (IsOfLandings key now self.new.landings) }
         ensures answers { IfOk result (λ sought. ReplyAnswers V.answers key (reply_of sought)) }
     {

@@ -60,7 +60,7 @@ impl<K: CacheKey, V: Share + Weighs + Answers<K>, S: ShardLedger, H: Ledger> Sha
         ensures faults { IfErr result (λ f. is_fault_of call f ≡ true) }
         // No memory is refused to a call that takes none if no record goes over.
         ensures none_succeeds { refusal_of K.eq K.word V.weight self.old.core call ≡ None
-            → TakesNone K.eq V.weight self.old.core call
+            → TakesNone V.Share.is_copied K.eq V.weight self.old.core call
             → excess K.eq K.word V.weight call self.old ≡ 0 → IsOk result }
         // Whatever is answered.
         ensures told { HasTold S.ShardLedger.place.config.entries notices.old notices.new }
@@ -110,7 +110,7 @@ impl<K: CacheKey, V: Share + Weighs + Answers<K>, S: ShardLedger, H: Ledger> Sha
             × (self.new.core.step ≡ self.old.core.step + 1)) }
 
         ensures memory { IsOkUnless result fault.NoMemory }
-        ensures none_succeeds { TakesNone K.eq V.weight self.old.core call
+        ensures none_succeeds { TakesNone V.Share.is_copied K.eq V.weight self.old.core call
             → excess K.eq K.word V.weight call self.old ≡ 0 → IsOk result }
         // Whatever is answered.
         ensures told { HasTold S.ShardLedger.place.config.entries notices.old notices.new }

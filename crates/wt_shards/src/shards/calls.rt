@@ -22,21 +22,16 @@ use crate::shard_ledger::ShardLedger;
 use crate::shards::Shards;
 use crate::sought::Sought;
 use crate::sweep::Sweep;
+use crate::value::Value;
 use std::sync::ledger::Ledger;
 use std::sync::{Mutex, Wait};
-use wt_core::{Call, Land, Notices, Reply, Weighs};
+use wt_core::{Call, Land, Notices, Reply};
 use wt_flights::Lead;
-use wt_keys::{Answers, CacheKey, Fault, Share, shard_of};
+use wt_keys::{CacheKey, Fault, shard_of};
 
 // One call at one shard, which isn't a seek.
 #[inline(always)]
-fn step_at<
-    K: CacheKey,
-    V: Share + Weighs + Answers<K> + Send + Sync,
-    S: ShardLedger,
-    H: Ledger,
-    R: Wait,
->(
+fn step_at<K: CacheKey, V: Value<K>, S: ShardLedger, H: Ledger, R: Wait>(
     rt: &R,
     shard: &Mutex<Recorded<K, V, S, H>>,
     mine: &mut Mine<K, V, S, H>,
@@ -54,13 +49,7 @@ fn step_at<
 
 // One seek at one shard.
 #[inline(always)]
-fn seek_at<
-    K: CacheKey,
-    V: Share + Weighs + Answers<K> + Send + Sync,
-    S: ShardLedger,
-    H: Ledger,
-    R: Wait,
->(
+fn seek_at<K: CacheKey, V: Value<K>, S: ShardLedger, H: Ledger, R: Wait>(
     rt: &R,
     shard: &Mutex<Recorded<K, V, S, H>>,
     mine: &mut Mine<K, V, S, H>,
@@ -77,7 +66,7 @@ fn seek_at<
     hold(rt, shard).seek(rt, mine, key, now, notices)
 }
 
-impl<K: CacheKey, V: Share + Weighs + Answers<K> + Send + Sync, B: Books> Shards<K, V, B> {
+impl<K: CacheKey, V: Value<K>, B: Books> Shards<K, V, B> {
     // One call at the shard of a number, which isn't a seek.
     #[inline(always)]
     pub(crate) fn step<R: Wait>(
@@ -106,10 +95,11 @@ impl<K: CacheKey, V: Share + Weighs + Answers<K> + Send + Sync, B: Books> Shards
     /// Looks the key up at its shard, and returns `Hit` with a share of its value, or `Absent`, and
     /// the number of the step there.
     ///
-    /// `now` is in milliseconds. `StepsSpent` comes before `NoMemory`; a hit takes memory, and the
-    /// shard's lagging copy may. Takes that shard's lock, for one step. Expected O(1), unless an
-    /// attacker chooses the keys (see `Seeded`). Not promised: that the call returns, and that the
-    /// shard is still in the state that it tells of.
+    /// `now` is in milliseconds. `StepsSpent` comes before `NoMemory`. Only a hit takes memory, and
+    /// none if a share is a copy and the entry isn't in probation; the shard's lagging copy may.
+    /// Takes that shard's lock, for one step. Expected O(1), unless an attacker chooses the keys
+    /// (see `Seeded`). Not promised: that the call returns, and that the shard is still in the state
+    /// that it tells of.
     pub fn look<R: Wait>(
         &self,
         rt: &R,

@@ -12,11 +12,11 @@ use crate::recorded::Recorded;
 use crate::shard_ledger::ShardLedger;
 use crate::shards::Shards;
 use crate::totals::Totals;
+use crate::value::Value;
 use std::alloc::Global;
 use std::sync::Mutex;
 use std::sync::ledger::Ledger;
-use wt_core::Weighs;
-use wt_keys::{Answers, CacheKey, Fault, Share};
+use wt_keys::{CacheKey, Fault};
 
 // The sum of the passes' steps at a shard, if it fits.
 #[tactic(auto, using(std::proofs::lemmas::List::Sums::sum_by_more_le))]
@@ -52,13 +52,7 @@ fn hits_sum<K, V, B: Books>(passes: &Vec<Pass<K, V, B>>, shard: usize) -> Option
 
 // Ends the shard of a number, if there is one: its books are closed exactly if the passes add up to
 // them.
-fn settle_at<
-    K: CacheKey,
-    V: Share + Weighs + Answers<K> + Send + Sync,
-    S: ShardLedger,
-    H: Ledger,
-    B: Books,
->(
+fn settle_at<K: CacheKey, V: Value<K>, S: ShardLedger, H: Ledger, B: Books>(
     shard: Option<Mutex<Recorded<K, V, S, H>>>,
     passes: &Vec<Pass<K, V, B>>,
     number: u32,
@@ -93,7 +87,7 @@ fn settle_at<
     Ok(Some(closed))
 }
 
-impl<K: CacheKey, V: Share + Weighs + Answers<K> + Send + Sync, B: Books> Shards<K, V, B> {
+impl<K: CacheKey, V: Value<K>, B: Books> Shards<K, V, B> {
     /// Ends the shards, and compares their books with the passes that are handed back.
     ///
     /// In use: `uses::lines::finish`.

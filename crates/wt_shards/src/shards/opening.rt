@@ -14,12 +14,13 @@ use crate::recorded::Recorded;
 use crate::shard::Shard;
 use crate::shard_ledger::ShardLedger;
 use crate::shards::Shards;
+use crate::value::Value;
 use std::alloc::Global;
 use std::sync::ledger::{Blank, Ledger};
 use std::sync::{Mutex, Wait};
-use wt_core::{Call, Config, Weighs};
+use wt_core::{Call, Config};
 use wt_history::Fresh;
-use wt_keys::{Answers, CacheKey, Fault, Field, NoMemory, Share};
+use wt_keys::{CacheKey, Fault, Field, NoMemory};
 
 // Checks the number of shards, and then the configuration.
 fn check(config: &Config, shards: usize) -> Result<(), Fault>
@@ -36,7 +37,7 @@ fn check(config: &Config, shards: usize) -> Result<(), Fault>
 }
 
 // One shard behind its lock, if there is one of this number.
-fn locked<K: CacheKey, V: Share + Weighs + Answers<K> + Send + Sync, S: ShardLedger, H: Ledger>(
+fn locked<K: CacheKey, V: Value<K>, S: ShardLedger, H: Ledger>(
     alloc: Global,
     config: &Config,
     index: usize,
@@ -65,13 +66,10 @@ fn locked<K: CacheKey, V: Share + Weighs + Answers<K> + Send + Sync, S: ShardLed
 }
 
 // A caller's part at one shard, if there is one.
-fn mine_at<
-    K: CacheKey,
-    V: Share + Weighs + Answers<K> + Send + Sync,
-    S: ShardLedger,
-    H: Ledger,
-    R: Wait,
->(rt: &R, shard: &Option<Mutex<Recorded<K, V, S, H>>>) -> Result<Option<Mine<K, V, S, H>>, Fault>
+fn mine_at<K: CacheKey, V: Value<K>, S: ShardLedger, H: Ledger, R: Wait>(
+    rt: &R,
+    shard: &Option<Mutex<Recorded<K, V, S, H>>>,
+) -> Result<Option<Mine<K, V, S, H>>, Fault>
     ensures there { IfOk result (λ mine. IsSome mine ↔ IsSome shard.now) }
     ensures counts { IfOk result (λ mine. counts_of mine ≡ no_steps) }
     ensures front { IfOk result (λ mine. front_of mine ≡ []) }
@@ -86,7 +84,7 @@ fn mine_at<
     }
 }
 
-impl<K: CacheKey, V: Share + Weighs + Answers<K> + Send + Sync, B: Books> Shards<K, V, B> {
+impl<K: CacheKey, V: Value<K>, B: Books> Shards<K, V, B> {
     /// Makes `shards` empty shards, 1, 2 or 4, each for this configuration.
     ///
     /// `BadConfig` of the number of shards first, then as `Config::check` returns it, before memory

@@ -7,19 +7,17 @@ use crate::hold::hold;
 use crate::recorded::Recorded;
 use crate::shard_ledger::ShardLedger;
 use crate::shards::Shards;
+use crate::value::Value;
 use std::sync::ledger::Ledger;
 use std::sync::{Mutex, Wait};
-use wt_core::{Stats, Weighs};
-use wt_keys::{Answers, CacheKey, Share};
+use wt_core::Stats;
+use wt_keys::CacheKey;
 
 // The numbers of one shard, if there is one.
-fn stats_at<
-    K: CacheKey,
-    V: Share + Weighs + Answers<K> + Send + Sync,
-    S: ShardLedger,
-    H: Ledger,
-    R: Wait,
->(rt: &R, shard: &Option<Mutex<Recorded<K, V, S, H>>>) -> Stats
+fn stats_at<K: CacheKey, V: Value<K>, S: ShardLedger, H: Ledger, R: Wait>(
+    rt: &R,
+    shard: &Option<Mutex<Recorded<K, V, S, H>>>,
+) -> Stats
     ensures small { AreSmall result }
     ensures looked { result.hits + result.misses ≡ result.lookups }
 {
@@ -32,7 +30,7 @@ fn stats_at<
     held.shard.stats()
 }
 
-impl<K: CacheKey, V: Share + Weighs + Answers<K> + Send + Sync, B: Books> Shards<K, V, B> {
+impl<K: CacheKey, V: Value<K>, B: Books> Shards<K, V, B> {
     /// Returns how many entries one shard may hold. Takes no lock. O(1).
     pub fn entries(&self) -> u32
         ensures { result ≡ self.now.config.entries }

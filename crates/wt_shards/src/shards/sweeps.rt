@@ -9,11 +9,12 @@ use crate::done::Done;
 use crate::pass::Pass;
 use crate::shards::Shards;
 use crate::sweep::Sweep;
+use crate::value::Value;
 use std::sync::Wait;
-use wt_core::{Call, Notices, Reply, Weighs};
-use wt_keys::{Answers, CacheKey, Fault, Share};
+use wt_core::{Call, Notices, Reply};
+use wt_keys::{CacheKey, Fault};
 
-impl<K: CacheKey, V: Share + Weighs + Answers<K> + Send + Sync, B: Books> Shards<K, V, B> {
+impl<K: CacheKey, V: Value<K>, B: Books> Shards<K, V, B> {
     // One sweep at the shard of a number.
     fn sweep_one<R: Wait>(
         &self,

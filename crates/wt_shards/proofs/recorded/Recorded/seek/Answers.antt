@@ -1,11 +1,12 @@
 use Rattle.std.proofs.Common.{rules, ◌≡◌, List, [], ◌∷◌, ◌++◌, length, ap, sym, subst, ◌∙◌, refl}
 use Rattle.wt_core.specs.declared.calls.Call.{Call}
 use Rattle.wt_core.specs.declared.calls.Call.TheVariants.{Seek}
+use Rattle.wt_core.specs.Step.{refusal_of}
 use Rattle.wt_shards.specs.Audited.{Audited}
 use mathlib.Core.List.{IsPrefix}
 use Rattle.wt_shards.specs.History.{state_after}
 use Rattle.wt_shards.specs.Passes.{Mine}
-use Rattle.wt_shards.proofs.Histories.{made-behind, recorded-after}
+use Rattle.wt_shards.proofs.Histories.{cause-of, made-behind, recorded-after, refused-behind}
 use Rattle.wt_shards.proofs.recorded.Recorded.seek.Goals as goal
 
 pub invariant_of-self : goal.invariant_of-self
@@ -16,10 +17,15 @@ invariant_of-self g c =
     let call : Call K V = Seek c.args.key c.args.now in
     let calls : List (Call K V) = c.self.inside.history in
     let made = c.in-Ok.ensures.made in
-    let grown : c.write.new.self ≡ calls ++ call ∷ [] = c.write.ensures.state ∙ ap (λ (e : Call K V). calls ++ e ∷ []) c.ask-asked.ensures in
+    let grown : c.write.new.self ≡ calls ++ call ∷ [] = c.write.ensures.state
+    ∙ ap (λ (e : Call K V). calls ++ e ∷ []) c.ask-asked.ensures in
     let after = ap (λ (x : Audited K V). x.core) made.state in
-    let kept = recorded-after g.K.PartialEq.eq g.K.CacheKey.word g.V.Weighs.weight config calls c.self.inside.shard.core c.seek.new.self.core call c.self.invariant.0 c.self.invariant.1 made.allowed after in
-    subst (λ (w : List (Call K V)). (c.seek.new.self.core ≡ state_after g.K.PartialEq.eq g.K.CacheKey.word g.V.Weighs.weight config w) × (c.seek.new.self.core.step ≡ length w)) (sym grown) kept
+    let kept = recorded-after g.K.PartialEq.eq g.K.CacheKey.word g.V.Weighs.weight config calls
+    c.self.inside.shard.core c.seek.new.self.core call c.self.invariant.0 c.self.invariant.1 made.allowed
+    after in
+    subst (λ (w : List (Call K V)).
+    (c.seek.new.self.core ≡ state_after g.K.PartialEq.eq g.K.CacheKey.word g.V.Weighs.weight config w)
+    × (c.seek.new.self.core.step ≡ length w)) (sym grown) kept
 
 pub returns-in-Ok-clause-made : goal.returns-in-Ok-clause-made
 returns-in-Ok-clause-made g c =
@@ -28,15 +34,41 @@ returns-in-Ok-clause-made g c =
     let call : Call K V = Seek c.args.key c.args.now in
     let calls : List (Call K V) = c.self.inside.history in
     let made = c.in-Ok.ensures.made in
-    let grown : c.write.new.mine ≡ calls ++ call ∷ [] = c.write.ensures.seen ∙ c.write.ensures.state ∙ ap (λ (e : Call K V). calls ++ e ∷ []) c.ask-asked.ensures in
+    let grown : c.write.new.mine ≡ calls ++ call ∷ [] = c.write.ensures.seen ∙ c.write.ensures.state
+    ∙ ap (λ (e : Call K V). calls ++ e ∷ []) c.ask-asked.ensures in
     let before = subst (λ (w : List (Call K V)). IsPrefix w calls) (ap (λ (m : Mine K V). m.front) c.mine.view_is) c.write.ensures.before in
     record {
       moved = search rules;
       later = search rules;
-      step = made-behind g.K.PartialEq.eq g.K.CacheKey.word g.V.Weighs.weight g.V.Answers.answers g.S.ShardLedger.place call c.self.inside.shard.core calls _ _ _ _ _ _ c.self.invariant.0 c.self.invariant.1 c.steps-step.ensures.lawful
+      step = made-behind g.K.PartialEq.eq g.K.CacheKey.word g.V.Weighs.weight g.V.Answers.answers
+          g.S.ShardLedger.place call c.self.inside.shard.core calls _ _ _ _ _ _ c.self.invariant.0
+          c.self.invariant.1 c.steps-step.ensures.lawful
           before grown made.allowed made.answer made.notices (search rules);
       faults = tt;
       cause = tt;
       told = made.told;
       err = tt;
+    }
+
+pub returns-in-Err-clause-made : goal.returns-in-Err-clause-made
+returns-in-Err-clause-made g c =
+    let K = g.row.K.Denot in
+    let V = g.row.V.Denot in
+    let call : Call K V = Seek c.args.key c.args.now in
+    let calls : List (Call K V) = c.self.inside.history in
+    let made = c.in-Err.ensures.made in
+    let before = subst (λ (w : List (Call K V)). IsPrefix w calls) (ap (λ (m : Mine K V). m.front) c.mine.view_is) c.show.ensures.before in
+    record {
+      moved = tt;
+      later = tt;
+      step = tt;
+      faults = made.faults;
+      cause = refused-behind g.K.PartialEq.eq g.K.CacheKey.word g.V.Weighs.weight g.V.Answers.answers
+          g.S.ShardLedger.place call c.self.inside.shard.core calls _ _ c.in-Err.fault c.self.invariant.0
+          c.self.invariant.1 c.steps-step.ensures.lawful
+          before c.show.ensures.seen (cause-of _ _
+          (refusal_of g.K.PartialEq.eq g.K.CacheKey.word g.V.Weighs.weight c.self.inside.shard.core call)
+          c.in-Err.fault made.refusal);
+      told = made.told;
+      err = (made.err.1 ∙ ap (λ (m : Mine K V). m.counts) c.mine.view_is, made.err.2);
     }

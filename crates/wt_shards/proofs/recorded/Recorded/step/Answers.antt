@@ -15,10 +15,15 @@ invariant_of-self g c =
     let call : Call K V = c.args.call in
     let calls : List (Call K V) = c.self.inside.history in
     let made = c.in-Ok.ensures.made in
-    let grown : c.write.new.self ≡ calls ++ call ∷ [] = c.write.ensures.state ∙ ap (λ (e : Call K V). calls ++ e ∷ []) c.ask-asked.ensures in
+    let grown : c.write.new.self ≡ calls ++ call ∷ [] = c.write.ensures.state
+    ∙ ap (λ (e : Call K V). calls ++ e ∷ []) c.ask-asked.ensures in
     let after = ap (λ (x : Audited K V). x.core) made.state in
-    let kept = recorded-after g.K.PartialEq.eq g.K.CacheKey.word g.V.Weighs.weight config calls c.self.inside.shard.core c.step.new.self.core call c.self.invariant.0 c.self.invariant.1 made.allowed after in
-    subst (λ (w : List (Call K V)). (c.step.new.self.core ≡ state_after g.K.PartialEq.eq g.K.CacheKey.word g.V.Weighs.weight config w) × (c.step.new.self.core.step ≡ length w)) (sym grown) kept
+    let kept = recorded-after g.K.PartialEq.eq g.K.CacheKey.word g.V.Weighs.weight config calls
+    c.self.inside.shard.core c.step.new.self.core call c.self.invariant.0 c.self.invariant.1 made.allowed
+    after in
+    subst (λ (w : List (Call K V)).
+    (c.step.new.self.core ≡ state_after g.K.PartialEq.eq g.K.CacheKey.word g.V.Weighs.weight config w)
+    × (c.step.new.self.core.step ≡ length w)) (sym grown) kept
 
 pub returns-in-Ok-clause-made : goal.returns-in-Ok-clause-made
 returns-in-Ok-clause-made g c =
@@ -27,12 +32,15 @@ returns-in-Ok-clause-made g c =
     let call : Call K V = c.args.call in
     let calls : List (Call K V) = c.self.inside.history in
     let made = c.in-Ok.ensures.made in
-    let grown : c.write.new.mine ≡ calls ++ call ∷ [] = c.write.ensures.seen ∙ c.write.ensures.state ∙ ap (λ (e : Call K V). calls ++ e ∷ []) c.ask-asked.ensures in
+    let grown : c.write.new.mine ≡ calls ++ call ∷ [] = c.write.ensures.seen ∙ c.write.ensures.state
+    ∙ ap (λ (e : Call K V). calls ++ e ∷ []) c.ask-asked.ensures in
     let before = subst (λ (w : List (Call K V)). IsPrefix w calls) (ap (λ (m : Mine K V). m.front) c.mine.view_is) c.write.ensures.before in
     record {
       moved = search rules;
       later = search rules;
-      step = made-behind g.K.PartialEq.eq g.K.CacheKey.word g.V.Weighs.weight g.V.Answers.answers g.S.ShardLedger.place call c.self.inside.shard.core calls _ _ _ _ _ _ c.self.invariant.0 c.self.invariant.1 c.steps-step.ensures.lawful
+      step = made-behind g.K.PartialEq.eq g.K.CacheKey.word g.V.Weighs.weight g.V.Answers.answers
+          g.S.ShardLedger.place call c.self.inside.shard.core calls _ _ _ _ _ _ c.self.invariant.0
+          c.self.invariant.1 c.steps-step.ensures.lawful
           before grown made.allowed made.answer made.notices (search rules);
       faults = tt;
       cause = tt;

@@ -11,13 +11,18 @@ use Rattle.wt_shards.proofs.Configs.{accepted, refused-by_check}
 use Rattle.wt_shards.proofs.shard.Shard.new.Goals as goal
 
 pub returns-in-Err-clause-refusal : goal.returns-in-Err-clause-refusal
-returns-in-Err-clause-refusal g c = refused-by_check (λ x. Err x) (config_fault c.args.config.now) c.check.result c.in-Err.fault c.check.ensures.refusal c.in-Err.is
+returns-in-Err-clause-refusal g c =
+    refused-by_check (λ x. Err x) (config_fault c.args.config.now) c.check.result c.in-Err.fault
+    c.check.ensures.refusal c.in-Err.is
 
 pub returns-in_default-lists-clause-refusal : goal.returns-in_default-lists-clause-refusal
-returns-in_default-lists-clause-refusal g c = accepted _ (λ x. Err x) (config_fault c.args.config.now) c.check.result c.check.ensures.refusal c.in_default.is refl
+returns-in_default-lists-clause-refusal g c =
+    accepted _ (λ x. Err x) (config_fault c.args.config.now) c.check.result c.check.ensures.refusal
+    c.in_default.is refl
 
 pub returns-clause-refusal : goal.returns-clause-refusal
-returns-clause-refusal g c = accepted _ (λ x. Err x) (config_fault c.args.config.now) c.check.result c.check.ensures.refusal c.in_default.is tt
+returns-clause-refusal g c = accepted _ (λ x. Err x)
+    (config_fault c.args.config.now) c.check.result c.check.ensures.refusal c.in_default.is tt
 
 pub invariant_of-result : goal.invariant_of-result
 invariant_of-result g c =
@@ -31,9 +36,22 @@ invariant_of-result g c =
     let lagging = c.in-Ok.ensures.1 in
     let ring = c.in-Ok-lists.ensures.0 in
     let aside = c.in-Ok-lists.ensures.3 in
-    let is = same_shard (new_shard config) (record { config = config; core = c.in-Ok.core; lagging = c.in-Ok.lagging; records = c.in-Ok-lists.ring.items; landings = c.in-Ok-lists.landings.items; given = 0 })
+    let is = same_shard (new_shard config)
+    (record {
+      config = config;
+      core = c.in-Ok.core;
+      lagging = c.in-Ok.lagging;
+      records =
+          c.in-Ok-lists.ring.items;
+      landings = c.in-Ok-lists.landings.items;
+      given = 0;
+    })
     refl core lagging (ap (λ (b : Buffer (Call K Shade)). b.items) ring) c.in-Ok-lists.ensures.1 refl in (
-      subst (IsAudited eq word weight g.V.Answers.answers g.S.ShardLedger.place.shards g.S.ShardLedger.place.index) (sym is) (audited-new eq word weight g.V.Answers.answers g.S.ShardLedger.place.shards g.S.ShardLedger.place.index config c.in_default.ensures.within.ring_over (subst (IsLawful eq weight) core c.stats-stats.ensures.lawful)),
+      subst (IsAudited eq word weight g.V.Answers.answers g.S.ShardLedger.place.shards
+          g.S.ShardLedger.place.index) (sym is)
+          (audited-new eq word weight g.V.Answers.answers g.S.ShardLedger.place.shards
+          g.S.ShardLedger.place.index config c.in_default.ensures.within.ring_over
+          (subst (IsLawful eq weight) core c.stats-stats.ensures.lawful)),
       ap (λ (b : Buffer (Call K Shade)). b.capacity) ring,
       c.in-Ok-lists.ensures.2,
       omega (arith, ap (λ (s : State K Shade). s.regions.caps.entries) lagging, ap (λ (n : NoticeList K Shade). n.room) aside),
