@@ -14,7 +14,8 @@ below_suc : (i n : ℕ) → once_below i (suc n) ≡ once_below i n + cond (eqb 
 below_suc i n = grind (arith, nat_tests)
 
 module _ {K : Type 0} where
-  total_set : (f : Hand K → ℕ) (views : List (Hand K)) (port : ℕ) (v w : Hand K) → get_elem? views port ≡ some v → total f (set views port w) + f v ≡ total f views + f w
+  total_set : (f : Hand K → ℕ) (views : List (Hand K)) (port : ℕ) (v w : Hand K) → get_elem? views port ≡ some v
+      → total f (set views port w) + f v ≡ total f views + f w
   total_set f [] port v w at = absurd (some-ne-none v (sym at))
   total_set f (x ∷ xs) zero v w at = let e : f x ≡ f v = ap f (some-injective x v at) in omega arith
   total_set f (x ∷ xs) (suc port) v w at = let h = total_set f xs port v w at in omega arith
@@ -30,16 +31,19 @@ module _ {K : Type 0} where
   named_longer : (log : List (ℕ × K)) (y : ℕ × K) (ps : List (ℕ × (ℕ × K))) → AllNamed log ps → AllNamed (log ++ y ∷ []) ps
   named_longer log y ps h j p e = at_longer log (y ∷ []) p.0 p.1 (h j p e)
 
-  named_more : (log : List (ℕ × K)) (ps : List (ℕ × (ℕ × K))) (n : ℕ) (y : ℕ × K) → AllNamed log ps → get_elem? log n ≡ some y → AllNamed log (ps ++ (n, y) ∷ [])
+  named_more : (log : List (ℕ × K)) (ps : List (ℕ × (ℕ × K))) (n : ℕ) (y : ℕ × K) → AllNamed log ps
+      → get_elem? log n ≡ some y → AllNamed log (ps ++ (n, y) ∷ [])
   named_more log ps n y h at j p e = ⊎_elim (λ (x : get_elem? ps j ≡ some p). h j p x)
       (λ (is : (n, y) ≡ p). let P : ℕ × (ℕ × K) → Type 0 = λ q. get_elem? log q.0 ≡ some q.1 in subst P is at) (at_snoc ps (n, y) p j e)
 
-  all_set : (F : Hand K → Type 0) (views : List (Hand K)) (port : ℕ) (w : Hand K) → F w → ((j : ℕ) (u : Hand K) → get_elem? views j ≡ some u → F u)
+  all_set : (F : Hand K → Type 0) (views : List (Hand K)) (port : ℕ) (w : Hand K) → F w
+      → ((j : ℕ) (u : Hand K) → get_elem? views j ≡ some u → F u)
       → (j : ℕ) (u : Hand K) → get_elem? (set views port w) j ≡ some u → F u
   all_set F views port w mine others j u e = ⊎_elim (λ (x : (j ≡ port) × (w ≡ u)). subst F x.1 mine)
       (λ (x : (j ≢ port) × (get_elem? views j ≡ some u)). others j u x.1) (at_set views port j w u e)
 
-  pub pushes : (n port : ℕ) (v : Hand K) (x : Leading K) → Pushes Numbered n port v x (λ w. (k : ℕ) × (w ≡ hand (v.puts ++ (k, name x) ∷ []) v.takes))
+  pub pushes : (n port : ℕ) (v : Hand K) (x : Leading K)
+      → Pushes Numbered n port v x (λ w. (k : ℕ) × (w ≡ hand (v.puts ++ (k, name x) ∷ []) v.takes))
   pushes n port v x items views room h at =
       let k = length h.log in
       let y : ℕ × K = name x in
@@ -63,14 +67,19 @@ module _ {K : Type 0} where
               let s = total_set (λ u. times i u.takes) views port v w at in
               let o = h.takes_once i in
               omega (arith, s, o));
-          puts_named = all_set (λ u. AllNamed log u.puts) views port w (named_more log v.puts k y (named_longer h.log y v.puts (h.puts_named port v at)) (at_last h.log y k refl))
+          puts_named = all_set (λ u. AllNamed log u.puts) views port w
+              (named_more log v.puts k y (named_longer h.log y v.puts (h.puts_named port v at))
+              (at_last h.log y k refl))
               (λ j u e. named_longer h.log y u.puts (h.puts_named j u e));
-          takes_named = all_set (λ u. AllNamed log u.takes) views port w (named_longer h.log y v.takes (h.takes_named port v at)) (λ j u e. named_longer h.log y u.takes (h.takes_named j u e));
+          takes_named = all_set (λ u. AllNamed log u.takes) views port w
+              (named_longer h.log y v.takes (h.takes_named port v at))
+              (λ j u e. named_longer h.log y u.takes (h.takes_named j u e));
         },
         (k, refl),
       )
 
-  first_of : (l : List (ℕ × K)) (m : ℕ) (y : ℕ × K) (ys : List (ℕ × K)) → drop m l ≡ y ∷ ys → (get_elem? l m ≡ some y) × (drop (suc m) l ≡ ys) × (suc m ≤ length l)
+  first_of : (l : List (ℕ × K)) (m : ℕ) (y : ℕ × K) (ys : List (ℕ × K)) → drop m l ≡ y ∷ ys
+      → (get_elem? l m ≡ some y) × (drop (suc m) l ≡ ys) × (suc m ≤ length l)
   first_of [] zero y ys e = cc
   first_of [] (suc m) y ys e = cc
   first_of (x ∷ xs) zero y ys e = let a : x ≡ y = cc in let b : xs ≡ ys = cc in (ap some a, b, omega arith)
@@ -99,14 +108,17 @@ module _ {K : Type 0} where
               let o = h.takes_once i in
               omega (arith, s, t, b, o));
           puts_named = all_set (λ u. AllNamed h.log u.puts) views port w (h.puts_named port v at) (λ j u e. h.puts_named j u e);
-          takes_named = all_set (λ u. AllNamed h.log u.takes) views port w (named_more h.log v.takes k y (h.takes_named port v at) first.0) (λ j u e. h.takes_named j u e);
+          takes_named = all_set (λ u. AllNamed h.log u.takes) views port w
+              (named_more h.log v.takes k y (h.takes_named port v at) first.0) (λ j u e. h.takes_named j u e);
         },
         (k, refl),
       )
 
   all_snoc : (F : Hand K → Type 0) (views : List (Hand K)) (u : Hand K) → F u → ((j : ℕ) (v : Hand K) → get_elem? views j ≡ some v → F v)
       → (j : ℕ) (v : Hand K) → get_elem? (views ++ u ∷ []) j ≡ some v → F v
-  all_snoc F views u mine others j v e = ⊎_elim (λ (x : get_elem? views j ≡ some v). others j v x) (λ (is : u ≡ v). subst F is mine) (at_snoc views u v j e)
+  all_snoc F views u mine others j v e =
+      ⊎_elim (λ (x : get_elem? views j ≡ some v). others j v x) (λ (is : u ≡ v). subst F is mine)
+      (at_snoc views u v j e)
 
   none_named : (log : List (ℕ × K)) → AllNamed log []
   none_named log j p e = absurd (some-ne-none p (sym e))
@@ -136,4 +148,6 @@ module _ {K : Type 0} where
   }
 
   pub forks : (port : ℕ) (v : Hand K) → Forks {T = Leading K} Numbered port v v (hand [] [])
-  forks port v items views h at = let P : List (Hand K) → Type 0 = λ vs. Numbered items (vs ++ hand [] [] ∷ []) in subst P (sym (set_again views port v at)) (admits items views h)
+  forks port v items views h at = let P : List (Hand K)
+      → Type 0 = λ vs. Numbered items (vs ++ hand [] [] ∷ []) in
+      subst P (sym (set_again views port v at)) (admits items views h)

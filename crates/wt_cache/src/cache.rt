@@ -11,21 +11,16 @@ use crate::loader::Loader;
 use std::alloc::Global;
 use std::marker::Model;
 use std::sync::Wait;
-use wt_core::{Stats, Weighs};
-use wt_keys::{Answers, CacheKey, Fault, Share};
-use wt_shards::{Books, Pass, Shards};
+use wt_core::Stats;
+use wt_keys::{CacheKey, Fault};
+use wt_shards::{Books, Pass, Shards, Value};
 
 /// A cache that any number of threads share, and that loads what isn't there: one load for all
 /// callers that ask for a key at once.
 ///
 /// A load is run by the caller whose seek opened it, or, if the cache has a line, by a worker.
 #[derive(Drop)]
-pub struct LoadingCache<
-    K: CacheKey,
-    V: Share + Weighs + Answers<K> + Send + Sync,
-    L: Loader<K, V> + Drop,
-    B: Books,
-> {
+pub struct LoadingCache<K: CacheKey, V: Value<K>, L: Loader<K, V> + Drop, B: Books> {
     // The entries and the open loads, behind their locks.
     pub(crate) shards: Shards<K, V, B>,
     pub(crate) loader: L,
@@ -33,12 +28,8 @@ pub struct LoadingCache<
     pub(crate) line: Option<JobLine<K, V>>,
 }
 
-impl<
-    K: CacheKey,
-    V: Share + Weighs + Answers<K> + Send + Sync,
-    L: Loader<K, V> + Drop,
-    B: Books,
-> Model for LoadingCache<K, V, L, B> {
+impl<K: CacheKey, V: Value<K>, L: Loader<K, V> + Drop, B: Books> Model
+    for LoadingCache<K, V, L, B> {
     ghost use Rattle.std.specs.Prelude.{is_some};
     ghost use Rattle.wt_cache.specs.Cached.{Cached};
 
@@ -47,12 +38,7 @@ impl<
     ghost view = { λ c. record { layout = c.shards; lined = is_some c.line } };
 }
 
-impl<
-    K: CacheKey,
-    V: Share + Weighs + Answers<K> + Send + Sync,
-    L: Loader<K, V> + Drop,
-    B: Books,
-> LoadingCache<K, V, L, B> {
+impl<K: CacheKey, V: Value<K>, L: Loader<K, V> + Drop, B: Books> LoadingCache<K, V, L, B> {
     /// Makes a cache over these shards, with a line if loads are to be run by workers.
     ///
     /// Loads that are open already stay so: their leads are to be abandoned or posted. Takes no

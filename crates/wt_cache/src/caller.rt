@@ -5,40 +5,29 @@ mod calls;
 
 use crate::cache::LoadingCache;
 use crate::callers::Callers;
+use crate::idle::Loan;
 use crate::loader::Loader;
 use std::marker::Model;
 use std::sync::Wait;
-use wt_core::{Notice, Notices, Weighs};
-use wt_keys::{Answers, CacheKey, Share};
-use wt_shards::{Books, Pass};
+use wt_core::{Notice, Notices};
+use wt_keys::CacheKey;
+use wt_shards::{Books, Pass, Value};
 
 /// One thread's way to a cache, lent by `Callers::lend`: the leave to wait, a pass, and a list of
 /// what left the cache in its latest call.
 ///
 /// Its calls are those of `LoadingCache`, with these three filled in. It can't be dropped, so that
 /// its pass isn't lost: `give_back` ends it.
-pub struct Caller<
-    'c,
-    K: CacheKey,
-    V: Share + Weighs + Answers<K> + Send + Sync,
-    L: Loader<K, V> + Drop,
-    B: Books,
-    R: Wait,
-> {
+pub struct Caller<'c, K: CacheKey, V: Value<K>, L: Loader<K, V> + Drop, B: Books, R: Wait> {
     pub(crate) rt: &'c R,
     pub(crate) callers: &'c Callers<K, V, L, B>,
     pub(crate) pass: Pass<K, V, B>,
     pub(crate) left: Notices<K, V>,
+    pub(crate) loan: Loan,
 }
 
-impl<
-    'c,
-    K: CacheKey,
-    V: Share + Weighs + Answers<K> + Send + Sync,
-    L: Loader<K, V> + Drop,
-    B: Books,
-    R: Wait,
-> Model for Caller<'c, K, V, L, B, R> {
+impl<'c, K: CacheKey, V: Value<K>, L: Loader<K, V> + Drop, B: Books, R: Wait> Model
+    for Caller<'c, K, V, L, B, R> {
     ghost use Rattle.std.specs.Prelude.{◌+◌, ◌*◌, ◌≤◌, length};
     ghost use Rattle.wt_cache.specs.Calling.{Calling};
 
@@ -50,20 +39,21 @@ impl<
         ≤ c.left.room + length c.left.list };
 }
 
-impl<
+impl<'c, K: CacheKey, V: Value<K>, L: Loader<K, V> + Drop, B: Books, R: Wait> Caller<
     'c,
-    K: CacheKey,
-    V: Share + Weighs + Answers<K> + Send + Sync,
-    L: Loader<K, V> + Drop,
-    B: Books,
-    R: Wait,
-> Caller<'c, K, V, L, B, R> {
-    // A caller with this pass and this list.
+    K,
+    V,
+    L,
+    B,
+    R,
+> {
+    // A caller with this pass and this list, which owes the pass.
     pub(crate) fn new(
         rt: &'c R,
         callers: &'c Callers<K, V, L, B>,
         pass: Pass<K, V, B>,
         left: Notices<K, V>,
+        loan: Loan,
     ) -> Caller<'c, K, V, L, B, R>
         requires room { 2 * callers.now.layout.config.entries ≤ left.room + length left.list }
         ensures { result ≡ record { cache = callers.now; pass = pass; left = left } }
@@ -73,6 +63,7 @@ impl<
             callers,
             pass,
             left,
+            loan,
         }
     }
 
@@ -88,8 +79,9 @@ impl<
             callers,
             pass,
             left,
+            loan,
         } = self;
-        callers.take_back(rt, pass, left);
+        callers.take_back(rt, loan, pass, left);
     }
 
     /// Returns what left the cache in the latest call that empties this list, the earliest first.

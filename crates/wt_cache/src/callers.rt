@@ -3,70 +3,25 @@
 //   lend ──► a pass and a list that came back, or new ones ──► calls ──► give_back
 //
 // A pass is given out once and never taken back by the shards, so what lends callers keeps theirs.
-ghost use Rattle.std.specs.Prelude.{◌≡◌, ◌⊎◌, ◌≤◌, [], IfOk, IfErr};
+ghost use Rattle.std.specs.Prelude.{◌≡◌, ◌⊎◌, ◌+◌, [], IfOk, IfErr, length};
 ghost use Rattle.wt_keys.specs.declared.fault.Fault.TheVariants as fault;
 
 use crate::cache::LoadingCache;
 use crate::caller::Caller;
+use crate::idle::{Idle, Loan, Returned};
 use crate::loader::Loader;
 use std::alloc::Global;
 use std::marker::Model;
 use std::sync::{Mutex, Wait};
-use wt_core::{Notices, Weighs};
-use wt_keys::{Answers, CacheKey, Fault, NoMemory, Share};
-use wt_shards::{Books, Pass, Shards};
-
-// How many passes shards give out.
-const MOST_PASSES: usize = 65_535;
-
-// What no caller has at the moment.
-#[derive(Drop)]
-struct Idle<K, V, B: Books> {
-    passes: Vec<Pass<K, V, B>>,
-    lists: Vec<Notices<K, V>>,
-    // For how many passes and lists there is room to come back to: for as many as were ever lent.
-    room: usize,
-}
-
-impl<K: Drop, V: Drop, B: Books> Idle<K, V, B> {
-    // Returns an empty list for `room` notices: one that came back, or a new one.
-    fn list(&mut self, alloc: Global, room: usize) -> Result<Notices<K, V>, NoMemory>
-        ensures { IfOk result (λ list. (list.list ≡ []) × (room ≤ list.room)) }
-    {
-        if let Some(mut list) = self.lists.pop() {
-            // For the prover: shows that it is empty and has the room, as each that came back.
-            list.empty();
-            if list.has_room(room) {
-                return Ok(list);
-            }
-        }
-        Notices::new(alloc, room)
-    }
-
-    // Returns a pass that came back. Where there is none, makes the room for one more.
-    fn pass(&mut self) -> Result<Option<Pass<K, V, B>>, NoMemory> {
-        if let Some(pass) = self.passes.pop() {
-            return Ok(Some(pass));
-        }
-        let room = MOST_PASSES.min(self.room.saturating_add(1));
-        self.passes.reserve(room)?;
-        self.lists.reserve(room)?;
-        self.room = room;
-        Ok(None)
-    }
-}
+use wt_core::Notices;
+use wt_keys::{CacheKey, Fault};
+use wt_shards::{Books, Pass, Shards, Value};
 
 /// A cache that lends callers to threads, as many at once as its shards give out passes: 65,535.
 ///
 /// A caller that is given back leaves its pass and its list to the next one that is lent. So a
 /// server may lend one for each request, for as long as the cache lives.
-#[derive(Drop)]
-pub struct Callers<
-    K: CacheKey,
-    V: Share + Weighs + Answers<K> + Send + Sync,
-    L: Loader<K, V> + Drop,
-    B: Books,
-> {
+pub struct Callers<K: CacheKey, V: Value<K>, L: Loader<K, V> + Drop, B: Books> {
     cache: LoadingCache<K, V, L, B>,
     // Under its lock no other one is taken.
     idle: Mutex<Idle<K, V, B>>,
@@ -74,12 +29,7 @@ pub struct Callers<
     alloc: Global,
 }
 
-impl<
-    K: CacheKey,
-    V: Share + Weighs + Answers<K> + Send + Sync,
-    L: Loader<K, V> + Drop,
-    B: Books,
-> Model for Callers<K, V, L, B> {
+impl<K: CacheKey, V: Value<K>, L: Loader<K, V> + Drop, B: Books> Model for Callers<K, V, L, B> {
     ghost use Rattle.wt_cache.specs.Cached.{Cached};
 
     ghost Value = { Cached };
@@ -87,23 +37,25 @@ impl<
     ghost view = { λ c. c.cache };
 }
 
-impl<
-    K: CacheKey,
-    V: Share + Weighs + Answers<K> + Send + Sync,
-    L: Loader<K, V> + Drop,
-    B: Books,
-> Callers<K, V, L, B> {
+impl<K: CacheKey, V: Value<K>, L: Loader<K, V> + Drop, B: Books> Drop for Callers<K, V, L, B> {
+    fn drop(self) {
+        let Callers {
+            cache: _,
+            idle,
+            alloc: _,
+        } = self;
+        let _passes = Returned::of(idle.into_inner()).passes();
+    }
+}
+
+impl<K: CacheKey, V: Value<K>, L: Loader<K, V> + Drop, B: Books> Callers<K, V, L, B> {
     /// Makes the lender of a cache's callers. Takes no memory.
     pub fn new(alloc: Global, cache: LoadingCache<K, V, L, B>) -> Callers<K, V, L, B>
         ensures { result ≡ cache }
     {
         Callers {
             cache,
-            idle: Mutex::new(Idle {
-                passes: Vec::new(alloc),
-                lists: Vec::new(alloc),
-                room: 0,
-            }),
+            idle: Mutex::new(Idle::new(alloc)),
             alloc,
         }
     }
@@ -131,23 +83,27 @@ impl<
         let room = 2 * self.cache.entries() as usize;
         let mut idle = self.idle.lock(rt);
         let left = idle.list(self.alloc, room)?;
-        let pass = idle.pass()?;
+        let lent = idle.pass()?;
         drop(idle);
-        let pass = match pass {
-            Some(pass) => pass,
-            None => self.cache.pass(rt, self.alloc)?,
+        let (pass, loan) = match lent {
+            Some(lent) => lent,
+            None => (self.cache.pass(rt, self.alloc)?, Loan::first()),
         };
-        Ok(Caller::new(rt, self, pass, left))
+        Ok(Caller::new(rt, self, pass, left, loan))
     }
 
-    // Takes back what a caller had. `lend` made the room, so that neither push takes memory.
-    pub(crate) fn take_back<R: Wait>(&self, rt: &R, pass: Pass<K, V, B>, left: Notices<K, V>) {
+    // Takes back what a caller had.
+    pub(crate) fn take_back<R: Wait>(
+        &self,
+        rt: &R,
+        loan: Loan,
+        pass: Pass<K, V, B>,
+        left: Notices<K, V>,
+    ) {
         // Before the lock: dropping values is the values' own code.
         let mut left = left;
         left.empty();
-        let mut idle = self.idle.lock(rt);
-        let _ = idle.passes.push(pass);
-        let _ = idle.lists.push(left);
+        self.idle.lock(rt).take_in(rt, loan, pass, left);
     }
 
     /// Ends the cache, and returns its shards and all passes, for `settle`. A caller borrows, so
@@ -155,19 +111,16 @@ impl<
     ///
     /// The loader and the line are dropped, as `LoadingCache::finish` does it. Takes no memory and
     /// no lock.
-    pub fn finish(self) -> (Shards<K, V, B>, Vec<Pass<K, V, B>>)
-        ensures { result.0 ≡ self.layout }
+    pub fn finish(self) -> (Shards<K, V, B>, Returned<K, V, B>)
+        ensures shards { result.0 ≡ self.layout }
+        // No pass is lost: each that came back is there, but for those that are lent again.
+        ensures back { result.1.came ≡ length result.1.passes + result.1.lent }
     {
         let Callers {
             cache,
             idle,
             alloc: _,
         } = self;
-        let Idle {
-            passes,
-            lists: _,
-            room: _,
-        } = idle.into_inner();
-        (cache.finish(), passes)
+        (cache.finish(), Returned::of(idle.into_inner()))
     }
 }

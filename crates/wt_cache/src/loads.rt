@@ -19,10 +19,10 @@ ghost use Rattle.wt_cache.specs.Moves.{HasLanded};
 use crate::cache::LoadingCache;
 use crate::loader::Loader;
 use std::sync::Wait;
-use wt_core::{Land, Notices, Weighs};
+use wt_core::{Land, Notices};
 use wt_flights::{Lead, Outcome, Publish, Ticket};
 use wt_keys::{Answers, CacheKey, Fault, Share};
-use wt_shards::{Books, Pass};
+use wt_shards::{Books, Pass, Value};
 
 /// How a load ended, for the caller or worker that ran it.
 #[derive(Drop)]
@@ -75,12 +75,7 @@ pub(crate) fn value_in<V>(outcome: Outcome<V>) -> Result<V, Fault>
     }
 }
 
-impl<
-    K: CacheKey,
-    V: Share + Weighs + Answers<K> + Send + Sync,
-    L: Loader<K, V> + Drop,
-    B: Books,
-> LoadingCache<K, V, L, B> {
+impl<K: CacheKey, V: Value<K>, L: Loader<K, V> + Drop, B: Books> LoadingCache<K, V, L, B> {
     // Lands a load at its moment.
     fn land<R: Wait>(
         &self,

@@ -12,12 +12,12 @@ use std::marker::Brand;
 use std::sync::Wait;
 use std::thread;
 use std::thread::Threads;
-use wt_core::{Config, Weighs};
-use wt_keys::{Answers, CacheKey, Fault, NoMemory, Share};
-use wt_shards::{Blanks, Books, Names, Of, Shards};
+use wt_core::Config;
+use wt_keys::{CacheKey, Fault, NoMemory};
+use wt_shards::{Blanks, Books, Names, Of, Shards, Value};
 
 /// A source of values, and what each thread does with a cache before it.
-pub trait Service<K: CacheKey, V: Share + Weighs + Answers<K> + Send + Sync>: Loader<K, V> {
+pub trait Service<K: CacheKey, V: Value<K>>: Loader<K, V> {
     ghost use Rattle.std.specs.Prelude.{⊤, ℕ, Result};
     ghost use Rattle.wt_keys.specs.declared.fault.Fault.{Fault};
 
@@ -45,12 +45,7 @@ pub trait Service<K: CacheKey, V: Share + Weighs + Answers<K> + Send + Sync>: Lo
 /// asked for. Where a thread gets no caller, its own answer is the fault, as `Callers::lend` returns
 /// it. Where no thread can be made, the work is done one after another. Takes memory as
 /// `Shards::new` does, and for the answers. Not promised: that it returns.
-pub fn serve<
-    K: CacheKey,
-    V: Share + Weighs + Answers<K> + Send + Sync,
-    S: Service<K, V>,
-    R: Threads + Wait + Sync,
->(
+pub fn serve<K: CacheKey, V: Value<K>, S: Service<K, V>, R: Threads + Wait + Sync>(
     rt: &R,
     alloc: Global,
     config: &Config,
@@ -66,7 +61,7 @@ pub fn serve<
 // The same, over books of these names.
 fn serve_as<
     K: CacheKey,
-    V: Share + Weighs + Answers<K> + Send + Sync,
+    V: Value<K>,
     S: Service<K, V>,
     N: Names + Send + Sync,
     R: Threads + Wait + Sync,
@@ -95,7 +90,7 @@ fn serve_as<
 // The same, over these shards.
 fn serve_over<
     K: CacheKey,
-    V: Share + Weighs + Answers<K> + Send + Sync,
+    V: Value<K>,
     S: Service<K, V>,
     N: Names + Send + Sync,
     R: Threads + Wait + Sync,
@@ -124,13 +119,12 @@ fn serve_over<
 }
 
 // The work of one thread, through a caller that is lent for it.
-fn work_at<
-    K: CacheKey,
-    V: Share + Weighs + Answers<K> + Send + Sync,
-    S: Service<K, V>,
-    B: Books,
-    R: Wait,
->(rt: &R, callers: &Callers<K, V, &S, B>, service: &S, thread: usize) -> Result<S::Answer, Fault>
+fn work_at<K: CacheKey, V: Value<K>, S: Service<K, V>, B: Books, R: Wait>(
+    rt: &R,
+    callers: &Callers<K, V, &S, B>,
+    service: &S,
+    thread: usize,
+) -> Result<S::Answer, Fault>
     ensures { IsBrought (S.gives service.now thread) result }
 {
     let mut caller = callers.lend(rt)?;

@@ -8,20 +8,15 @@ use crate::got::WorkerReport;
 use crate::line_pass::LinePass;
 use crate::loader::Loader;
 use std::sync::Wait;
-use wt_core::{Notices, Weighs};
+use wt_core::Notices;
 use wt_flights::Lead;
-use wt_keys::{Answers, CacheKey, Share};
-use wt_shards::{Books, Pass};
+use wt_keys::CacheKey;
+use wt_shards::{Books, Pass, Value};
 
 // The loads after which a worker ends, so that its counts can't wrap. Ours.
 const MOST_JOBS: u64 = 1 << 40;
 
-impl<
-    K: CacheKey,
-    V: Share + Weighs + Answers<K> + Send + Sync,
-    L: Loader<K, V> + Drop,
-    B: Books,
-> LoadingCache<K, V, L, B> {
+impl<K: CacheKey, V: Value<K>, L: Loader<K, V> + Drop, B: Books> LoadingCache<K, V, L, B> {
     /// Takes loads off the line and runs them, and reports how many there were.
     ///
     /// Ends once the line is closed and it found no load there; after 2^40 loads; or at once if the

@@ -12,16 +12,11 @@ ghost use Rattle.wt_cache.specs.Contract.{IsPutCall};
 use crate::cache::LoadingCache;
 use crate::loader::Loader;
 use std::sync::Wait;
-use wt_core::{Notices, Reply, Weighs};
-use wt_keys::{Answers, CacheKey, Fault, Share};
-use wt_shards::{Books, Done, Pass};
+use wt_core::{Notices, Reply};
+use wt_keys::{CacheKey, Fault};
+use wt_shards::{Books, Done, Pass, Value};
 
-impl<
-    K: CacheKey,
-    V: Share + Weighs + Answers<K> + Send + Sync,
-    L: Loader<K, V> + Drop,
-    B: Books,
-> LoadingCache<K, V, L, B> {
+impl<K: CacheKey, V: Value<K>, L: Loader<K, V> + Drop, B: Books> LoadingCache<K, V, L, B> {
     /// Returns a share of the key's value, `Hit`, or `Absent` if there is none. Loads nothing,
     /// and waits for no load.
     ///

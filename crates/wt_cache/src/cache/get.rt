@@ -27,17 +27,12 @@ use crate::line_pass::LinePass;
 use crate::loader::Loader;
 use crate::loads::{Ran, value_in, value_of};
 use std::sync::Wait;
-use wt_core::{Notices, Weighs};
+use wt_core::Notices;
 use wt_flights::{Lead, Publish, Ticket};
-use wt_keys::{Answers, CacheKey, Fault, Share};
-use wt_shards::{Books, Pass, Sought};
+use wt_keys::{CacheKey, Fault};
+use wt_shards::{Books, Pass, Sought, Value};
 
-impl<
-    K: CacheKey,
-    V: Share + Weighs + Answers<K> + Send + Sync,
-    L: Loader<K, V> + Drop,
-    B: Books,
-> LoadingCache<K, V, L, B> {
+impl<K: CacheKey, V: Value<K>, L: Loader<K, V> + Drop, B: Books> LoadingCache<K, V, L, B> {
     /// Returns the value of the key: the one that is there, or the one that is loaded, once for all
     /// callers that ask meanwhile.
     ///

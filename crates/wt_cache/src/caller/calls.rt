@@ -10,18 +10,18 @@ use crate::caller::Caller;
 use crate::got::Got;
 use crate::loader::Loader;
 use std::sync::Wait;
-use wt_core::{Notices, Reply, Weighs};
-use wt_keys::{Answers, CacheKey, Fault, Share};
-use wt_shards::{Books, Done};
+use wt_core::{Notices, Reply};
+use wt_keys::{CacheKey, Fault};
+use wt_shards::{Books, Done, Value};
 
-impl<
+impl<'c, K: CacheKey, V: Value<K>, L: Loader<K, V> + Drop, B: Books, R: Wait> Caller<
     'c,
-    K: CacheKey,
-    V: Share + Weighs + Answers<K> + Send + Sync,
-    L: Loader<K, V> + Drop,
-    B: Books,
-    R: Wait,
-> Caller<'c, K, V, L, B, R> {
+    K,
+    V,
+    L,
+    B,
+    R,
+> {
     /// Returns the value of the key, loaded for all that ask meanwhile if it isn't there:
     /// `LoadingCache::get`, which has the rest of what this call does.
     ///

@@ -13,8 +13,8 @@ use wt_cache::How;
 use wt_keys::Fault;
 use wt_shards::Names;
 
-// Gives way so often that a worker that finds nothing to do falls asleep.
-fn pause() {
+/// Gives way so often that a thread that finds nothing to do falls asleep.
+pub fn pause() {
     for _ in 0..1_000u64 {
         thread::yield_now();
     }

@@ -1,8 +1,9 @@
 // Several callers: one load for all of them, and a put while it lasts.
+use crate::tests::asleep::pause;
 use crate::tests::calls::{Led, abandon, get, put};
 use crate::tests::compare::{holds, same};
 use crate::tests::stage::{Cache, Marks, Version, config, rises};
-use crate::tests::together::{Answer, Scene, gets, plays};
+use crate::tests::together::{Answer, Scene, gets, gets_at, plays};
 use std::alloc::Global;
 use std::process::Abort;
 use std::sync::Wait;
@@ -14,6 +15,9 @@ use wt_cache::How;
 use wt_flights::Lead;
 use wt_keys::Fault;
 use wt_shards::Names;
+
+// A moment of 13 digits, as a clock of the day gives it, above 2^40.
+const TODAY: u64 = 1_700_000_000_000;
 
 // Gets a key once its load has begun, which is the one of this number.
 fn gets_later<N: Names, R: Wait>(
@@ -27,14 +31,15 @@ fn gets_later<N: Names, R: Wait>(
     if !rises(&marks.begun, load) {
         return Err(Fault::Mixed);
     }
-    gets(rt, alloc, cache, key)
+    gets_at(rt, alloc, cache, key, TODAY)
 }
 
 // Releases the load of this number once two look-ups for each load have missed, within 10,000,000
-// turns.
+// turns, and the caller that joined it sleeps.
 fn releases<N: Names, R: Wait>(rt: &R, cache: &Cache<N>, marks: &Marks, load: u64) -> bool {
     for _ in 0..10_000_000u64 {
         if cache.stats(rt).misses == load.wrapping_mul(2) {
+            pause();
             marks.released.store(load, Ordering::SeqCst);
             return true;
         }
@@ -54,13 +59,14 @@ fn ask_twice<N: Names + Send + Sync, R: Threads + Wait + Sync>(
 ) -> (Answer, Answer) {
     thread::join(
         rt,
-        || gets(rt, alloc, cache, key),
+        || gets_at(rt, alloc, cache, key, TODAY),
         || gets_later(rt, alloc, cache, marks, key, load),
     )
 }
 
-/// Two callers ask for a key while its load is held, which is the one of this number, from 1: what
-/// the caller that loads gets, and the one that joins.
+/// Two callers ask for a key today while its load is held, which is the one of this number, from 1:
+/// what the caller that loads gets, and the one that joins. That one sleeps: a load that weren't
+/// published, or woke nobody, would never end this.
 pub fn shares<N: Names + Send + Sync, R: Threads + Wait + Abort + Sync>(
     rt: &R,
     alloc: Global,

@@ -78,10 +78,21 @@ impl Scene {
 /// How a key is got, and the line of the version.
 pub type Answer = Result<(How, u64), Fault>;
 
-/// A caller with a pass of its own gets a key.
+/// A caller with a pass of its own gets a key at the moment 0.
 pub fn gets<N: Names, R: Wait>(rt: &R, alloc: Global, cache: &Cache<N>, key: u64) -> Answer {
+    gets_at(rt, alloc, cache, key, 0)
+}
+
+/// The same at a moment.
+pub fn gets_at<N: Names, R: Wait>(
+    rt: &R,
+    alloc: Global,
+    cache: &Cache<N>,
+    key: u64,
+    now: u64,
+) -> Answer {
     let mut pass = cache.pass(rt, alloc)?;
-    let (how, line, _step) = get(rt, alloc, cache, &mut pass, key, 0)?;
+    let (how, line, _step) = get(rt, alloc, cache, &mut pass, key, now)?;
     Ok((how, line))
 }
 

@@ -236,15 +236,23 @@ fn refused<N: Names, R: Wait>(rt: &R, callers: &Lender<N>) -> Result<(), Fault> 
     Ok(())
 }
 
-// Ends a cache: all passes that were ever lent settle.
-fn ended<N: Names, R: Wait>(
+// Ends a cache: all passes that were ever lent are there, and settle.
+fn ended<N: Names, R: Wait + Abort>(
     rt: &R,
     alloc: Global,
     callers: Lender<N>,
     count: usize,
 ) -> Result<Ended, Fault> {
-    let (shards, passes) = callers.finish();
+    let (shards, returned) = callers.finish();
+    let counted = (returned.came(), returned.lent());
+    let passes = returned.passes();
     let made = passes.len();
+    same(
+        rt,
+        "passes that came back, and are lent",
+        counted,
+        (made, 0),
+    );
     let totals = shards.settle(rt, alloc, passes)?;
     let mut steps = 0u64;
     let mut hits = 0u64;

@@ -9,7 +9,8 @@ returns-in-Ok-serve_over g c = record {
   made = record {
     len = c.in-Ok-serve_over.ensures.len;
     each = c.in-Ok-serve_over.ensures.each;
-    refusal = accepted _ _ (layout_fault c.args.shards c.args.config.now) c.in-Ok.made (Ok c.in-Ok-serve_over.answers) c.in-Ok.ensures.refusal tt;
+    refusal = accepted _ _ (layout_fault c.args.shards c.args.config.now) c.in-Ok.made
+        (Ok c.in-Ok-serve_over.answers) c.in-Ok.ensures.refusal tt;
   };
 }
 

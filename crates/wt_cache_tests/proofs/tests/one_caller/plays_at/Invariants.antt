@@ -3,4 +3,9 @@ use Rattle.wt_cache_tests.proofs.tests.one_caller.plays_at.Given as goal
 
 -- the ledgers of a test's cache: named by its blanks, and laid out as it is made
 abbrev pub ghosts-played : goal.ghosts-played
-ghosts-played g a = record { name = names_of a.blanks; book = books_of a.blanks; layout = record { shards = a.count; config = a.config.now } }
+ghosts-played g a = record {
+  name = names_of a.blanks;
+  book = books_of a.blanks;
+  layout =
+      record { shards = a.count; config = a.config.now };
+}
