@@ -22,12 +22,25 @@ module _ {K : Type 0} (keys : Keys K) (o : Options) (c : Cached) (old new : Seen
   acted n l a is done = subst (λ (b : Act K). HasDone keys o c old new n l.moment b) (sym is) done
 
   -- a call that was made
-  pub made_of : {R : Type 0} (k : K) (call : Call K (Version K)) (said : R → Reply (Version K)) (before after : NoticeList K (Version K)) (done : Done R)
-      → IsHomeCall keys.eq keys.word (weight_of keys) (answers_for keys) (home_at keys.word k c.layout) call said old new before after (Ok done) → HasMade keys o c old new k call
-  made_of k call said before after done made = record { reply = said done.reply; number = done.step; before = before; after = after; step = made.step; moved = made.moved; elsewhere = made.elsewhere }
+  pub made_of : {R : Type 0} (k : K) (call : Call K (Version K)) (said : R → Reply (Version K))
+      (before after : NoticeList K (Version K)) (done : Done R)
+      → IsHomeCall keys.eq keys.word (weight_of keys) (answers_for keys)
+      (home_at keys.word k c.layout) call said old new before after (Ok done)
+      → HasMade keys o c old new k call
+  made_of k call said before after done made =
+      record {
+        reply = said done.reply;
+        number = done.step;
+        before = before;
+        after = after;
+        step = made.step;
+        moved = made.moved;
+        elsewhere = made.elsewhere;
+      }
 
   -- a sweep, if it was made
   pub swept : (call : Call K (Version K)) (before after : NoticeList K (Version K)) (r : Result (Unit {0}) Fault)
-      → IsSweepCall keys.eq keys.word (weight_of keys) (answers_for keys) c.layout call old new before after r → OnOk r (HasSwept keys o c old new call)
+      → IsSweepCall keys.eq keys.word (weight_of keys) (answers_for keys) c.layout call old new before after r
+      → OnOk r (HasSwept keys o c old new call)
   swept call before after (Ok x) made = record { before = before; after = after; steps = made.steps; moved = made.moved }
   swept call before after (Err f) made = tt

@@ -21,7 +21,8 @@ told shut WriteFault is = absurd is
 told shut (GateShut n) is = absurd is
 
 -- where all lines before it may be done, the verdict's fault is what is wrong
-pub faulty_verdict : {K : Type 0} (shut : ℕ → Type 0) (n : ℕ) (t : Trace K) (f : ReplayFault) → first_open n t.lines ≡ None → t.verdict ≡ Err f → IsVerdict t.verdict → IsTurnFault shut (faulty n t) f
+pub faulty_verdict : {K : Type 0} (shut : ℕ → Type 0) (n : ℕ) (t : Trace K) (f : ReplayFault)
+    → first_open n t.lines ≡ None → t.verdict ≡ Err f → IsVerdict t.verdict → IsTurnFault shut (faulty n t) f
 faulty_verdict shut n t f none err is =
     let whole : faulty n t ≡ Some f = λ i. option_or (option_map BadLine (none i)) (fault_in (err i)) in
     subst (λ (w : Option ReplayFault). IsTurnFault shut w f) (sym whole) (told shut f (subst IsVerdict err is))
@@ -33,7 +34,8 @@ not_there (Some x) none = absurd (none x refl)
 
 module _ (shut : ℕ → Type 0) (bytes : List ℕ) where
   -- a run that ends so wrote nothing, and the fault of a line is what is wrong with the trace
-  turned_fault : (r s w x : Option (List ℕ)) → Gave r s bytes → Keeps w x → (f : ReplayFault) → IsTurnFault shut (turn_fault bytes) f → Turned r s w x (Err f)
+  turned_fault : (r s w x : Option (List ℕ)) → Gave r s bytes → Keeps w x → (f : ReplayFault)
+      → IsTurnFault shut (turn_fault bytes) f → Turned r s w x (Err f)
   turned_fault r s w x gave keeps (BadLine n) is = (bytes, gave, is, keeps)
   turned_fault r s w x gave keeps (LineTooLong n) is = (bytes, gave, is, keeps)
   turned_fault r s w x gave keeps TooManyLines is = (bytes, gave, is, keeps)
@@ -43,9 +45,12 @@ module _ (shut : ℕ → Type 0) (bytes : List ℕ) where
   turned_fault r s w x gave keeps (GateShut n) is = keeps
 
   -- and so where it is passed on
-  pub turned_on : (r s w x : Option (List ℕ)) → Gave r s bytes → Keeps w x → (o : Result (Unit {0}) ReplayFault) (e : ReplayFault) → IsErrAnd o (λ f. f ≡ e) → IsTurnFault shut (turn_fault bytes) e → Turned r s w x o
+  pub turned_on : (r s w x : Option (List ℕ)) → Gave r s bytes → Keeps w x
+      → (o : Result (Unit {0}) ReplayFault) (e : ReplayFault) → IsErrAnd o (λ f. f ≡ e)
+      → IsTurnFault shut (turn_fault bytes) e → Turned r s w x o
   turned_on r s w x gave keeps (Ok u) e is holds = absurd is
-  turned_on r s w x gave keeps (Err f) e is holds = turned_fault r s w x gave keeps f (subst (IsTurnFault shut (turn_fault bytes)) (sym is) holds)
+  turned_on r s w x gave keeps (Err f) e is holds =
+      turned_fault r s w x gave keeps f (subst (IsTurnFault shut (turn_fault bytes)) (sym is) holds)
 
   -- no such fault is one of the options
   no_config : (f : ReplayFault) → IsTurnFault shut (turn_fault bytes) f → is_config_fault f ≡ false
@@ -57,6 +62,7 @@ module _ (shut : ℕ → Type 0) (bytes : List ℕ) where
   no_config (Cache fault) is = is
   no_config (GateShut n) is = refl
 
-  pub no_config_on : (o : Result (Unit {0}) ReplayFault) (e : ReplayFault) → IsErrAnd o (λ f. f ≡ e) → IsTurnFault shut (turn_fault bytes) e → IfErr o (λ f. is_config_fault f ≡ false)
+  pub no_config_on : (o : Result (Unit {0}) ReplayFault) (e : ReplayFault) → IsErrAnd o (λ f. f ≡ e)
+      → IsTurnFault shut (turn_fault bytes) e → IfErr o (λ f. is_config_fault f ≡ false)
   no_config_on (Ok u) e is holds = tt
   no_config_on (Err f) e is holds = subst (λ g. is_config_fault g ≡ false) (sym is) (no_config e holds)

@@ -16,6 +16,10 @@ on_ok (Ok x) f a = f a
 on_ok (Err e) f a = tt
 
 -- behind a header
-pub behind_header : (passed : ℕ → Type 0) (b : Bool) (lines rest : List (List ℕ)) → b ≡ true → drop 1 lines ≡ rest → AreAsked (λ _. true) passed 2 (trace_from names.read 2 rest).lines → let_through_by b passed lines
+pub behind_header : (passed : ℕ → Type 0) (b : Bool) (lines rest : List (List ℕ)) → b ≡ true
+    → drop 1 lines ≡ rest → AreAsked (λ _. true) passed 2 (trace_from names.read 2 rest).lines
+    → let_through_by b passed lines
 behind_header passed b lines rest is behind asked =
-    subst (λ c. let_through_by c passed lines) (sym is) (subst (λ (ls : List (List ℕ)). AreAsked (λ _. true) passed 2 (trace_from names.read 2 ls).lines) (sym behind) asked)
+    subst (λ c. let_through_by c passed lines) (sym is)
+    (subst (λ (ls : List (List ℕ)). AreAsked (λ _. true) passed 2 (trace_from names.read 2 ls).lines)
+    (sym behind) asked)

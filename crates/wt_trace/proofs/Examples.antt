@@ -38,7 +38,8 @@ the_last_leaves = refl
 
 -- the candidate is let in where it was asked for more often than the victim
 pub loads_and_evictions : report four (codes "0 G 1\n0 G 2\n0 G 3\n0 G 4\n0 G 1\n0 G 5\n0 G 4\n0 G 6\n") ≡ good (codes "1 load\n2 load\n3 load\n4 load\n5 hit 1\n6 load 4:4:size\n7 load 5:6:size\n8 load 2:2:size\nlookups 8 hits 1 misses 7 loads 7 failed 0 evicted 3 entries 4 weight 4\n")
-unfolding counted counted_word bits_for bits_from estimate_of checked line_step answers line_text count_text summary summary_of printed digits
+unfolding counted counted_word bits_for bits_from estimate_of checked line_step answers line_text count_text
+    summary summary_of printed digits
 loads_and_evictions = refl
 
 pub expired_after_write : report (record four { write = Some 100 }) (codes "0 P 1\n99 L 1\n100 L 1\n") ≡ good (codes "1 put\n2 hit 1\n3 absent 1:1:expired\nlookups 2 hits 1 misses 1 loads 0 failed 0 evicted 1 entries 0 weight 0\n")
@@ -98,7 +99,8 @@ unfolding counted_word estimate_of checked line_step answers line_text count_tex
 a_heavy_load = refl
 
 pub stores_and_evictions : report four (codes "0 P 1\n0 P 2\n0 P 3\n0 P 4\n0 L 1\n0 P 5\n0 P 4\n0 P 6\n") ≡ good (codes "1 put\n2 put\n3 put\n4 put\n5 hit 1\n6 put 4:4:size\n7 put 5:6:size\n8 put 2:2:size\nlookups 1 hits 1 misses 0 loads 0 failed 0 evicted 3 entries 4 weight 4\n")
-unfolding counted counted_word bits_for bits_from estimate_of checked line_step answers line_text count_text summary summary_of printed digits
+unfolding counted counted_word bits_for bits_from estimate_of checked line_step answers line_text count_text
+    summary summary_of printed digits
 stores_and_evictions = refl
 
 pub a_store_over_an_expired_entry : report (record four { write = Some 100 }) (codes "0 P 1\n100 P 1\n") ≡ good (codes "1 put\n2 put 1:1:expired\nlookups 0 hits 0 misses 0 loads 0 failed 0 evicted 1 entries 1 weight 1\n")
@@ -220,15 +222,30 @@ unfolding counted_word estimate_of checked line_step answers line_text count_tex
 lines_that_are_none = refl
 
 -- the first field that is out of its range
-pub faults_of_options : map option_fault (four ∷ default_options ∷ record four { shards = 0 } ∷ record four { shards = 3 } ∷ record four { entries = 0 } ∷ record four { entries = 65537 } ∷ record four { window = Some 0 } ∷ record four { window = Some 5 } ∷ record four { weight = 0 }
-    ∷ record four { weight = 281474976710657 } ∷ record four { modulus = 0 } ∷ record four { modulus = 1000001 } ∷ record four { write = Some 0 } ∷ record four { access = Some 0 } ∷ record four { refresh = Some 0; flights = 0 } ∷ record four { fail_mod = Some 0 }
-    ∷ record four { flights = 0 } ∷ record four { flights = 4097 } ∷ record four { ring = Some 32 } ∷ record four { ring = Some 65537 } ∷ record four { flights = 4096; ring = Some 4096 } ∷ record four { threads = 65 } ∷ record four { turn = 1 } ∷ record four { turn = 64; workers = 64 } ∷ record four { turn = 65 } ∷ record four { turn = 2; threads = 2 } ∷ record four { turn = 2; workers = 65 } ∷ record four { workers = 1 } ∷ [])
-    ≡ None ∷ None ∷ Some field.Shards ∷ Some field.Shards ∷ Some field.Entries ∷ Some field.Entries ∷ Some field.Window ∷ Some field.Window ∷ Some field.Bound
-    ∷ Some field.Bound ∷ Some field.Modulus ∷ Some field.Modulus ∷ Some field.AfterWrite ∷ Some field.AfterAccess ∷ Some field.Refresh ∷ Some field.FailMod
-    ∷ Some field.Flights ∷ Some field.Flights ∷ Some field.Ring ∷ Some field.Ring ∷ Some field.Ring ∷ Some field.Threads ∷ None ∷ None ∷ Some field.Turn ∷ Some field.Turn ∷ Some field.Workers ∷ Some field.Workers ∷ []
+pub faults_of_options : map option_fault
+    (four ∷ default_options ∷ record four { shards = 0 } ∷ record four { shards = 3 } ∷ record four
+    { entries = 0 } ∷ record four { entries = 65537 } ∷ record four { window = Some 0 } ∷ record four
+    { window = Some 5 } ∷ record four { weight = 0 }
+    ∷ record four { weight = 281474976710657 } ∷ record four { modulus = 0 } ∷ record four { modulus = 1000001 }
+    ∷ record four { write = Some 0 } ∷ record four { access = Some 0 } ∷ record four
+    { refresh = Some 0; flights = 0 } ∷ record four { fail_mod = Some 0 }
+    ∷ record four { flights = 0 } ∷ record four { flights = 4097 } ∷ record four { ring = Some 32 }
+    ∷ record four { ring = Some 65537 } ∷ record four { flights = 4096; ring = Some 4096 } ∷ record four
+    { threads = 65 } ∷ record four { turn = 1 } ∷ record four { turn = 64; workers = 64 } ∷ record four
+    { turn = 65 } ∷ record four { turn = 2; threads = 2 } ∷ record four { turn = 2; workers = 65 }
+    ∷ record four { workers = 1 } ∷ [])
+    ≡ None ∷ None ∷ Some field.Shards ∷ Some field.Shards ∷ Some field.Entries ∷ Some field.Entries ∷ Some
+    field.Window ∷ Some field.Window ∷ Some field.Bound
+    ∷ Some field.Bound ∷ Some field.Modulus ∷ Some field.Modulus ∷ Some field.AfterWrite ∷ Some
+    field.AfterAccess ∷ Some field.Refresh ∷ Some field.FailMod
+    ∷ Some field.Flights ∷ Some field.Flights ∷ Some field.Ring ∷ Some field.Ring ∷ Some field.Ring ∷ Some
+    field.Threads ∷ None ∷ None ∷ Some field.Turn ∷ Some field.Turn ∷ Some field.Workers ∷ Some
+    field.Workers ∷ []
 faults_of_options = refl
 
-pub fault_lines : map fault_line (Cache NoMemory ∷ Cache (BadConfig field.FailMod) ∷ BadLine 4 ∷ LineTooLong 12 ∷ TooManyLines ∷ ReadFault ∷ WriteFault ∷ GateShut 7 ∷ [])
+pub fault_lines : map fault_line
+    (Cache NoMemory ∷ Cache (BadConfig field.FailMod) ∷ BadLine 4 ∷ LineTooLong 12 ∷ TooManyLines ∷ ReadFault
+    ∷ WriteFault ∷ GateShut 7 ∷ [])
     ≡ codes "fault 1\n" ∷ codes "fault 2 field fail-mod\n" ∷ codes "fault 11 line 4\n" ∷ codes "fault 12 line 12\n" ∷ codes "fault 13\n" ∷ codes "fault 14\n" ∷ codes "fault 15\n" ∷ codes "fault 17 line 7\n" ∷ []
 unfolding digits
 fault_lines = refl

@@ -36,7 +36,9 @@ module _ {K : Type 0} (eq : K → K → Bool) (k : K) where
   more_id true r = refl
   more_id false r = refl
 
-  joined_ids : (rows : List (Row K)) → map (λ (r : Row K). r.id) (map (λ (r : Row K). if is_current eq k r then one_more r else r) rows) ≡ map (λ (r : Row K). r.id) rows
+  joined_ids : (rows : List (Row K))
+      → map (λ (r : Row K). r.id) (map (λ (r : Row K). if is_current eq k r then one_more r else r) rows)
+      ≡ map (λ (r : Row K). r.id) rows
   joined_ids [] = refl
   joined_ids (r ∷ rs) = λ i. more_id (is_current eq k r) r i ∷ joined_ids rs i
 
@@ -46,15 +48,21 @@ module _ {K : Type 0} (eq : K → K → Bool) (k : K) where
     either false s t u x y = refl
 
     landing_flights : (row : Row K) (what : Land V) (s : State K V) → (landing eq word weight k row what s).state.flights ≡ s.flights
-    landing_flights row (land.Keep v) s = either (is_kept weight row v s) (with_load s) (storing eq word weight k v s) (own_expired eq k s) (reply.Kept row.sharers) (reply.Loose row.sharers)
+    landing_flights row (land.Keep v) s =
+        either (is_kept weight row v s) (with_load s) (storing eq word weight k v s) (own_expired eq k s)
+        (reply.Kept row.sharers) (reply.Loose row.sharers)
     landing_flights row land.Loose s = refl
     landing_flights row land.Failed s = refl
 
     -- the landing of the flight that was just begun is no refusal, and leaves the flights of before
-    landed_at_once : (same : eq k k ≡ true) (t : Flights K) → IsFresh t → (s : State K V) → s.flights ≡ begun k t → (what : Land V) (now : ℕ) → (taken eq word weight s (call.Land t.next k what now)).state.flights.rows ≡ t.rows
+    landed_at_once : (same : eq k k ≡ true) (t : Flights K) → IsFresh t → (s : State K V)
+        → s.flights ≡ begun k t → (what : Land V) (now : ℕ)
+        → (taken eq word weight s (call.Land t.next k what now)).state.flights.rows ≡ t.rows
     landed_at_once same t fresh s e what now =
         (λ i. (taken_if eq word weight (if is_some (found i) then None else spent s) s (call.Land t.next k what now)).state.flights.rows)
-        ∙ (λ i. (option_map_or (λ row. landing eq word weight k row what (with_flights (landed t.next s.flights) (stepped now s))) (found i) (made (stepped now s) (own_expired eq k (stepped now s)) reply.Gone)).state.flights.rows)
+        ∙ (λ i. (option_map_or (λ row. landing eq word weight k row what
+        (with_flights (landed t.next s.flights) (stepped now s))) (found i)
+        (made (stepped now s) (own_expired eq k (stepped now s)) reply.Gone)).state.flights.rows)
         ∙ ap (λ (x : Flights K). x.rows) (landing_flights new what (with_flights (landed t.next s.flights) (stepped now s)))
         ∙ (λ i. (landed t.next (e i)).rows)
         ∙ landed-begun k t fresh
@@ -68,20 +76,31 @@ module _ {K : Type 0} (eq : K → K → Bool) (k : K) where
 module _ {K : Type 0} (keys : Keys K) (o : Options) (n moment : ℕ) (k : K) (same : keys.eq k k ≡ true) where
   -- after the seek, by its reply
   abbrev after : Reply (Version K) → State K (Version K) → List ℕ
-  after r s = let m : Made K (Version K) = with_count keys.word k (sought keys.eq k r s) in ids (fetched keys o n moment k m.reply m).state.flights
+  after r s = let m : Made K (Version K) = with_count keys.word k (sought keys.eq k r s) in
+      ids (fetched keys o n moment k m.reply m).state.flights
 
   -- a new flight is landed at once
-  led : (s : State K (Version K)) → IsFresh s.flights → ids (take keys (with_count keys.word k (sought keys.eq k (reply.Lead s.flights.next) s)).state (call.Land s.flights.next k (load keys o n k) moment)).state.flights ≡ ids s.flights
-  led s fresh = ap (map (λ (r : Row K). r.id)) (landed_at_once keys.eq k keys.word (λ v. v.weight) same s.flights fresh (with_count keys.word k (sought keys.eq k (reply.Lead s.flights.next) s)).state refl (load keys o n k) moment)
+  led : (s : State K (Version K)) → IsFresh s.flights
+      → ids (take keys (with_count keys.word k (sought keys.eq k (reply.Lead s.flights.next) s)).state
+      (call.Land s.flights.next k (load keys o n k) moment)).state.flights ≡ ids s.flights
+  led s fresh = ap (map (λ (r : Row K). r.id))
+      (landed_at_once keys.eq k keys.word (λ v. v.weight) same s.flights fresh
+      (with_count keys.word k (sought keys.eq k (reply.Lead s.flights.next) s)).state refl
+      (load keys o n k) moment)
 
   led_hit : (s : State K (Version K)) → IsFresh s.flights → (v : Version K) → after (reply.HitLead v s.flights.next) s ≡ ids s.flights
-  led_hit s fresh v = ap (map (λ (r : Row K). r.id)) (landed_at_once keys.eq k keys.word (λ v. v.weight) same s.flights fresh (with_count keys.word k (sought keys.eq k (reply.HitLead v s.flights.next) s)).state refl (load keys o n k) moment)
+  led_hit s fresh v = ap (map (λ (r : Row K). r.id))
+      (landed_at_once keys.eq k keys.word (λ v. v.weight) same s.flights fresh
+      (with_count keys.word k (sought keys.eq k (reply.HitLead v s.flights.next) s)).state refl
+      (load keys o n k) moment)
 
-  by_refresh : (b : Bool) (s : State K (Version K)) → IsFresh s.flights → (v : Version K) → after (if b then reply.HitLead v s.flights.next else reply.Hit v) s ≡ ids s.flights
+  by_refresh : (b : Bool) (s : State K (Version K)) → IsFresh s.flights → (v : Version K)
+      → after (if b then reply.HitLead v s.flights.next else reply.Hit v) s ≡ ids s.flights
   by_refresh true s fresh v = led_hit s fresh v
   by_refresh false s fresh v = refl
 
-  by_current : (c : Option ℕ) (s : State K (Version K)) → IsFresh s.flights → after (option_map_or reply.Join c (reply.Lead s.flights.next)) s ≡ ids s.flights
+  by_current : (c : Option ℕ) (s : State K (Version K)) → IsFresh s.flights
+      → after (option_map_or reply.Join c (reply.Lead s.flights.next)) s ≡ ids s.flights
   by_current None s fresh = led s fresh
   by_current (Some id) s fresh = joined_ids keys.eq k s.flights.rows
 
@@ -97,11 +116,13 @@ module _ {K : Type 0} (keys : Keys K) (o : Options) (n moment : ℕ) (k : K) (sa
   by_refusal s fresh None = by_found (found_in keys.eq k (stepped moment s)) (stepped moment s) fresh
 
   -- whatever the line meets, the same flights are open after it as before
-  pub get_leaves : (shard : ℕ) (s : State K (Version K)) → IsFresh s.flights → ids (act_step keys o shard n moment (act.Get k) s).state.flights ≡ ids s.flights
+  pub get_leaves : (shard : ℕ) (s : State K (Version K)) → IsFresh s.flights
+      → ids (act_step keys o shard n moment (act.Get k) s).state.flights ≡ ids s.flights
   get_leaves shard s fresh = by_refusal s fresh (refusal_of keys.eq keys.word (λ v. v.weight) s (call.Seek k moment))
 
 -- in a lawful table no row has the next id
-pub not_next : {K : Type 0} (n : ℕ) (rows : List (Row K)) → All (λ (r : Row K). r.id < n) rows → AllByRecursion (λ (r : Row K). (r.id == n) ≡ false) rows
+pub not_next : {K : Type 0} (n : ℕ) (rows : List (Row K)) → All (λ (r : Row K). r.id < n) rows
+    → AllByRecursion (λ (r : Row K). (r.id == n) ≡ false) rows
 not_next n [] below = tt
 not_next {K} n (r ∷ rs) below = (
   (let low = All-head (λ (x : Row K). x.id < n) r rs below in grind (arith, nat_tests, low)),

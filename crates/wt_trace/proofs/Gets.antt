@@ -11,7 +11,8 @@ use Rattle.wt_trace.specs.declared.options.Options.{Options}
 
 module _ {K : Type 0} (keys : Keys K) (o : Options) (n moment : ℕ) (k : K) where
   -- it adds the words and the notices of the seek
-  pub fetched-otherwise : (r : Reply (Version K)) (m : Made K (Version K)) → ((id : ℕ) → r ≢ reply.Lead id) → ((v : Version K) (id : ℕ) → r ≢ reply.HitLead v id)
+  pub fetched-otherwise : (r : Reply (Version K)) (m : Made K (Version K)) → ((id : ℕ) → r ≢ reply.Lead id)
+      → ((v : Version K) (id : ℕ) → r ≢ reply.HitLead v id)
       → fetched keys o n moment k r m ≡ shown keys (words_of 0 r) m.notices m.state
   fetched-otherwise (reply.Lead id) m no_lead no_hit = absurd (no_lead id refl)
   fetched-otherwise (reply.HitLead v id) m no_lead no_hit = absurd (no_hit v id refl)

@@ -31,7 +31,8 @@ before_space ds rest all = ap (λ k. take k (ds ++ 32 ∷ rest)) (space_at ds re
 after_space : (ds rest : List ℕ) → all_ascii_digits ds ≡ true → after_first is_space (ds ++ 32 ∷ rest) ≡ rest
 after_space ds rest all =
     ap (λ k. drop (k + 1) (ds ++ 32 ∷ rest)) (space_at ds rest all)
-    ∙ (ap (λ xs. drop (length ds + 1) xs) (sym (append_assoc ds (32 ∷ []) rest)) ∙ drop_at (ds ++ 32 ∷ []) rest (length ds + 1) (search (rules, length-append)))
+    ∙ (ap (λ xs. drop (length ds + 1) xs) (sym (append_assoc ds (32 ∷ []) rest))
+    ∙ drop_at (ds ++ 32 ∷ []) rest (length ds + 1) (search (rules, length-append)))
 
 pub number_read : (ds : List ℕ) (n : ℕ) → IsNumber ds n → number_of ds ≡ Some n
 number_read ds n is = grind (arith, nat_tests, is.decimal, is.some, is.few, is.value, is.fits)
@@ -59,14 +60,17 @@ read_name bytes name e = let c = cond_some _ _ _ e in record {
 -- a space stands where something is behind it
 space_between : (bs : List ℕ) → 0 < length (after_first is_space bs) → bs ≡ before_first is_space bs ++ 32 ∷ after_first is_space bs
 space_between [] h = absurd (omega arith)
-space_between (b ∷ bs) h = elim (b == 32) as (λ t. (b == 32) ≡ t → 0 < length (drop (cond (not t) (1 + position_or_len is_space bs) 0 + 1) (b ∷ bs)) → b ∷ bs ≡ take (cond (not t) (1 + position_or_len is_space bs) 0) (b ∷ bs) ++ 32 ∷ drop (cond (not t) (1 + position_or_len is_space bs) 0 + 1) (b ∷ bs)) [
-  | true ↦ λ at _. let is : b ≡ 32 = grind (arith, nat_tests) in ap (λ x. x ∷ bs) is
-  | false ↦ λ _ more.
-      let one : 1 + position_or_len is_space bs ≡ suc (position_or_len is_space bs) = omega arith in
-      let two : suc (position_or_len is_space bs) + 1 ≡ suc (position_or_len is_space bs + 1) = omega arith in
-      let left = rw (one, two) at more in
-      rw (one, two) (ap (λ xs. b ∷ xs) (space_between bs left))
-] refl h
+space_between (b ∷ bs) h = elim (b == 32) as
+    (λ t. (b == 32) ≡ t → 0 < length (drop (cond (not t) (1 + position_or_len is_space bs) 0 + 1) (b ∷ bs))
+    → b ∷ bs ≡ take (cond (not t) (1 + position_or_len is_space bs) 0) (b ∷ bs)
+    ++ 32 ∷ drop (cond (not t) (1 + position_or_len is_space bs) 0 + 1) (b ∷ bs)) [
+      | true ↦ λ at _. let is : b ≡ 32 = grind (arith, nat_tests) in ap (λ x. x ∷ bs) is
+      | false ↦ λ _ more.
+          let one : 1 + position_or_len is_space bs ≡ suc (position_or_len is_space bs) = omega arith in
+          let two : suc (position_or_len is_space bs) + 1 ≡ suc (position_or_len is_space bs + 1) = omega arith in
+          let left = rw (one, two) at more in
+          rw (one, two) (ap (λ xs. b ∷ xs) (space_between bs left))
+    ] refl h
 
 chosen : {A : Type 0} (b : Bool) (x y z : A) → cond b x y ≡ z → ((b ≡ true) × (x ≡ z)) ⊎ ((b ≡ false) × (y ≡ z))
 chosen true x y z e = inl (refl, e)
@@ -77,10 +81,12 @@ mapped f None y e = absurd (cc)
 mapped f (Some x) y e = (x, refl, cc)
 
 -- what is found has the letter, and each fact of all that it was looked for in
-found : {K : Type 0} (P : Act K → Type 0) (letter : ℕ) (acts : List (Act K)) (a : Act K) → AllByRecursion P acts → lettered letter acts ≡ Some a → P a × (letter ≡ letter_of a)
+found : {K : Type 0} (P : Act K → Type 0) (letter : ℕ) (acts : List (Act K)) (a : Act K) → AllByRecursion P acts
+    → lettered letter acts ≡ Some a → P a × (letter ≡ letter_of a)
 found P letter [] a all e = absurd (cc)
 found P letter (b ∷ acts) a all e = elim (chosen (letter == letter_of b) (Some b) (lettered letter acts) (Some a) e) [
-  | inl here ↦ let is : b ≡ a = cc in let l : letter ≡ letter_of b = grind (arith, nat_tests, here.0) in (subst P is all.0, l ∙ ap letter_of is)
+  | inl here ↦ let is : b ≡ a = cc in let l : letter ≡ letter_of b = grind (arith, nat_tests, here.0) in
+      (subst P is all.0, l ∙ ap letter_of is)
   | inr later ↦ found P letter acts a all.1 later.1
 ]
 
@@ -121,8 +127,13 @@ module _ {K : Type 0} (IsKey : List ℕ → K → Type 0) (read : List ℕ → O
   read_line bytes l e = option_and_then_some _ (number_of (before_first is_space bytes)) l e (λ m number more.
       let got = mapped (λ (act : Act K). record { moment = m; act = act }) (act_of read (after_first is_space bytes)) l more in
       let asked = read_act (after_first is_space bytes) got.0 got.1 in
-      subst (λ x. IsLine IsKey bytes x) got.2
-      (before_first is_space bytes, after_first is_space bytes, read_number (before_first is_space bytes) m number, asked.1, space_between bytes asked.0))
+      subst (λ x. IsLine IsKey bytes x) got.2 (
+        before_first is_space bytes,
+        after_first is_space bytes,
+        read_number (before_first is_space bytes) m number,
+        asked.1,
+        space_between bytes asked.0,
+      ))
 
   pub reads_lines : ReadsLines IsKey read
   reads_lines bytes l = (read_line bytes l, line_read bytes l)

@@ -29,7 +29,8 @@ module _ {K : Type 0} (keys : Keys K) (o : Options) where
   ran-append s [] after = refl
   ran-append s (c ∷ cs) after = ran-append (take keys s c).state cs after
 
-  get-ran : (n moment : ℕ) (k : K) (r : Reply (Version K)) (m : Made K (Version K)) → (fetched keys o n moment k r m).state ≡ ran m.state (landing_calls keys o n moment k r)
+  get-ran : (n moment : ℕ) (k : K) (r : Reply (Version K)) (m : Made K (Version K))
+      → (fetched keys o n moment k r m).state ≡ ran m.state (landing_calls keys o n moment k r)
   get-ran n moment k (reply.Lead id) m = refl
   get-ran n moment k (reply.HitLead v id) m = refl
   get-ran n moment k (reply.Hit v) m = refl
@@ -51,7 +52,8 @@ module _ {K : Type 0} (keys : Keys K) (o : Options) where
   land-ran shard n moment k s (Some r) = refl
   land-ran shard n moment k s None = refl
 
-  act-ran : (shard n moment : ℕ) (a : Act K) (s : State K (Version K)) → (act_step keys o shard n moment a s).state ≡ ran s (act_calls keys o n moment a s)
+  act-ran : (shard n moment : ℕ) (a : Act K) (s : State K (Version K))
+      → (act_step keys o shard n moment a s).state ≡ ran s (act_calls keys o n moment a s)
   act-ran shard n moment (act.Look k) s = refl
   act-ran shard n moment (act.Put k) s = refl
   act-ran shard n moment (act.Seek k) s = refl
@@ -62,26 +64,31 @@ module _ {K : Type 0} (keys : Keys K) (o : Options) where
   act-ran shard n moment act.Clean s = refl
   act-ran shard n moment act.Clear s = refl
 
-  if-ran : (b : Bool) (shard n : ℕ) (l : Line K) (s : State K (Version K)) → (line_if keys o b shard n l s).state ≡ ran s (if b then act_calls keys o n l.moment l.act s else [])
+  if-ran : (b : Bool) (shard n : ℕ) (l : Line K) (s : State K (Version K))
+      → (line_if keys o b shard n l s).state ≡ ran s (if b then act_calls keys o n l.moment l.act s else [])
   if-ran true shard n l s = act-ran shard n l.moment l.act s
   if-ran false shard n l s = refl
 
-  line-ran : (shard n : ℕ) (l : Line K) (s : State K (Version K)) → (line_step keys o shard n l s).state ≡ ran s (line_calls keys o shard n l s)
+  line-ran : (shard n : ℕ) (l : Line K) (s : State K (Version K))
+      → (line_step keys o shard n l s).state ≡ ran s (line_calls keys o shard n l s)
   unfolding line_step
   line-ran shard n l s = if-ran (belongs keys o shard l.act) shard n l s
 
-  lines-ran : (shard n : ℕ) (ls : List (Line K)) (s : State K (Version K)) → state_from keys o shard n ls s ≡ ran s (calls_from keys o shard n ls s)
+  lines-ran : (shard n : ℕ) (ls : List (Line K)) (s : State K (Version K))
+      → state_from keys o shard n ls s ≡ ran s (calls_from keys o shard n ls s)
   lines-ran shard n [] s = refl
   lines-ran shard n (l ∷ ls) s =
       lines-ran shard (n + 1) ls (line_step keys o shard n l s).state
       ∙ ap (λ x. ran x (calls_from keys o shard (n + 1) ls (line_step keys o shard n l s).state)) (line-ran shard n l s)
       ∙ sym (ran-append s (line_calls keys o shard n l s) (calls_from keys o shard (n + 1) ls (line_step keys o shard n l s).state))
 
-  stats-told : (shard n : ℕ) (ls : List (Line K)) (s : State K (Version K)) → (answers_from keys o shard n ls s).stats ≡ stats_of (state_from keys o shard n ls s)
+  stats-told : (shard n : ℕ) (ls : List (Line K)) (s : State K (Version K))
+      → (answers_from keys o shard n ls s).stats ≡ stats_of (state_from keys o shard n ls s)
   stats-told shard n [] s = refl
   stats-told shard n (l ∷ ls) s = stats-told shard (n + 1) ls (line_step keys o shard n l s).state
 
-  answers-told : (n : ℕ) (ls : List (Line K)) (shard : ℕ) → (answers keys o n ls shard).stats ≡ stats_of (state_from keys o shard n ls (opening (config_of o)))
+  answers-told : (n : ℕ) (ls : List (Line K)) (shard : ℕ)
+      → (answers keys o n ls shard).stats ≡ stats_of (state_from keys o shard n ls (opening (config_of o)))
   unfolding answers
   answers-told n ls shard = stats-told shard n ls (opening (config_of o))
 

@@ -5,7 +5,7 @@ use Rattle.std.proofs.lemmas.List.Elements.{All-map}
 use Rattle.std.proofs.lemmas.List.FromFn.{length-map-range_with_len}
 use Rattle.std.specs.List.{range_with_len}
 use Rattle.wt_core.specs.State.{State, stats_of, opening}
-use Rattle.wt_trace.specs.Answers.{Answers, Shown, line_step, answers_from, answers}
+use Rattle.wt_trace.specs.Answers.{ShardAnswers, Shown, line_step, answers_from, answers}
 use Rattle.wt_trace.specs.Keys.{Keys}
 use Rattle.wt_trace.specs.Pieces.{pieces, AreEnds, last_end}
 use Rattle.wt_trace.specs.declared.trace.line.Line.{Line}
@@ -16,34 +16,40 @@ use Rattle.wt_trace.proofs.Ranges.{shards_few}
 use Rattle.wt_trace.proofs.Ends.{pieces-append, AreEnds-append, last_end-append}
 
 -- the text so far, and what the lines that are left add to it, are what the shard answers in all
-pub record IsSoFar {K : Type 0} (keys : Keys K) (o : Options) (shard : ℕ) (all : Answers) (text ends : List ℕ) (n : ℕ) (rest : List (Line K)) (s : State K (Version K)) : Type 0 where
+pub record IsSoFar {K : Type 0} (keys : Keys K) (o : Options) (shard : ℕ) (all : ShardAnswers) (text ends : List ℕ) (n : ℕ)
+    (rest : List (Line K)) (s : State K (Version K)) : Type 0 where
   pub texts : pieces text 0 ends ++ (answers_from keys o shard n rest s).texts ≡ all.texts
   pub stats : (answers_from keys o shard n rest s).stats ≡ all.stats
   pub are : AreEnds (length text) 0 ends
   pub last : last_end 0 ends ≡ length text
 
-module _ {K : Type 0} (keys : Keys K) (o : Options) (shard : ℕ) (all : Answers) (text ends : List ℕ) (n : ℕ) where
+module _ {K : Type 0} (keys : Keys K) (o : Options) (shard : ℕ) (all : ShardAnswers) (text ends : List ℕ) (n : ℕ) where
   more_at : (line : Line K) (after : List (Line K)) (s : State K (Version K)) → (let one : Shown K = line_step keys o shard n line s in
-      IsSoFar keys o shard all text ends n (line ∷ after) s → IsSoFar keys o shard all (text ++ one.text) (ends ++ length (text ++ one.text) ∷ []) (n + 1) after one.state)
+      IsSoFar keys o shard all text ends n (line ∷ after) s
+      → IsSoFar keys o shard all (text ++ one.text) (ends ++ length (text ++ one.text) ∷ []) (n + 1) after one.state)
   more_at line after s far =
       let one : Shown K = line_step keys o shard n line s in
-      let left : Answers = answers_from keys o shard (n + 1) after one.state in
+      let left : ShardAnswers = answers_from keys o shard (n + 1) after one.state in
       let longer = length-append text one.text in
       record {
-        texts = ap (λ ts. ts ++ left.texts) (pieces-append text one.text 0 ends far.are far.last) ∙ append_assoc (pieces text 0 ends) (one.text ∷ []) left.texts ∙ far.texts;
+        texts = ap (λ ts. ts ++ left.texts) (pieces-append text one.text 0 ends far.are far.last)
+            ∙ append_assoc (pieces text 0 ends) (one.text ∷ []) left.texts ∙ far.texts;
         stats = far.stats;
-        are = AreEnds-append (length text) (length (text ++ one.text)) 0 ends (omega (arith, longer)) far.are (omega (arith, longer, far.last));
+        are = AreEnds-append (length text) (length (text ++ one.text)) 0 ends (omega (arith, longer)) far.are
+            (omega (arith, longer, far.last));
         last = last_end-append 0 ends (length (text ++ one.text));
       }
 
   -- a line more
-  pub more_line : (line : Line K) (rest after : List (Line K)) (s t : State K (Version K)) (longer : List ℕ) → (let one : Shown K = line_step keys o shard n line s in
+  pub more_line : (line : Line K) (rest after : List (Line K)) (s t : State K (Version K)) (longer : List ℕ)
+      → (let one : Shown K = line_step keys o shard n line s in
       rest ≡ line ∷ after → t ≡ one.state → longer ≡ text ++ one.text
       → IsSoFar keys o shard all text ends n rest s → IsSoFar keys o shard all longer (ends ++ length longer ∷ []) (n + 1) after t)
   more_line line rest after s t longer first state more far =
       let next = more_at line after s (subst (λ (ls : List (Line K)). IsSoFar keys o shard all text ends n ls s) first far) in
-      subst (λ (x : State K (Version K)). IsSoFar keys o shard all longer (ends ++ length longer ∷ []) (n + 1) after x) (sym state)
-      (subst (λ xs. IsSoFar keys o shard all xs (ends ++ length xs ∷ []) (n + 1) after (line_step keys o shard n line s).state) (sym more) next)
+      let one : Shown K = line_step keys o shard n line s in
+      let shown = subst (λ xs. IsSoFar keys o shard all xs (ends ++ length xs ∷ []) (n + 1) after one.state) (sym more) next in
+      subst (λ (x : State K (Version K)). IsSoFar keys o shard all longer (ends ++ length longer ∷ []) (n + 1) after x) (sym state) shown
 
   -- no line is left
   pub no_line : (rest : List (Line K)) (s : State K (Version K)) → length rest ≡ 0 → IsSoFar keys o shard all text ends n rest s
@@ -53,13 +59,15 @@ module _ {K : Type 0} (keys : Keys K) (o : Options) (shard : ℕ) (all : Answers
 
 -- a new shard answers all of the lines
 module _ {K : Type 0} (keys : Keys K) (o : Options) where
-  pub answers-all : (n : ℕ) (ls : List (Line K)) (shard : ℕ) → answers_from keys o shard n ls (opening (config_of o)) ≡ answers keys o n ls shard
+  pub answers-all : (n : ℕ) (ls : List (Line K)) (shard : ℕ)
+      → answers_from keys o shard n ls (opening (config_of o)) ≡ answers keys o n ls shard
   unfolding answers
   answers-all n ls shard = refl
 
 -- a shard adds a text to each line, an empty one to that of another
 module _ {K : Type 0} (keys : Keys K) (o : Options) where
-  length-answers_from : (shard n : ℕ) (ls : List (Line K)) (s : State K (Version K)) → length (answers_from keys o shard n ls s).texts ≡ length ls
+  length-answers_from : (shard n : ℕ) (ls : List (Line K)) (s : State K (Version K))
+      → length (answers_from keys o shard n ls s).texts ≡ length ls
   length-answers_from shard n [] s = refl
   length-answers_from shard n (l ∷ ls) s = ap suc (length-answers_from shard (n + 1) ls (line_step keys o shard n l s).state)
 
@@ -68,13 +76,17 @@ module _ {K : Type 0} (keys : Keys K) (o : Options) where
   length-answers n ls shard = length-answers_from shard n ls (opening (config_of o))
 
   -- and so of all shards
-  pub whole-answers : (n count : ℕ) (ls : List (Line K)) (all : List Answers) → length ls ≡ count → all ≡ map (answers keys o n ls) (range_with_len 0 o.shards) → All (λ (a : Answers). length a.texts ≡ count) all
+  pub whole-answers : (n count : ℕ) (ls : List (Line K)) (all : List ShardAnswers) → length ls ≡ count
+      → all ≡ map (answers keys o n ls) (range_with_len 0 o.shards) → All (λ (a : ShardAnswers). length a.texts ≡ count) all
   whole-answers n count ls all len are =
-      subst (λ (xs : List Answers). All (λ (a : Answers). length a.texts ≡ count) xs) (sym are)
-      (All-map (λ (a : Answers). length a.texts ≡ count) (answers keys o n ls) (range_with_len 0 o.shards) (λ k d within. length-answers n ls (slice_index_or (range_with_len 0 o.shards) k d) ∙ len))
+      let whole : ShardAnswers → Type 0 = λ a. length a.texts ≡ count in
+      let shards = range_with_len 0 o.shards in
+      let each = All-map whole (answers keys o n ls) shards (λ k d within. length-answers n ls (slice_index_or shards k d) ∙ len) in
+      subst (λ (xs : List ShardAnswers). All whole xs) (sym are) each
 
   -- of which there are few
-  pub few-answers : (n : ℕ) (ls : List (Line K)) (all : List Answers) → option_fault o ≡ None → all ≡ map (answers keys o n ls) (range_with_len 0 o.shards) → length all ≤ 4
+  pub few-answers : (n : ℕ) (ls : List (Line K)) (all : List ShardAnswers) → option_fault o ≡ None
+      → all ≡ map (answers keys o n ls) (range_with_len 0 o.shards) → length all ≤ 4
   few-answers n ls all none are =
       let count : length all ≡ o.shards = ap length are ∙ length-map-range_with_len (answers keys o n ls) 0 o.shards in
       let few = shards_few o none in

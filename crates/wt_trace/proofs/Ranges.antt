@@ -19,7 +19,9 @@ in_range false f rest none = refl
 
 -- what is left of the tests from the modulus on
 from_modulus : (o : Options) → option_fault o ≡ None
-    → (if is_outside 1 1000000 o.modulus then Some Modulus else if is_zero o.write then Some AfterWrite else if is_zero o.access then Some AfterAccess else if is_zero o.refresh then Some Refresh else if is_zero o.fail_mod then Some FailMod else later_fault o) ≡ None
+    → (if is_outside 1 1000000 o.modulus then Some Modulus else if is_zero o.write then Some AfterWrite else if
+    is_zero o.access then Some AfterAccess else if is_zero o.refresh then Some Refresh else if is_zero
+    o.fail_mod then Some FailMod else later_fault o) ≡ None
 from_modulus o none =
     let a = otherwise (not (is_shard_count o.shards)) Shards _ none in
     let b = otherwise (is_outside 1 65536 o.entries) Entries _ a in

@@ -19,8 +19,10 @@ behind_first (b ∷ bs) = ap (λ ls. drop 1 ls) (lines_of-first (b ∷ bs) (omeg
 
 module _ (o : Options) (bytes : List ℕ) where
   -- with a header the keys of the lines behind it are names
-  pub named : (rest : List ℕ) → is_header (lines_of bytes) ≡ true → drop 1 (lines_of bytes) ≡ lines_of rest → report o bytes ≡ report_of names o 2 (trace_from name_of 2 (lines_of rest))
-  named rest is behind = (λ i. report_by (is i) o (lines_of bytes)) ∙ ap (λ (ls : List (List ℕ)). report_of names o 2 (trace_from name_of 2 ls)) behind
+  pub named : (rest : List ℕ) → is_header (lines_of bytes) ≡ true → drop 1 (lines_of bytes) ≡ lines_of rest
+      → report o bytes ≡ report_of names o 2 (trace_from name_of 2 (lines_of rest))
+  named rest is behind = (λ i. report_by (is i) o (lines_of bytes))
+      ∙ ap (λ (ls : List (List ℕ)). report_of names o 2 (trace_from name_of 2 ls)) behind
 
   -- without one all lines have numbers
   pub numbered : is_header (lines_of bytes) ≡ false → report o bytes ≡ report_of numbers o 1 (trace_from number_of 1 (lines_of bytes))

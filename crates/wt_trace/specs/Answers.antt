@@ -24,7 +24,7 @@ use Rattle.wt_trace.specs.Words.{words_of, loaded_words, notices_text}
 use Rattle.wt_trace.specs.Options.{config_of}
 
 -- what a shard answers: the text that it adds to each line, of another shard's line nothing, and its numbers at the end
-pub record Answers : Type 0 where
+pub record ShardAnswers : Type 0 where
   pub texts : List (List ℕ)
   pub stats : Stats
 
@@ -102,7 +102,7 @@ module _ {K : Type 0} (keys : Keys K) (o : Options) where
   line_step shard n l s = line_if (belongs shard l.act) shard n l s
 
   -- the lines from line n on, at a shard
-  abbrev pub answers_from : ℕ → ℕ → List (Line K) → State K (Version K) → Answers
+  abbrev pub answers_from : ℕ → ℕ → List (Line K) → State K (Version K) → ShardAnswers
   answers_from shard n [] s = record { texts = []; stats = stats_of s }
   answers_from shard n (l ∷ ls) s =
       let one = line_step shard n l s in
@@ -110,7 +110,7 @@ module _ {K : Type 0} (keys : Keys K) (o : Options) where
       record rest { texts = one.text ∷ rest.texts }
 
   -- all of them, at a shard that is new
-  unfoldable pub answers : ℕ → List (Line K) → ℕ → Answers
+  unfoldable pub answers : ℕ → List (Line K) → ℕ → ShardAnswers
   answers n ls shard = answers_from shard n ls (opening (config_of o))
 
 module _ {K : Type 0} (keys : Keys K) (w : Work K) where

@@ -3,24 +3,21 @@ use Rattle.std.specs.Prelude.{◌≡◌, ◌++◌, ◌+◌, ◌<◌, ◌≤◌, 
 use Rattle.std.specs.List.{range_with_len}
 use Rattle.std.specs.Io.KnownBytes.{Appends}
 use Rattle.wt_keys.specs.declared.fault.Fault.TheVariants as cache
-use Rattle.wt_core.specs.declared.calls.Call.{Call}
-use Rattle.wt_trace.specs.Answers.{Answers, Shown, Work, answers, belongs, done_by, landed_by, line_step, one_call}
-use Rattle.wt_trace.specs.Keys.{KeyMembers, Keys, keys_of}
+use Rattle.wt_trace.specs.Answers.{ShardAnswers, Shown, Work, answers, belongs}
+use Rattle.wt_trace.specs.Keys.{Keys}
 use Rattle.wt_trace.specs.Options.{option_fault}
 use Rattle.wt_trace.specs.Parts.{IsPart}
 use Rattle.wt_trace.specs.Replayed.{AppendsPrefix, GaveUpTo, Rises, ShutsOnly, is_config_fault}
-use Rattle.wt_trace.specs.Report.{Report, IsReport, report_of}
-use Rattle.wt_trace.specs.Standing.{Standing, line_by, lines_by, next_standing, standing_of, standings_after}
+use Rattle.wt_trace.specs.Report.{Report, IsReport}
+use Rattle.wt_trace.specs.Standing.{Standing, lines_by, standings_after}
 use Rattle.wt_trace.specs.Stops.{AllAsked, AreAsked, IsStop}
 use Rattle.wt_trace.specs.Tally.{Tally}
-use Rattle.wt_trace.specs.Trace.{Trace, Verdict, line_end, lines_of, read_end, trace_from}
+use Rattle.wt_trace.specs.Trace.{Verdict, line_end, lines_of, read_end, trace_from}
 use Rattle.wt_trace.specs.declared.fault.ReplayFault.{ReplayFault}
 use Rattle.wt_trace.specs.declared.fault.ReplayFault.TheVariants as fault
-use Rattle.wt_trace.specs.declared.trace.line.Act.{Act}
 use Rattle.wt_trace.specs.declared.trace.line.Line.{Line}
 use Rattle.wt_trace.specs.declared.options.Options.{Options}
 use Rattle.wt_trace.specs.declared.trace.Lines.{Lines}
-use Rattle.wt_trace.specs.declared.shard.version.Version.{Version}
 
 -- ---- what is asked for
 
@@ -36,7 +33,7 @@ pub record IsReadyOn (n : ℕ) (o : Options) (first count : ℕ) : Type 0 where
   pub threads : 0 < n
 
 -- lines of a report that can be printed on threads: each shard has a text for each, and a thread prints at most `len`
-pub record IsCut (first : ℕ) (all : List Answers) (count len : ℕ) : Type 0 where
+pub record IsCut (first : ℕ) (all : List ShardAnswers) (count len : ℕ) : Type 0 where
   pub whole : All (λ a. length a.texts ≡ count) all
   pub fits : first + count < 2 ^ 64
   pub most : len ≤ line_end + 1
@@ -78,7 +75,7 @@ pub record AreRead {K E : Type 0} (read : List ℕ → Option K) (n : ℕ) (byte
 
 module _ {K : Type 0} (keys : Keys K) (o : Options) (gate : ℕ → Bool → Type 0) (first : ℕ) (lines : List (Line K)) where
   -- what a shard promises that does all lines that belong to it
-  pub record IsOfShard (shard : ℕ) (result : Result Answers ReplayFault) : Type 0 where
+  pub record IsOfShard (shard : ℕ) (result : Result ShardAnswers ReplayFault) : Type 0 where
     -- it answers them as the definition does
     pub answers : IfOk result (λ a. a ≡ answers keys o first lines shard)
     -- the gate let each of them through
@@ -87,11 +84,15 @@ module _ {K : Type 0} (keys : Keys K) (o : Options) (gate : ℕ → Bool → Typ
     pub err : IfErr result (IsStop (λ n. gate n false))
 
   -- what thread t of `threads` promises, whose part is that of its shards
-  abbrev pub IsPartOf : ℕ → ℕ → Result (List (Option Answers)) ReplayFault → Type 0
+  abbrev pub IsPartOf : ℕ → ℕ → Result (List (Option ShardAnswers)) ReplayFault → Type 0
   IsPartOf threads t part = IsPart (answers keys o first lines) (λ n. gate n false) (λ shard. AreAsked (belongs keys o shard) (λ n. gate n true) first lines) o.shards threads t part
 
+  -- what the threads promise, each of its part
+  abbrev pub HaveRan : {Z E : Type 0} → ℕ → Result (Vec (Result (List (Option ShardAnswers)) ReplayFault) Z) E → Type 0
+  HaveRan threads result = IfOk result (λ parts. (t : ℕ) → t < threads → IsPartOf threads t (get_or parts.items t (Ok [])))
+
   -- what all shards promise that do the lines
-  pub record AreOfShards {Z : Type 0} (result : Result (Vec Answers Z) ReplayFault) : Type 0 where
+  pub record AreOfShards {Z : Type 0} (result : Result (Vec ShardAnswers Z) ReplayFault) : Type 0 where
     -- each answers them as the definition does, in the order of the shards
     pub answers : IfOk result (λ all. all.items ≡ map (answers keys o first lines) (range_with_len 0 o.shards))
     -- the gate let each line through at each shard that it belongs to
@@ -100,11 +101,11 @@ module _ {K : Type 0} (keys : Keys K) (o : Options) (gate : ℕ → Bool → Typ
     pub err : IfErr result (IsStop (λ n. gate n false))
 
 -- what is promised of the report of a trace that threads make, which this gate may stop
-pub record IsReportedBy {G : Type 0} (meant : Report) (says : G → ℕ → Bool → Type 0) (gate : G) (result : Result (List ℕ × Verdict) ReplayFault) : Type 0 where
+pub record IsReportedBy (meant : Report) (gate : ℕ → Bool → Type 0) (result : Result (List ℕ × Verdict) ReplayFault) : Type 0 where
   -- the text and the verdict are those of the report that is meant
   pub report : IfOk result (λ r. IsReport meant r.0 r.1)
   -- there is no memory, or the gate was shut before a line
-  pub err : IfErr result (IsStop (λ n. says gate n false))
+  pub err : IfErr result (IsStop (λ n. gate n false))
 
 -- what is promised of one that a single thread makes
 pub record IsPrinted {Z : Type 0} (meant : Report) (result : Result (Vec ℕ Z × Verdict) ReplayFault) : Type 0 where
@@ -147,65 +148,3 @@ pub record IsRun {R W : Type 0} (Did : Option (List ℕ) → Option (List ℕ) �
   pub writes : Rises writer.failures written.failures result fault.WriteFault
   -- a shut gate is the fault only if it was shut
   pub shut : ShutsOnly stops result
-
--- ---- the same in the words of a clause: of a key's members, of texts before and after, and of what a gate says
-
-module _ {K : Type 0} (m : KeyMembers K) where
-  -- a shard at work makes one call, and shows it behind a text
-  abbrev pub Makes : {Z E : Type 0} → Call K (Version K) → Work K → Work K → Vec ℕ Z → Vec ℕ Z → Result (Unit {0}) E → Type 0
-  Makes call old new before after result = Adds (one_call (keys_of m) old.shard old.state call) old new before.items after.items result
-
-  -- a shard at work lands a flight by line n, behind the seek that its latest call was, and shows it
-  abbrev pub Lands : {Z E : Type 0} → ℕ → ℕ → K → ℕ → Work K → Work K → Vec ℕ Z → Vec ℕ Z → Result (Unit {0}) E → Type 0
-  Lands id n k moment old new before after result = Adds (landed_by (keys_of m) old id n k moment) old new before.items after.items result
-
-  -- a shard at work does, at this moment, what line n asks for, and shows it
-  abbrev pub Does : {Z E : Type 0} → ℕ → ℕ → Act K → Work K → Work K → Vec ℕ Z → Vec ℕ Z → Result (Unit {0}) E → Type 0
-  Does n moment a old new before after result = Adds (done_by (keys_of m) old n moment a) old new before.items after.items result
-
-  -- a shard at work does line n, which belongs to it, and shows it
-  abbrev pub DoesOwn : {Z E : Type 0} → ℕ → Line K → Work K → Work K → Vec ℕ Z → Vec ℕ Z → Result (Unit {0}) E → Type 0
-  DoesOwn n l old new before after result = Does n l.moment l.act old new before after result
-
-  -- a shard at work does line n if it belongs to it, and shows it
-  abbrev pub DoesLine : {Z E : Type 0} → ℕ → Line K → Work K → Work K → Vec ℕ Z → Vec ℕ Z → Result (Unit {0}) E → Type 0
-  DoesLine n l old new before after result =
-      Adds (line_step (keys_of m) old.options old.shard n l old.state) old new before.items after.items result
-
-  -- the gate let a line through, if it belongs to the shard
-  abbrev pub WasAsked : {E : Type 0} → Work K → Line K → Type 0 → Result (Unit {0}) E → Type 0
-  WasAsked w l passed result = OnOk result (belongs (keys_of m) w.options w.shard l.act ≡ true → passed)
-
-  -- line n of the report, by shards that stood so, stands behind the text
-  abbrev pub ShowsLine : {Z E : Type 0} → ℕ → Line K → List (Work K) → Vec ℕ Z → Vec ℕ Z → Result (Unit {0}) E → Type 0
-  ShowsLine n l old before after result = OnOk result (after.items ≡ before.items ++ line_by (keys_of m) n l (map standing_of old))
-
-  -- the shards stand as line n leaves them
-  abbrev pub StandBehind : {E : Type 0} → ℕ → Line K → List (Work K) → List (Work K) → Result (Unit {0}) E → Type 0
-  StandBehind n l old new result = OnOk result (map standing_of new ≡ map (next_standing (keys_of m) n l) (map standing_of old))
-
-  -- the report's lines of bytes stand behind the text, the first of which is line n
-  abbrev pub ShowsLines : {Z : Type 0} → ℕ → List ℕ → List (Work K) → List (Work K) → Vec ℕ Z → Vec ℕ Z → Result Verdict ReplayFault → Type 0
-  ShowsLines n bytes old new before after result =
-      AreShown (keys_of m) n bytes (map standing_of old) (map standing_of new) before.items after.items result
-
-module _ {K G : Type 0} (m : KeyMembers K) (o : Options) (says : G → ℕ → Bool → Type 0) (gate : G) (first : ℕ) (t : Trace K) where
-  -- what thread i of `threads` promises of its part, which is that of its shards
-  abbrev pub IsPartOn : ℕ → ℕ → Result (List (Option Answers)) ReplayFault → Type 0
-  IsPartOn threads i part = IsPartOf (keys_of m) o (says gate) first t.lines threads i part
-
-  -- what the threads promise, each of its part
-  abbrev pub HaveRan : {Z E : Type 0} → ℕ → Result (Vec (Result (List (Option Answers)) ReplayFault) Z) E → Type 0
-  HaveRan threads result = IfOk result (λ parts. (i : ℕ) → i < threads → IsPartOn threads i (get_or parts.items i (Ok [])))
-
-  -- what all shards promise together that do these lines
-  abbrev pub AreAnswered : {Z : Type 0} → Result (Vec Answers Z) ReplayFault → Type 0
-  AreAnswered result = AreOfShards (keys_of m) o (says gate) first t.lines result
-
-  -- the gate let each line through at each shard that it belongs to
-  abbrev pub AreAllAsked : Type 0
-  AreAllAsked = AllAsked (keys_of m) o (λ n. says gate n true) first t.lines
-
-  -- what is promised of the report of these lines, which threads make
-  abbrev pub IsReportOf : Result (List ℕ × Verdict) ReplayFault → Type 0
-  IsReportOf result = IsReportedBy (report_of (keys_of m) o first t) says gate result

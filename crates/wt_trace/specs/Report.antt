@@ -7,7 +7,7 @@ use Rattle.wt_trace.specs.declared.fault.ReplayFault.TheVariants.{BadLine, LineT
 use Rattle.wt_trace.specs.declared.options.Options.{Options}
 use Rattle.wt_trace.specs.Keys.{Keys, numbers, names}
 use Rattle.wt_trace.specs.Trace.{Verdict, Trace, lines_of, is_header, trace_from}
-use Rattle.wt_trace.specs.Answers.{Answers, answers}
+use Rattle.wt_trace.specs.Answers.{ShardAnswers, answers}
 
 -- what is printed, and how the run ends
 pub record Report : Type 0 where
@@ -15,19 +15,19 @@ pub record Report : Type 0 where
   pub verdict : Verdict
 
 -- the i-th line of the report: what each shard adds to it, in order
-unfoldable pub line_text : ℕ → List Answers → ℕ → List ℕ
-line_text first all i = decimal (first + i) ++ (flat_map (λ (a : Answers). get_or a.texts i []) all ++ codes "\n")
+unfoldable pub line_text : ℕ → List ShardAnswers → ℕ → List ℕ
+line_text first all i = decimal (first + i) ++ (flat_map (λ (a : ShardAnswers). get_or a.texts i []) all ++ codes "\n")
 
 -- `len` lines from line i on
-abbrev pub lines_text : ℕ → List Answers → ℕ → ℕ → List ℕ
+abbrev pub lines_text : ℕ → List ShardAnswers → ℕ → ℕ → List ℕ
 lines_text first all i len = flat_map (line_text first all) (range_with_len i len)
 
 -- piece t of `count` lines, in pieces of at most `most`
-abbrev pub piece_text : ℕ → List Answers → ℕ → ℕ → ℕ → List ℕ
+abbrev pub piece_text : ℕ → List ShardAnswers → ℕ → ℕ → ℕ → List ℕ
 piece_text first all count most t = lines_text first all (min (t * most) count) (min most (count - min (t * most) count))
 
 -- what threads print: each its piece, if there was memory for it
-abbrev pub ArePieces : {Z : Type 0} → ℕ → List Answers → ℕ → ℕ → ℕ → List (Result (Vec ℕ Z) AllocError) → Type 0
+abbrev pub ArePieces : {Z : Type 0} → ℕ → List ShardAnswers → ℕ → ℕ → ℕ → List (Result (Vec ℕ Z) AllocError) → Type 0
 ArePieces first all count most threads pieces =
     (t : ℕ) → t < threads → IfOk (get_or pieces t (Err alloc_error)) (λ out. out.items ≡ piece_text first all count most t)
 
@@ -44,24 +44,24 @@ summary_of t =
     count_text (codes " entries ") t.entries ++ (count_text (codes " weight ") t.weight ++ codes "\n")))))))
 
 -- the numbers of all shards, added up
-abbrev pub totals_of : List Answers → Stats
+abbrev pub totals_of : List ShardAnswers → Stats
 totals_of all = record {
-  lookups = sum_by (λ (a : Answers). a.stats.lookups) all;
-  hits = sum_by (λ (a : Answers). a.stats.hits) all;
-  misses = sum_by (λ (a : Answers). a.stats.misses) all;
-  loads = sum_by (λ (a : Answers). a.stats.loads) all;
-  failed = sum_by (λ (a : Answers). a.stats.failed) all;
-  evicted = sum_by (λ (a : Answers). a.stats.evicted) all;
-  entries = sum_by (λ (a : Answers). a.stats.entries) all;
-  weight = sum_by (λ (a : Answers). a.stats.weight) all;
+  lookups = sum_by (λ (a : ShardAnswers). a.stats.lookups) all;
+  hits = sum_by (λ (a : ShardAnswers). a.stats.hits) all;
+  misses = sum_by (λ (a : ShardAnswers). a.stats.misses) all;
+  loads = sum_by (λ (a : ShardAnswers). a.stats.loads) all;
+  failed = sum_by (λ (a : ShardAnswers). a.stats.failed) all;
+  evicted = sum_by (λ (a : ShardAnswers). a.stats.evicted) all;
+  entries = sum_by (λ (a : ShardAnswers). a.stats.entries) all;
+  weight = sum_by (λ (a : ShardAnswers). a.stats.weight) all;
 }
 
 -- the summary's line of all shards
-unfoldable pub summary : List Answers → List ℕ
+unfoldable pub summary : List ShardAnswers → List ℕ
 summary all = summary_of (totals_of all)
 
 -- `count` lines by what the shards answer, and the summary if no line was at fault
-unfoldable pub printed : ℕ → ℕ → Bool → List Answers → List ℕ
+unfoldable pub printed : ℕ → ℕ → Bool → List ShardAnswers → List ℕ
 printed first count complete all = lines_text first all 0 count ++ (if complete then summary all else [])
 
 module _ {K : Type 0} (keys : Keys K) (o : Options) where

@@ -8,15 +8,15 @@
 //
 // What comes out is the text, and the verdict: what is wrong with the first faulty line. A line is
 // done, and its text appended, before the next one is read.
-ghost use Rattle.std.specs.Prelude.{◌≡◌, ◌≤◌, IfOk, IfErr, length, map, vec_len, None};
+ghost use Rattle.std.specs.Prelude.{◌≡◌, ◌≤◌, ◌++◌, IfOk, IfErr, OnOk, length, map, vec_len, None};
 ghost use Rattle.wt_core.specs.State.{stats_of};
 ghost use Rattle.wt_core.specs.Sums.{AreSums};
-ghost use Rattle.wt_trace.specs.Contract.{IsPrinted, ShowsLine, ShowsLines, StandBehind};
+ghost use Rattle.wt_trace.specs.Contract.{AreShown, IsPrinted};
 ghost use Rattle.wt_trace.specs.Keys.{keys_of};
 ghost use Rattle.wt_trace.specs.Options.{option_fault};
 ghost use Rattle.wt_trace.specs.Report.{report_from};
 ghost use Rattle.wt_trace.specs.Report as spec;
-ghost use Rattle.wt_trace.specs.Standing.{standing_of, new_standings};
+ghost use Rattle.wt_trace.specs.Standing.{line_by, new_standings, next_standing, standing_of};
 ghost use Rattle.wt_trace.specs.Stops.{IsStop};
 ghost use Rattle.wt_trace.specs.Trace.{line_end};
 
@@ -60,8 +60,10 @@ fn show_line<K: TraceKey>(
     line: &Line<K>,
     out: &mut Vec<u8>,
 ) -> Result<(), ReplayFault>
-    ensures text { ShowsLine K.TraceKey n line.now shards.old out.old out.new result }
-    ensures state { StandBehind K.TraceKey n line.now shards.old shards.new result }
+    ensures text { OnOk result (out.new.items ≡ out.old.items
+        ++ line_by (keys_of K.TraceKey) n line.now (map standing_of shards.old)) }
+    ensures state { OnOk result (map standing_of shards.new
+        ≡ map (next_standing (keys_of K.TraceKey) n line.now) (map standing_of shards.old)) }
     ensures err { IfErr result (IsStop (λ _. ⊥)) }
 {
     show_number(out, n)?;
@@ -82,7 +84,8 @@ fn show_lines<K: TraceKey>(
     out: &mut Vec<u8>,
 ) -> Result<Result<(), ReplayFault>, ReplayFault>
     requires { first ≤ line_end }
-    ensures { ShowsLines K.TraceKey first bytes.now shards.old shards.new out.old out.new result }
+    ensures { AreShown (keys_of K.TraceKey) first bytes.now (map standing_of shards.old)
+        (map standing_of shards.new) out.old.items out.new.items result }
 {
     let mut rest = bytes;
     let mut n = first;

@@ -1,4 +1,4 @@
-// From a reader to a writer.
+// Replays a trace that a reader gives, and writes the report to a writer.
 ghost use Rattle.std.specs.Prelude.{◌≡◌, ◌+◌, ◌<◌, ◌≤◌, ◌⊎◌, IfErr, true, false};
 ghost use Rattle.wt_trace.specs.Contract.{IsGiven, IsRun, IsWritten};
 ghost use Rattle.wt_trace.specs.Replayed.{Replayed, Rises, LetThrough, is_config_fault};
@@ -11,6 +11,7 @@ use crate::report::on_threads::report_by_shard;
 use crate::report::report;
 use crate::report::texts::Texts;
 use crate::shard::gate::Gate;
+use crate::shard::job::Job;
 use crate::tallied::Tallied;
 use std::alloc::Global;
 use std::io::{Read, Write};
@@ -136,7 +137,13 @@ pub fn replay_by_shard<H: Threads + Sync, R: Read, W: Write, G: Gate>(
         return Err(ReplayFault::Cache(Fault::BadConfig { field }));
     }
     let bytes = read_up_to(alloc, reader, MOST_BYTES)?;
-    let (text, verdict) = report_by_shard(rt, alloc, bytes, options, threads as usize, gate)?;
+    let job = Job {
+        alloc,
+        options,
+        threads: threads as usize,
+        gate,
+    };
+    let (text, verdict) = report_by_shard(rt, &job, bytes)?;
     write_pieces(writer, &text)?;
     verdict
 }

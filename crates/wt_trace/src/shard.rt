@@ -1,22 +1,24 @@
-// A shard at work on the lines of a trace.
-ghost use Rattle.std.specs.Prelude.{◌≡◌, IfOk, IfErr, length, vec_len, None, true, false};
+// One shard of a replay: does the lines of the trace, and makes what they add to the report.
+ghost use Rattle.std.specs.Prelude.{◌≡◌, IfOk, IfErr, OnOk, length, vec_len, None, true, false};
 ghost use Rattle.wt_trace.specs.Keys.{keys_of};
 ghost use Rattle.wt_trace.specs.Options.{option_fault};
 ghost use Rattle.wt_trace.specs.Answers as spec;
-ghost use Rattle.wt_trace.specs.Contract.{Does, DoesLine, DoesOwn, IsOfShard, IsReady, Lands, Makes, WasAsked};
+ghost use Rattle.wt_trace.specs.Contract.{Adds, IsOfShard, IsReady};
 ghost use Rattle.wt_trace.specs.Stops.{IsStop};
 ghost use Rattle.wt_trace.specs.declared.trace.line.Act.TheVariants as act;
 
 pub(crate) mod answers;
 pub(crate) mod gate;
+pub(crate) mod job;
 pub(crate) mod rules;
 pub(crate) mod version;
 pub(crate) mod words;
 
 use crate::fault::ReplayFault;
 use crate::options::Options;
-use crate::shard::answers::Answers;
+use crate::shard::answers::ShardAnswers;
 use crate::shard::gate::Gate;
+use crate::shard::job::Job;
 use crate::shard::rules::{load_by, version_by};
 use crate::shard::version::Version;
 use crate::shard::words::{show, show_loaded, show_notices, show_reply, show_with};
@@ -98,7 +100,8 @@ impl<K: TraceKey> Shard<K> {
 
     // Makes one call, and appends its words and its notices.
     fn one_call(&mut self, call: Call<K, Version<K>>, out: &mut Vec<u8>) -> Result<(), NoMemory>
-        ensures { Makes K.TraceKey call self.old self.new out.old out.new result }
+        ensures { Adds (spec.one_call (keys_of K.TraceKey) self.old.shard self.old.state call)
+            self.old self.new out.old.items out.new.items result }
     {
         self.told.empty();
         let reply = self.core.take(call, &mut self.told)?;
@@ -117,7 +120,8 @@ impl<K: TraceKey> Shard<K> {
         moment: u64,
         out: &mut Vec<u8>,
     ) -> Result<(), NoMemory>
-        ensures { Lands K.TraceKey id n key moment self.old self.new out.old out.new result }
+        ensures { Adds (spec.landed_by (keys_of K.TraceKey) self.old id n key moment)
+            self.old self.new out.old.items out.new.items result }
     {
         self.later.empty();
         let call = Call::Land(id, key, load_by(&self.options, n, key), moment);
@@ -130,7 +134,8 @@ impl<K: TraceKey> Shard<K> {
 
     // Does a line of letter G: a seek, and the landing of the flight that it opens.
     fn fetch(&mut self, n: u64, key: K, moment: u64, out: &mut Vec<u8>) -> Result<(), NoMemory>
-        ensures { Does K.TraceKey n moment (act.Get key) self.old self.new out.old out.new result }
+        ensures { Adds (spec.done_by (keys_of K.TraceKey) self.old n moment (act.Get key))
+            self.old self.new out.old.items out.new.items result }
     {
         self.told.empty();
         let reply = self.core.take(Call::Seek(key, moment), &mut self.told)?;
@@ -156,7 +161,8 @@ impl<K: TraceKey> Shard<K> {
         moment: u64,
         out: &mut Vec<u8>,
     ) -> Result<(), NoMemory>
-        ensures { Does K.TraceKey n moment (act.Land key) self.old self.new out.old out.new result }
+        ensures { Adds (spec.done_by (keys_of K.TraceKey) self.old n moment (act.Land key))
+            self.old self.new out.old.items out.new.items result }
     {
         match self.core.first_of(key) {
             Some(id) => {
@@ -172,7 +178,8 @@ impl<K: TraceKey> Shard<K> {
 
     // Does what line n asks for, and appends what the shard adds to it.
     fn act(&mut self, n: u64, line: &Line<K>, out: &mut Vec<u8>) -> Result<(), NoMemory>
-        ensures { DoesOwn K.TraceKey n line.now self.old self.new out.old out.new result }
+        ensures { Adds (spec.done_by (keys_of K.TraceKey) self.old n line.now.moment line.now.act)
+            self.old self.new out.old.items out.new.items result }
     {
         let now = line.moment;
         match line.act {
@@ -201,8 +208,10 @@ impl<K: TraceKey> Shard<K> {
         line: &Line<K>,
         out: &mut Vec<u8>,
     ) -> Result<(), ReplayFault>
-        ensures made { DoesLine K.TraceKey n line.now self.old self.new out.old out.new result }
-        ensures asked { WasAsked K.TraceKey self.old line.now (G.answers gate.now n true) result }
+        ensures made { Adds (spec.line_step (keys_of K.TraceKey) self.old.options self.old.shard n
+            line.now self.old.state) self.old self.new out.old.items out.new.items result }
+        ensures asked { OnOk result (spec.belongs (keys_of K.TraceKey) self.old.options
+            self.old.shard line.now.act ≡ true → G.answers gate.now n true) }
         ensures err { IfErr result (IsStop (λ m. G.answers gate.now m false)) }
     {
         if !belongs(&self.options, self.number, &line.act) {
@@ -238,7 +247,7 @@ fn end_of(text: &Vec<u8>) -> Result<u32, NoMemory>
 }
 
 /// Does the lines, the first of which is line `first`, at a new shard of this number, and asks the
-/// gate before each that belongs to it.
+/// job's gate before each that belongs to it.
 ///
 /// The first line that the gate doesn't let through ends it with `GateShut`. Takes memory for the
 /// shard, for two lists of notices with room for its entries, and for the texts. Texts of 2^32 bytes
@@ -246,29 +255,27 @@ fn end_of(text: &Vec<u8>) -> Result<u32, NoMemory>
 /// shard tells of at most 1,000,000 that left.
 #[tactic(auto, unfolding(crate::specs::Answers::answers))]
 pub fn shard_answers<K: TraceKey, G: Gate>(
-    alloc: Global,
-    options: &Options,
+    job: &Job<'_, G>,
     number: usize,
     first: u64,
     lines: Walk<'_, K>,
-    gate: &G,
-) -> Result<Answers, ReplayFault>
-    requires { IsReady options.now first (length lines) }
-    ensures made { IsOfShard (keys_of K.TraceKey) options.now (G.answers gate.now) first
-        lines.entry number result }
+) -> Result<ShardAnswers, ReplayFault>
+    requires { IsReady job.now.options.now first (length lines) }
+    ensures made { IsOfShard (keys_of K.TraceKey) job.now.options.now (G.answers job.now.gate.now)
+        first lines.entry number result }
 {
-    let mut shard = Shard::new(alloc, options, number)?;
-    let mut text = Vec::with_capacity(alloc, lines.room().saturating_mul(TEXT_A_LINE))?;
-    let mut ends = Vec::with_capacity(alloc, lines.room())?;
+    let mut shard = Shard::new(job.alloc, job.options, number)?;
+    let mut text = Vec::with_capacity(job.alloc, lines.room().saturating_mul(TEXT_A_LINE))?;
+    let mut ends = Vec::with_capacity(job.alloc, lines.room())?;
     let mut rest = lines;
     let mut n = first;
     while let Some(line) = rest.next() {
-        shard.do_line(gate, n, line, &mut text)?;
+        shard.do_line(job.gate, n, line, &mut text)?;
         let end = end_of(&text)?;
         ends.push(end)?;
         n += 1;
     }
-    Ok(Answers {
+    Ok(ShardAnswers {
         stats: shard.stats(),
         text,
         ends,

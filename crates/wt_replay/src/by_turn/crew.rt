@@ -1,4 +1,4 @@
-// The threads of a replay turn by turn, and its workers.
+// Starts the threads of a replay turn by turn and its workers, and gathers what they hand back.
 ghost use Rattle.std.specs.Prelude.{◌≡◌, ◌<◌, ◌≤◌, ℕ, length, vec_len, get_or, IfOk, IfErr, IfSome, IsOk, IsNone, Err, false};
 ghost use Rattle.wt_replay.specs.ByTurn.{IsManned};
 ghost use Rattle.wt_replay.specs.Contract.{HaveRan};

@@ -1,4 +1,4 @@
-// The loader of a trace.
+// The loader of a replay turn by turn: makes the values that the cache loads.
 ghost use Rattle.std.specs.Prelude.{◌≡◌, ◌<◌, ◌≤◌, None, false, IfOk, IsTrue};
 ghost use Rattle.wt_replay.specs.Turns.{loaded};
 ghost use Rattle.wt_trace.specs.Answers.{version};

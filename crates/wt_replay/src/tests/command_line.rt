@@ -1,4 +1,4 @@
-// What the words of a command line become.
+// The options that the words of a command line give.
 use crate::{command, options_of};
 use std::alloc::Global;
 use std::test::*;

@@ -3,14 +3,14 @@ ghost use Rattle.std.specs.Prelude.{◌≡◌, ◌++◌, ◌≤◌, IfOk, OnOk, 
 ghost use Rattle.wt_core.specs.Sums.{AreSums};
 ghost use Rattle.wt_trace.specs.Report as spec;
 
-use crate::shard::answers::Answers;
+use crate::shard::answers::ShardAnswers;
 use crate::trace::digits::show_number;
 use std::alloc::{AllocError, Global};
 use wt_core::Stats;
 use wt_keys::NoMemory;
 
 // The sums of the numbers of all shards.
-fn totals_of(all: &[Answers]) -> Stats
+fn totals_of(all: &[ShardAnswers]) -> Stats
     requires { length all.now ≤ 4 }
     ensures { AreSums (λ a. a.stats) result all.now }
 {
@@ -47,7 +47,7 @@ pub(crate) fn show_numbers(out: &mut Vec<u8>, sum: &Stats) -> Result<(), AllocEr
 }
 
 /// Appends the summary.
-pub fn show_summary(out: &mut Vec<u8>, all: &[Answers]) -> Result<(), AllocError>
+pub fn show_summary(out: &mut Vec<u8>, all: &[ShardAnswers]) -> Result<(), AllocError>
     requires { length all.now ≤ 4 }
     ensures { OnOk result (out.new.items ≡ out.old.items ++ spec.summary all.now) }
 {

@@ -1,4 +1,4 @@
-// What one shard answers to the lines of a trace, as texts that stand one behind the other.
+// What one shard answers to the lines of a trace: a text for each, and its numbers at the end.
 ghost use Rattle.std.specs.Prelude.{◌≡◌, ◌<◌, ◌≤◌, length, slice_range, get_or, [], ◌∷◌};
 ghost use Rattle.wt_trace.specs.Pieces.{pieces, AreEnds};
 
@@ -9,27 +9,27 @@ use wt_core::Stats;
 ///
 /// The texts stand one behind the other, so that a line costs its bytes and 4 more.
 #[derive(Drop)]
-pub struct Answers {
+pub struct ShardAnswers {
     pub(crate) text: Vec<u8>,
     // where the text of each line ends
     pub(crate) ends: Vec<u32>,
     pub(crate) stats: Stats,
 }
 
-impl Model for Answers {
+impl Model for ShardAnswers {
     ghost use Rattle.std.specs.Prelude.{length};
     ghost use Rattle.wt_core.specs.Lawful.{AreSmall};
-    ghost use Rattle.wt_trace.specs.Answers.{Answers};
+    ghost use Rattle.wt_trace.specs.Answers.{ShardAnswers};
     ghost use Rattle.wt_trace.specs.Pieces.{pieces, AreEnds};
 
-    ghost Value = { Answers };
+    ghost Value = { ShardAnswers };
 
     ghost view = { λ a. record { texts = pieces a.text.items 0 a.ends.items; stats = a.stats } };
 
     ghost invariant = { λ a. AreEnds (length a.text.items) 0 a.ends.items × AreSmall a.stats };
 }
 
-impl Answers {
+impl ShardAnswers {
     ghost use Rattle.wt_core.specs.Lawful.{AreSmall};
 
     /// Returns the text that is added to the i-th line, from 0.

@@ -1,4 +1,4 @@
-// Who may stop a replay before a line.
+// The gate that the threads of a replay ask before each line, and that may stop them.
 ghost use Rattle.std.specs.Prelude.{◌≡◌, ℕ, Bool, true};
 
 use std::marker::Sync;

@@ -1,4 +1,4 @@
-// What a trace stores: the key, and the line that made it.
+// The values that a trace stores: each has its key, and the number of the line that made it.
 ghost use Rattle.std.specs.Prelude.{◌≡◌, IfOk, IsOk, true};
 
 use wt_core::Weighs;

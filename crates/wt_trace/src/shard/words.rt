@@ -1,4 +1,4 @@
-// The words of a report: those of replies, and those of what left.
+// Prints the words of a report: those for a reply, and those for entries that left the cache.
 ghost use Rattle.std.specs.Prelude.{◌≡◌, ◌++◌, OnOk, decimal};
 ghost use Rattle.wt_trace.specs.Words as spec;
 

@@ -1,4 +1,4 @@
-// Bytes that are cut.
+// Cuts bytes at the first one that is a given byte, as a space or an LF.
 ghost use Rattle.std.specs.Prelude.{◌≡◌, ◌==◌, position};
 ghost use Rattle.std.specs.List.{before_first, after_first};
 

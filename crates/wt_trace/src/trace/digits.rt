@@ -1,4 +1,4 @@
-// Numbers as digits: read and written.
+// Reads and prints numbers as decimal digits.
 ghost use Rattle.std.specs.Prelude.{◌≡◌, ◌++◌, ◌^◌, ◌≤◌, OnOk, IfSome, IsNone, decimal};
 ghost use Rattle.std.specs.Str.Parse.{AllDigits, digits_value};
 ghost use Rattle.wt_trace.specs.Keys.{IsValueOf, number_of};

@@ -13,9 +13,12 @@ returns-in-Ok-settled g c =
     let deal = c.args.deal.now in
     let done : AreDone keys options c.in-Ok.cache answers deal.first deal.lines.now deal.threads c.in-Ok-Ok.ran.items = search rules in
     let none : IsNone c.stop_of.result = subst IsNone (sym (not_there c.stop_of.result c.in_default-stop_of.not-Some)) refl in
-    let ok : (t : ℕ) → t < deal.threads → IsOk (get_or c.in-Ok-Ok.ran.items t unmade) = λ t within. c.stop_of.ensures.none none t (search rules) in
+    let ok : (t : ℕ) → t < deal.threads
+    → IsOk (get_or c.in-Ok-Ok.ran.items t unmade) =
+    λ t within. c.stop_of.ensures.none none t (search rules) in
     record {
-      asked = done_asked keys options c.in-Ok.cache answers deal.first deal.lines.now deal.threads c.in-Ok-Ok.ran.items deal.ready.some_line deal.ready.some done ok;
+      asked = done_asked keys options c.in-Ok.cache answers deal.first deal.lines.now deal.threads
+          c.in-Ok-Ok.ran.items deal.ready.some_line deal.ready.some done ok;
       looked = search rules;
       err = tt;
     }

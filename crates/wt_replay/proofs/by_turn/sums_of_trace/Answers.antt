@@ -11,19 +11,23 @@ pub returns-in-Err : goal.returns-in-Err
 returns-in-Err g c =
     let t = trace_from g.K.TraceKey.read c.args.first (lines_of c.args.bytes.now) in
     let none : first_open c.args.first t.lines ≡ None =
-    ap (first_open c.args.first) (sym (c.deref.ensures.value ∙ c.in-Ok.ensures.made.lines)) ∙ sym c.first_open.ensures ∙ not_there c.first_open.result c.in_default-first_open.not-Some in
+    ap (first_open c.args.first) (sym (c.deref.ensures.value ∙ c.in-Ok.ensures.made.lines))
+    ∙ sym c.first_open.ensures ∙ not_there c.first_open.result c.in_default-first_open.not-Some in
     let err : t.verdict ≡ Err c.in-Err.fault = search rules in
     record {
       asked = tt;
       looked = tt;
       sound = tt;
-      faults = faulty_verdict (λ n. g.G.Gate.answers c.args.gate.now n false) c.args.first t c.in-Err.fault none err (verdict_of-trace g.K.TraceKey.read c.args.first (lines_of c.args.bytes.now));
+      faults = faulty_verdict (λ n. g.G.Gate.answers c.args.gate.now n false) c.args.first t c.in-Err.fault none
+          err (verdict_of-trace g.K.TraceKey.read c.args.first (lines_of c.args.bytes.now));
     }
 
 pub returns-in-Ok-totals_by_turn : goal.returns-in-Ok-totals_by_turn
 returns-in-Ok-totals_by_turn g c =
     record {
-      asked = subst (λ (ls : List (Line g.row.K.Denot)). AreAsked (λ _. true) (λ n. g.G.Gate.answers c.args.gate.now n true) c.args.first ls) (c.deref-2.ensures.value ∙ c.in-Ok.ensures.made.lines) c.in-Ok-totals_by_turn.ensures.asked;
+      asked = subst (λ (ls : List (Line g.row.K.Denot)). AreAsked (λ _. true)
+          (λ n. g.G.Gate.answers c.args.gate.now n true) c.args.first ls)
+          (c.deref-2.ensures.value ∙ c.in-Ok.ensures.made.lines) c.in-Ok-totals_by_turn.ensures.asked;
       looked = c.in-Ok-totals_by_turn.ensures.looked;
       sound = search rules;
       faults = tt;

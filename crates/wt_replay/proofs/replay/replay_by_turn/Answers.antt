@@ -9,7 +9,9 @@ use Rattle.wt_replay.proofs.replay.replay_by_turn.Goals as goal
 pub returns-clause-asked : goal.returns-clause-asked
 returns-clause-asked g c =
     let passed : ℕ → Type 0 = λ n. g.G.Gate.answers c.args.gate.now n true in
-    let asked : IsLetThrough passed c.in_ok-bytes.bytes.items = subst (λ (bytes : List ℕ). IsLetThrough passed bytes) c.as_slice.ensures.value c.in_ok-sums.ensures.made.asked in
+    let asked : IsLetThrough passed c.in_ok-bytes.bytes.items =
+    subst (λ (bytes : List ℕ). IsLetThrough passed bytes) c.as_slice.ensures.value
+    c.in_ok-sums.ensures.made.asked in
     always c.write_out.result (c.in_ok-bytes.bytes.items, c.in_ok-bytes.ensures.given, asked)
 
 pub returns-in_err-sums-clause-made : goal.returns-in_err-sums-clause-made
@@ -19,7 +21,9 @@ returns-in_err-sums-clause-made g c =
     let none : option_fault c.args.options.now ≡ None = search rules in
     let bytes = c.as_slice.result.now in
     let gave : Gave (remaining c.args.reader.now.inner) (remaining c.read_up_to.new.reader.inner) bytes =
-    subst (λ (bs : List ℕ). Gave (remaining c.args.reader.now.inner) (remaining c.read_up_to.new.reader.inner) bs) (sym c.as_slice.ensures.value) c.in_ok-bytes.ensures.given in
+    subst (λ (bs : List ℕ). Gave (remaining c.args.reader.now.inner)
+    (remaining c.read_up_to.new.reader.inner) bs)
+    (sym c.as_slice.ensures.value) c.in_ok-bytes.ensures.given in
     let e = c.in_err-sums.field-0.0 in
     let is = c.from_residual-in_err-sums.ensures.1 in
     record {

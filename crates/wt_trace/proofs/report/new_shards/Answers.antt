@@ -8,11 +8,19 @@ pub loop-number-preserved : goal.loop-number-preserved
 loop-number-preserved g c =
     let inv = c.loop-number.invariant in
     record {
-      made = new_more c.args.options.now c.loop-number.number c.loop-number.shards.items _ _ inv.made c.in_ok-push.ensures.items c.in_ok-new.ensures.options c.in_ok-new.ensures.number c.in_ok-new.ensures.state;
+      made = new_more c.args.options.now c.loop-number.number c.loop-number.shards.items _ _ inv.made
+          c.in_ok-push.ensures.items c.in_ok-new.ensures.options c.in_ok-new.ensures.number
+          c.in_ok-new.ensures.state;
       count = search rules;
     }
 
 pub returns-clause-made : goal.returns-clause-made
 returns-clause-made g c =
-    let count : c.loop-number.number ≡ c.args.options.now.shards = omega (arith, c.loop-number.auto.number-end, c.loop-number-test.false, c.shards-number-end.ensures.value) in
+    let count : c.loop-number.number ≡ c.args.options.now.shards =
+    omega (
+      arith,
+      c.loop-number.auto.number-end,
+      c.loop-number-test.false,
+      c.shards-number-end.ensures.value,
+    ) in
     c.loop-number.invariant.made ∙ ap (λ n. map (new_standing c.args.options.now) (range_with_len 0 n)) count

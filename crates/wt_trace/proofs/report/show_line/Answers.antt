@@ -14,12 +14,15 @@ loop-shard-preserved g c =
     let first : List (Standing g.row.K.Denot) = map standing_of c.args.shards.now in
     let ws = c.loop-shard.shards in
     let here : c.loop-shard.shard-index < length ws = search rules in
-    let within : c.loop-shard.shard-index < length first = omega (arith, length-map c.args.shards.now standing_of, c.loop-shard.auto.shards, here) in
+    let within : c.loop-shard.shard-index < length first =
+    omega (arith, length-map c.args.shards.now standing_of, c.loop-shard.auto.shards, here) in
     let old = get_or ws c.loop-shard.shard-index c.shard-item.result in
     let options : c.do_line.new.self.options ≡ old.options = done.same.0 in
     let number : c.do_line.new.self.shard ≡ old.shard = done.same.1 in
     let state : c.do_line.new.self.state ≡ (line_step keys old.options old.shard c.args.n c.args.line.now old.state).state = done.state in
     let text : c.do_line.new.out.items ≡ c.loop-shard.out.items ++ added_text keys c.args.n c.args.line.now (standing_of old) = done.text in
-    let both = one_work keys c.args.n c.args.line.now first ws c.loop-shard.shard-index old c.do_line.new.self _ c.loop-shard.out.items c.do_line.new.out.items
-    within here inv.standings (ap (λ (w : Work g.row.K.Denot). get_or ws c.loop-shard.shard-index w) c.shard-item.is) inv.text options number state text in
+    let both = one_work keys c.args.n c.args.line.now first ws c.loop-shard.shard-index old c.do_line.new.self _
+    c.loop-shard.out.items c.do_line.new.out.items
+    within here inv.standings (ap (λ (w : Work g.row.K.Denot). get_or ws c.loop-shard.shard-index w)
+    c.shard-item.is) inv.text options number state text in
     record { text = both.0; standings = both.1 }

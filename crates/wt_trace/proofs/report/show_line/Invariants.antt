@@ -8,6 +8,9 @@ abbrev pub invariant-loop-shard : goal.invariant-loop-shard
 invariant-loop-shard g l =
     let keys = keys_by g.K.PartialEq.eq g.K.CacheKey.word g.K.TraceKey.read g.K.TraceKey.shown in
     record {
-      text : l.out.items ≡ l.initial.out.items ++ flat_map (added_text keys l.n l.line) (take l.shard-index (map standing_of l.initial.shards));
-      standings : map standing_of l.shards ≡ map (next_standing keys l.n l.line) (take l.shard-index (map standing_of l.initial.shards)) ++ drop l.shard-index (map standing_of l.initial.shards);
+      text : l.out.items ≡ l.initial.out.items
+          ++ flat_map (added_text keys l.n l.line) (take l.shard-index (map standing_of l.initial.shards));
+      standings : map standing_of l.shards
+          ≡ map (next_standing keys l.n l.line) (take l.shard-index (map standing_of l.initial.shards))
+          ++ drop l.shard-index (map standing_of l.initial.shards);
     }

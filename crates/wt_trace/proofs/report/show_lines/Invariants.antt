@@ -10,8 +10,10 @@ invariant-loop-rest g l =
     let left = trace_from g.K.TraceKey.read l.n (lines_of l.rest) in
     let all = trace_from g.K.TraceKey.read l.fn.first (lines_of l.fn.bytes) in
     record {
-      text : l.out.items ++ lines_by keys l.n left.lines (map standing_of l.shards) ≡ l.initial.out.items ++ lines_by keys l.fn.first all.lines (map standing_of l.initial.shards);
-      standings : standings_after keys l.n left.lines (map standing_of l.shards) ≡ standings_after keys l.fn.first all.lines (map standing_of l.initial.shards);
+      text : l.out.items ++ lines_by keys l.n left.lines (map standing_of l.shards) ≡ l.initial.out.items
+          ++ lines_by keys l.fn.first all.lines (map standing_of l.initial.shards);
+      standings : standings_after keys l.n left.lines (map standing_of l.shards)
+          ≡ standings_after keys l.fn.first all.lines (map standing_of l.initial.shards);
       verdict : left.verdict ≡ all.verdict;
       few : l.n ≤ 1000001;
     }

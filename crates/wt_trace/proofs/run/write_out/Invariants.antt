@@ -4,7 +4,8 @@ use Rattle.wt_trace.proofs.run.write_out.Given as goal
 
 abbrev pub invariant-loop-rest : goal.invariant-loop-rest
 invariant-loop-rest g l = record {
-  taken : (front : List ℕ) × (l.bytes ≡ front ++ l.rest) × Appends (g.W.Write.contents l.initial.writer.inner) (g.W.Write.contents l.writer.inner) front;
+  taken : (front : List ℕ) × (l.bytes ≡ front ++ l.rest)
+      × Appends (g.W.Write.contents l.initial.writer.inner) (g.W.Write.contents l.writer.inner) front;
   fine : l.writer.failures ≡ l.initial.writer.failures;
 }
 

@@ -5,7 +5,8 @@ use Rattle.wt_trace.proofs.run.write_pieces.Given as goal
 
 abbrev pub invariant-loop-piece : goal.invariant-loop-piece
 invariant-loop-piece g l = record {
-  taken : (front : List ℕ) × (l.text ≡ front ++ whole l.rest) × Appends (g.W.Write.contents l.initial.writer.inner) (g.W.Write.contents l.writer.inner) front;
+  taken : (front : List ℕ) × (l.text ≡ front ++ whole l.rest)
+      × Appends (g.W.Write.contents l.initial.writer.inner) (g.W.Write.contents l.writer.inner) front;
   fine : l.writer.failures ≡ l.initial.writer.failures;
 }
 

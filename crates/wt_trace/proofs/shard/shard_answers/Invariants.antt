@@ -10,11 +10,14 @@ use Rattle.wt_trace.proofs.shard.shard_answers.Given as goal
 abbrev pub invariant-loop-line : goal.invariant-loop-line
 invariant-loop-line g l =
     let keys = keys_by g.K.PartialEq.eq g.K.CacheKey.word g.K.TraceKey.read g.K.TraceKey.shown in
+    let o = l.job.options.now in
+    let all = answers_from keys o l.number l.fn.first l.fn.lines (opening (config_of o)) in
+    let asked = AreAsked (belongs keys o l.number) (λ m. g.G.Gate.answers l.job.gate.now m true) in
     record {
-      far : IsSoFar keys l.options l.number (answers_from keys l.options l.number l.fn.first l.fn.lines (opening (config_of l.options))) l.text.items l.ends.items l.n l.rest l.shard.state;
-      options : l.shard.options ≡ l.options;
+      far : IsSoFar keys o l.number all l.text.items l.ends.items l.n l.rest l.shard.state;
+      options : l.shard.options ≡ o;
       number : l.shard.shard ≡ l.number;
-      asked : AreAsked (belongs keys l.options l.number) (λ m. g.G.Gate.answers l.gate m true) l.n l.rest → AreAsked (belongs keys l.options l.number) (λ m. g.G.Gate.answers l.gate m true) l.fn.first l.fn.lines;
+      asked : asked l.n l.rest → asked l.fn.first l.fn.lines;
       numbers : l.n + length l.rest ≡ l.fn.first + length l.fn.lines;
     }
 

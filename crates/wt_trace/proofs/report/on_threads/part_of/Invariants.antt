@@ -9,7 +9,9 @@ use Rattle.wt_trace.proofs.report.on_threads.part_of.Given as goal
 abbrev pub invariant-loop-shard : goal.invariant-loop-shard
 invariant-loop-shard g l =
     let keys = keys_by g.K.PartialEq.eq g.K.CacheKey.word g.K.TraceKey.read g.K.TraceKey.shown in
+    let o = l.job.options.now in
     record {
-      made : l.places.items ≡ map (part_at (answers keys l.options l.first l.read.lines) l.threads l.t) (range_with_len 0 l.shard);
-      asked : (s : ℕ) → s < l.shard → s % l.threads ≡ l.t → AreAsked (belongs keys l.options s) (λ n. g.G.Gate.answers l.gate n true) l.first l.read.lines;
+      made : l.places.items ≡ map (part_at (answers keys o l.first l.read.lines) l.job.threads l.t) (range_with_len 0 l.shard);
+      asked : (s : ℕ) → s < l.shard → s % l.job.threads ≡ l.t
+          → AreAsked (belongs keys o s) (λ n. g.G.Gate.answers l.job.gate.now n true) l.first l.read.lines;
     }

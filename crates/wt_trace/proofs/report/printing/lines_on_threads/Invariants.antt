@@ -6,5 +6,5 @@ use Rattle.wt_trace.proofs.report.printing.lines_on_threads.Given as goal
 abbrev pub invariant-loop-piece : goal.invariant-loop-piece
 invariant-loop-piece g l = record {
   order : l.yielded ++ into_iter_items l.piece-iterator ≡ into_iter_items l.initial.piece-iterator;
-  text : l.text ≡ lines_text l.first l.all 0 (min (length l.yielded * l.most) l.count);
+  text : l.text ≡ lines_text l.lines.first l.lines.all.now 0 (min (length l.yielded * l.most) l.lines.count);
 }

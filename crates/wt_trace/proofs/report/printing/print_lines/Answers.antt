@@ -7,6 +7,9 @@ pub loop-i-preserved : goal.loop-i-preserved
 loop-i-preserved c =
     let text = line_text c.args.first c.args.all.now in
     let before = c.args.out.now.items in
+    let at = c.args.from + c.loop-i.i in
     let lines = lines_text c.args.first c.args.all.now c.args.from c.loop-i.i in
-    c.in_ok-print_line.ensures ∙ ap (λ (xs : List ℕ). xs ++ text (c.args.from + c.loop-i.i)) c.loop-i.invariant ∙ append_assoc before lines (text (c.args.from + c.loop-i.i))
-    ∙ ap (λ (xs : List ℕ). before ++ xs) (sym (flat_map-range_with_len text c.args.from c.loop-i.i (c.args.from + c.loop-i.i) refl))
+    c.in_ok-print_line.ensures
+    ∙ ap (λ (xs : List ℕ). xs ++ text at) c.loop-i.invariant
+    ∙ append_assoc before lines (text at)
+    ∙ ap (λ (xs : List ℕ). before ++ xs) (sym (flat_map-range_with_len text c.args.from c.loop-i.i at refl))

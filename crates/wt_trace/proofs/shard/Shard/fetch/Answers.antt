@@ -18,10 +18,13 @@ returns-in_ok-show_notices-in_default g c =
     let keys = keys_by g.K.PartialEq.eq g.K.CacheKey.word g.K.TraceKey.read g.K.TraceKey.shown in
     let m : Made g.row.K.Denot (Version g.row.K.Denot) = take keys i.core (Seek c.args.key c.args.moment) in
     let is = fetched-otherwise keys i.options c.args.n c.args.moment c.args.key m.reply m
-    (λ id e. c.in_default.not-Lead id (c.in_ok-reply.ensures.answer ∙ e)) (λ v id e. c.in_default.not-HitLead v id (c.in_ok-reply.ensures.answer ∙ e)) in
+    (λ id e. c.in_default.not-Lead id (c.in_ok-reply.ensures.answer ∙ e))
+    (λ v id e. c.in_default.not-HitLead v id (c.in_ok-reply.ensures.answer ∙ e)) in
     let told : List (Notice g.row.K.Denot (Version g.row.K.Denot)) → List ℕ = flat_map (notice_text keys.shown) in
     let reply : c.in_ok-reply.reply ≡ m.reply = c.in_ok-reply.ensures.answer in
-    let left : c.list.result.now ≡ m.notices = c.list.ensures ∙ ap (λ (t : NoticeList g.row.K.Denot (Version g.row.K.Denot)). t.list) (c.in_ok-reply.ensures.notices ∙ ap (appended m.notices) c.empty.ensures) in
+    let left : c.list.result.now ≡ m.notices = c.list.ensures
+    ∙ ap (λ (t : NoticeList g.row.K.Denot (Version g.row.K.Denot)). t.list)
+    (c.in_ok-reply.ensures.notices ∙ ap (appended m.notices) c.empty.ensures) in
     rw (← c.self.view_is) (record {
       state = c.in_ok-reply.ensures.state ∙ ap (λ (s : Shown g.row.K.Denot). s.state) (sym is);
       text = c.in_ok-show_notices-in_default.ensures ∙ ap (λ xs. xs ++ told c.list.result.now) c.in_ok-show_reply-in_default.ensures

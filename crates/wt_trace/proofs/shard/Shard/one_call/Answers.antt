@@ -17,7 +17,9 @@ returns g c =
     let m : Made g.row.K.Denot (Version g.row.K.Denot) = take keys i.core c.args.call in
     let told : List (Notice g.row.K.Denot (Version g.row.K.Denot)) → List ℕ = flat_map (notice_text keys.shown) in
     let reply : c.in_ok-reply.reply ≡ m.reply = c.in_ok-reply.ensures.answer in
-    let left : c.list.result.now ≡ m.notices = c.list.ensures ∙ ap (λ (t : NoticeList g.row.K.Denot (Version g.row.K.Denot)). t.list) (c.in_ok-reply.ensures.notices ∙ ap (appended m.notices) c.empty.ensures) in
+    let left : c.list.result.now ≡ m.notices = c.list.ensures
+    ∙ ap (λ (t : NoticeList g.row.K.Denot (Version g.row.K.Denot)). t.list)
+    (c.in_ok-reply.ensures.notices ∙ ap (appended m.notices) c.empty.ensures) in
     rw (← c.self.view_is) (record {
       state = c.in_ok-reply.ensures.state;
       text = c.in_ok-show_notices.ensures ∙ ap (λ xs. xs ++ told c.list.result.now) c.in_ok-show_reply.ensures

@@ -5,22 +5,37 @@ use Rattle.wt_trace.proofs.Numbers.{one_more, too_large, digit_range, no_digit}
 use Rattle.wt_trace.proofs.trace.digits.value_of.Goals as goal
 
 pub returns-then-not-is_ascii_digit-clause-none : goal.returns-then-not-is_ascii_digit-clause-none
-returns-then-not-is_ascii_digit-clause-none c = λ _ all. absurd (no_digit _ _ c.if-not-is_ascii_digit.true c.is_ascii_digit.ensures.value (digit_at c.args.digits.now c.loop-b.b-index all (omega arith)))
+returns-then-not-is_ascii_digit-clause-none c =
+    λ _ all. absurd (no_digit _ _ c.if-not-is_ascii_digit.true c.is_ascii_digit.ensures.value
+    (digit_at c.args.digits.now c.loop-b.b-index all (omega arith)))
 
 pub returns-in_err-checked_mul-clause-none : goal.returns-in_err-checked_mul-clause-none
 returns-in_err-checked_mul-clause-none c = λ _ _.
-    let more = one_more c.args.digits.now c.loop-b.b-index c.loop-b.n (omega arith) c.loop-b.invariant.digits c.loop-b.invariant.value (digit_range _ _ c.if-not-is_ascii_digit.false c.is_ascii_digit.ensures.value) in
+    let more = one_more c.args.digits.now c.loop-b.b-index c.loop-b.n
+    (omega arith) c.loop-b.invariant.digits c.loop-b.invariant.value
+    (digit_range _ _ c.if-not-is_ascii_digit.false c.is_ascii_digit.ensures.value) in
     too_large c.args.digits.now (c.loop-b.b-index + 1) _ (omega (arith, more.1, c.in_err-checked_mul.ensures))
 
 pub returns-in_err-n-clause-none : goal.returns-in_err-n-clause-none
 returns-in_err-n-clause-none c = λ _ _.
-    let more = one_more c.args.digits.now c.loop-b.b-index c.loop-b.n (omega arith) c.loop-b.invariant.digits c.loop-b.invariant.value (digit_range _ _ c.if-not-is_ascii_digit.false c.is_ascii_digit.ensures.value) in
-    too_large c.args.digits.now (c.loop-b.b-index + 1) _ (omega (arith, more.1, c.in_err-n.ensures, c.in_ok-checked_mul.ensures, c.from.ensures))
+    let more = one_more c.args.digits.now c.loop-b.b-index c.loop-b.n
+    (omega arith) c.loop-b.invariant.digits c.loop-b.invariant.value
+    (digit_range _ _ c.if-not-is_ascii_digit.false c.is_ascii_digit.ensures.value) in
+    too_large c.args.digits.now (c.loop-b.b-index + 1) _
+    (omega (arith, more.1, c.in_err-n.ensures, c.in_ok-checked_mul.ensures, c.from.ensures))
 
 pub loop-b-preserved : goal.loop-b-preserved
 loop-b-preserved c =
-    let more = one_more c.args.digits.now c.loop-b.b-index c.loop-b.n (omega arith) c.loop-b.invariant.digits c.loop-b.invariant.value (digit_range _ _ c.if-not-is_ascii_digit.false c.is_ascii_digit.ensures.value) in
-    record { digits = more.0; value = omega (arith, more.1, c.in_ok-n.ensures, c.in_ok-checked_mul.ensures, c.from.ensures); fits = omega (arith, c.in_ok-n.ensures) }
+    let more = one_more c.args.digits.now c.loop-b.b-index c.loop-b.n
+    (omega arith) c.loop-b.invariant.digits c.loop-b.invariant.value
+    (digit_range _ _ c.if-not-is_ascii_digit.false c.is_ascii_digit.ensures.value) in
+    record {
+      digits = more.0;
+      value =
+          omega (arith, more.1, c.in_ok-n.ensures, c.in_ok-checked_mul.ensures, c.from.ensures);
+      fits =
+          omega (arith, c.in_ok-n.ensures);
+    }
 
 pub returns-clause-some : goal.returns-clause-some
 returns-clause-some c =

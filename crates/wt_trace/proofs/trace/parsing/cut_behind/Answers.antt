@@ -7,4 +7,5 @@ use Rattle.wt_trace.proofs.trace.parsing.cut_behind.Goals as goal
 pub returns-in-Some : goal.returns-in-Some
 returns-in-Some c =
     let found : position (λ b. b == 10) (drop c.args.most c.args.bytes.now) ≡ Some c.in-Some.at = sym c.in-Some.ensures in
-    (λ i. lines_of (c.split_at.ensures.front i) ++ lines_of (c.split_at.ensures.back i)) ∙ lines_of-found c.args.bytes.now c.args.most c.in-Some.at found
+    (λ i. lines_of (c.split_at.ensures.front i) ++ lines_of (c.split_at.ensures.back i))
+    ∙ lines_of-found c.args.bytes.now c.args.most c.in-Some.at found

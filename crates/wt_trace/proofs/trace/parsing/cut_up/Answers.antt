@@ -12,4 +12,5 @@ loop-t-preserved c =
 
 pub returns : goal.returns
 returns c =
-    ap lines_of_all c.in_ok-push-2.ensures.items ∙ lines_of-last c.loop-t.out.items c.loop-t.rest.now (lines_of c.args.bytes.now) c.loop-t.invariant
+    ap lines_of_all c.in_ok-push-2.ensures.items
+    ∙ lines_of-last c.loop-t.out.items c.loop-t.rest.now (lines_of c.args.bytes.now) c.loop-t.invariant

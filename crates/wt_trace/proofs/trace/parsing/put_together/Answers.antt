@@ -14,18 +14,25 @@ loop-t-preserved g c =
     let next : Trace g.row.K.Denot = c.push.new.self in
     let t = c.loop-t.t in
     let within : t < length c.args.chunks.now = search rules in
-    let own : trace_from read (c.args.first + c.len.result) (lines_of c.bytes_at.result.now) ≡ trace_from read (c.args.first + length all.lines) (lines_of (get_or c.args.chunks.now t [])) = λ i. trace_from read (c.args.first + c.len.ensures i) (lines_of (c.bytes_at.ensures i)) in
+    let own : trace_from read (c.args.first + c.len.result) (lines_of c.bytes_at.result.now)
+    ≡ trace_from read (c.args.first + length all.lines) (lines_of (get_or c.args.chunks.now t [])) =
+    λ i. trace_from read (c.args.first + c.len.ensures i) (lines_of (c.bytes_at.ensures i)) in
     let longer = ap (λ (x : Trace g.row.K.Denot). x.lines) c.in_ok-push.ensures in
     let lines = longer ∙ ap (λ ls. all.lines ++ ls) (c.in_ok-one.ensures.lines ∙ ap (λ (x : Trace g.row.K.Denot). x.lines) own) in
-    let verdict = ap (λ (x : Trace g.row.K.Denot). x.verdict) c.in_ok-push.ensures ∙ c.in_ok-one.ensures.verdict ∙ ap (λ (x : Trace g.row.K.Denot). x.verdict) own in
+    let verdict = ap (λ (x : Trace g.row.K.Denot). x.verdict) c.in_ok-push.ensures ∙ c.in_ok-one.ensures.verdict
+    ∙ ap (λ (x : Trace g.row.K.Denot). x.verdict) own in
     let fine : is_err next.verdict ≡ false = search rules in
     record {
       far = so_far-next read c.args.first c.args.chunks.now t all next within inv.far lines verdict (no_fault next.verdict fine);
       few = omega (arith, c.in_ok-one.ensures.few, c.len.ensures, ap length longer ∙ length-append all.lines c.in_ok-one.one.lines.items);
       len = search rules;
       each = λ k later below.
-          let other = ap (λ (xs : List (Option (List (Line g.row.K.Denot)))). get_or xs k None) c.take_piece-own.ensures.left ∙ get_or-set_other c.loop-t.read.items t k None None (λ e. omega (arith, later, e)) in
-          subst (λ (o : Option (List (Line g.row.K.Denot))). IfSome o (IsFaultless (trace_from read c.args.first (lines_of (get_or c.args.chunks.now k []))))) (sym other) (inv.each k (omega (arith, later)) below);
+          let other = ap (λ (xs : List (Option (List (Line g.row.K.Denot)))). get_or xs k None)
+          c.take_piece-own.ensures.left ∙ get_or-set_other c.loop-t.read.items t k None None
+          (λ e. omega (arith, later, e)) in
+          subst (λ (o : Option (List (Line g.row.K.Denot))). IfSome o
+          (IsFaultless (trace_from read c.args.first (lines_of (get_or c.args.chunks.now k [])))))
+          (sym other) (inv.each k (omega (arith, later)) below);
     }
 
 pub returns-then-is_err-clause-lines : goal.returns-then-is_err-clause-lines
@@ -36,8 +43,13 @@ returns-then-is_err-clause-lines g c =
     let next : Trace g.row.K.Denot = c.push.new.self in
     let t = c.loop-t.t in
     let within : t < length c.args.chunks.now = search rules in
-    let own : trace_from read (c.args.first + c.len.result) (lines_of c.bytes_at.result.now) ≡ trace_from read (c.args.first + length all.lines) (lines_of (get_or c.args.chunks.now t [])) = λ i. trace_from read (c.args.first + c.len.ensures i) (lines_of (c.bytes_at.ensures i)) in
-    let lines = ap (λ (x : Trace g.row.K.Denot). x.lines) c.in_ok-push.ensures ∙ ap (λ ls. all.lines ++ ls) (c.in_ok-one.ensures.lines ∙ ap (λ (x : Trace g.row.K.Denot). x.lines) own) in
-    let verdict = ap (λ (x : Trace g.row.K.Denot). x.verdict) c.in_ok-push.ensures ∙ c.in_ok-one.ensures.verdict ∙ ap (λ (x : Trace g.row.K.Denot). x.verdict) own in
+    let own : trace_from read (c.args.first + c.len.result) (lines_of c.bytes_at.result.now)
+    ≡ trace_from read (c.args.first + length all.lines) (lines_of (get_or c.args.chunks.now t [])) =
+    λ i. trace_from read (c.args.first + c.len.ensures i) (lines_of (c.bytes_at.ensures i)) in
+    let lines = ap (λ (x : Trace g.row.K.Denot). x.lines) c.in_ok-push.ensures
+    ∙ ap (λ ls. all.lines ++ ls) (c.in_ok-one.ensures.lines ∙ ap (λ (x : Trace g.row.K.Denot). x.lines) own)
+    in
+    let verdict = ap (λ (x : Trace g.row.K.Denot). x.verdict) c.in_ok-push.ensures ∙ c.in_ok-one.ensures.verdict
+    ∙ ap (λ (x : Trace g.row.K.Denot). x.verdict) own in
     let bad : is_err next.verdict ≡ true = search rules in
     so_far-ended read c.args.first c.args.chunks.now t all next within inv.far lines verdict bad

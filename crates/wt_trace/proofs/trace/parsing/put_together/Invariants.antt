@@ -8,5 +8,7 @@ invariant-loop-t g l = record {
   far : AreSoFar g.K.TraceKey.read l.first l.chunks l.t l.all;
   few : l.first + length l.all.lines ≤ 1000001;
   len : vec_len l.read ≡ length l.chunks;
-  each : (k : ℕ) → l.t ≤ k → k < length l.chunks → IfSome (get_or l.read.items k None) (IsFaultless (trace_from g.K.TraceKey.read l.first (lines_of (get_or l.chunks k []))));
+  each : (k : ℕ) → l.t ≤ k → k < length l.chunks
+      → IfSome (get_or l.read.items k None)
+      (IsFaultless (trace_from g.K.TraceKey.read l.first (lines_of (get_or l.chunks k []))));
 }
