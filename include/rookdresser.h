@@ -185,12 +185,14 @@ uint64_t rd_close(rd_cache *cache);
 /* Each of the ten calls below makes one step at the moment now and writes its answer, or is refused. On a closed cache it
  * returns RD_CLOSED and writes nothing. On a cache of names, a call with a key returns RD_OTHER_KEYS and writes nothing. */
 
-/* Looks the key up: RD_HIT, which is a use, or RD_ABSENT. A look-up that misses takes no memory. */
+/* Looks the key up: RD_HIT, which is a use, or RD_ABSENT. Only a hit of an entry in probation takes memory: one that came
+ * out of the window and hasn't been used since, or that newer uses pushed back. */
 uint64_t rd_look(rd_cache *cache, uint64_t key, uint64_t now, rd_answer *answer);
 
 /* Looks the key up, and joins or opens a load if it has to: RD_HIT; RD_HIT_LEAD if the entry is due for another load;
  * RD_JOIN if another caller loads the key; RD_LEAD. A caller that leads makes the load, and lands it by one of the three
- * calls below. RD_TOO_MANY_FLIGHTS if a miss would open more loads than flights allows. */
+ * calls below. RD_TOO_MANY_FLIGHTS if a miss would open more loads than flights allows. Only a load that it opens, or a hit
+ * of an entry in probation, takes memory. */
 uint64_t rd_seek(rd_cache *cache, uint64_t key, uint64_t now, rd_answer *answer);
 
 /* Closes the load of this id and key with a value. RD_KEPT: the value was stored. RD_LOOSE: it wasn't stored, since the

@@ -18,7 +18,12 @@ use Rattle.wt_ffi.specs.contracts.pointer.Pointer as Pointer
 
 -- a box of an open cache, on the heap
 abbrev pub cache_box : Bx
-cache_box = record { row = Opened.the_row; laws = opened.the_row_laws; al = record { row = Heap.the_row; laws = heap.the_row_laws; g = ghosts; d = dict; drops = impl [] tnil dnil } }
+cache_box = record {
+  row = Opened.the_row;
+  laws = opened.the_row_laws;
+  al =
+      record { row = Heap.the_row; laws = heap.the_row_laws; g = ghosts; d = dict; drops = impl [] tnil dnil };
+}
 
 -- its parts, as a parameter
 abbrev pub Parts : Slot 0

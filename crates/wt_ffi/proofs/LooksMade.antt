@@ -36,13 +36,18 @@ module _ (xs : List Looked) (i : ℕ) (a : Looked) (lt : i < length xs) where
 
   -- the list with the answer at the place
   pub set-there : set xs i a ≡ take i xs ++ (a ∷ drop (i + 1) xs)
-  set-there = sym (take-append-drop i (set xs i a)) ∙ ap (λ (zs : List Looked). zs ++ drop i (set xs i a)) (take-set xs i a) ∙ ap (λ (zs : List Looked). take i xs ++ zs) (drop-set xs i a lt)
+  set-there = sym (take-append-drop i (set xs i a))
+      ∙ ap (λ (zs : List Looked). zs ++ drop i (set xs i a)) (take-set xs i a)
+      ∙ ap (λ (zs : List Looked). take i xs ++ zs) (drop-set xs i a lt)
 
-module _ (xs0 xs : List Looked) (i : ℕ) (d a : Looked) (c0 c : Open ℕ) (lt0 : i < length xs0) (lt : i < length xs) (same : drop i xs ≡ drop i xs0) (inv : Answers xs0 xs i c0 c) (one : IsAnswered (get_or xs i d) a c) where
+module _ (xs0 xs : List Looked) (i : ℕ) (d a : Looked) (c0 c : Open ℕ) (lt0 : i < length xs0)
+    (lt : i < length xs) (same : drop i xs ≡ drop i xs0) (inv : Answers xs0 xs i c0 c)
+    (one : IsAnswered (get_or xs i d) a c) where
   -- one look-up more is answered, and isn't the last
   pub answers-next : is_last a c ≡ false → Answers xs0 (set xs i a) (i + 1) c0 (after a.answer (look_of a) c)
   answers-next goes ys rest =
-      let made : AreAnswered (get_or xs i d ∷ drop (i + 1) xs0) (a ∷ ys) c = (one, (λ last. absurd (true≢false (sym last ∙ goes))), λ no. rest) in
+      let made : AreAnswered (get_or xs i d ∷ drop (i + 1) xs0) (a ∷ ys) c =
+      (one, (λ last. absurd (true≢false (sym last ∙ goes))), λ no. rest) in
       subst (λ (zs : List Looked). AreAnswered xs0 zs c0) (sym (take-next xs i a lt ys))
       (inv (a ∷ ys) (subst (λ (zs : List Looked). AreAnswered zs (a ∷ ys) c) (sym (drop-there xs0 xs i d lt0 lt same)) made))
 
@@ -50,7 +55,8 @@ module _ (xs0 xs : List Looked) (i : ℕ) (d a : Looked) (c0 c : Open ℕ) (lt0 
   pub answers-last : is_last a c ≡ true → AreAnswered xs0 (set xs i a) c0
   answers-last is =
       let behind : List Looked = drop (i + 1) xs in
-      let made : AreAnswered (get_or xs i d ∷ drop (i + 1) xs0) (a ∷ behind) c = (one, (λ last. drop-next xs0 xs i d lt0 lt same), λ no. absurd (true≢false (sym is ∙ no))) in
+      let made : AreAnswered (get_or xs i d ∷ drop (i + 1) xs0) (a ∷ behind) c =
+      (one, (λ last. drop-next xs0 xs i d lt0 lt same), λ no. absurd (true≢false (sym is ∙ no))) in
       subst (λ (zs : List Looked). AreAnswered xs0 zs c0) (sym (set-there xs i a lt))
       (inv (a ∷ behind) (subst (λ (zs : List Looked). AreAnswered zs (a ∷ behind) c) (sym (drop-there xs0 xs i d lt0 lt same)) made))
 
@@ -67,13 +73,22 @@ module _ (xs : List Looked) (i : ℕ) (a : Looked) (c0 c : Open ℕ) (lt : i < l
   leads-next goes ys =
       let rest : Through = looked_through ys (after a.answer (look_of a) c) in
       let sum : i + (1 + rest.made) ≡ i + 1 + rest.made = omega arith in
-      ap (λ (zs : List Looked). looked_through zs c0) (take-next xs i a lt ys) ∙ inv (a ∷ ys) ∙ ap (λ (b : Bool). behind i (by_end ys b)) goes
+      ap (λ (zs : List Looked). looked_through zs c0) (take-next xs i a lt ys) ∙ inv (a ∷ ys)
+      ∙ ap (λ (b : Bool). behind i (by_end ys b)) goes
       ∙ ap (λ (n : ℕ). record { cache = rest.cache; made = n; number = rest.number }) sum
 
   -- the last look-up ends them
-  pub leads-last : is_last a c ≡ true → looked_through (set xs i a) c0 ≡ record { cache = after a.answer (look_of a) c; made = i + 1; number = number_after a.answer (look_of a) c }
+  pub leads-last : is_last a c ≡ true
+      → looked_through (set xs i a) c0
+      ≡ record {
+        cache = after a.answer (look_of a) c;
+        made = i + 1;
+        number =
+            number_after a.answer (look_of a) c;
+      }
   leads-last is =
-      ap (λ (zs : List Looked). looked_through zs c0) (set-there xs i a lt) ∙ inv (a ∷ drop (i + 1) xs) ∙ ap (λ (b : Bool). behind i (by_end (drop (i + 1) xs) b)) is
+      ap (λ (zs : List Looked). looked_through zs c0) (set-there xs i a lt) ∙ inv (a ∷ drop (i + 1) xs)
+      ∙ ap (λ (b : Bool). behind i (by_end (drop (i + 1) xs) b)) is
 
 -- a look-up that returned more than 0 is the last
 pub last-number : (number notices : ℕ) → 0 < number → (nat_lt 0 number || nat_lt 0 notices) ≡ true
@@ -88,7 +103,9 @@ pub last-none : (number notices : ℕ) → number ≤ 0 → notices ≤ 0 → (n
 last-none number notices none told = ap (λ (b : Bool). b || nat_lt 0 notices) (le-ltb 0 number none) ∙ le-ltb 0 notices told
 
 -- whether a look-up is the last, by the number that it returned
-pub is_last-number : (a : Looked) (c : Open ℕ) (number : ℕ) (b : Bool) → number ≡ number_after a.answer (look_of a) c → (nat_lt 0 number || nat_lt 0 a.answer.notices) ≡ b → is_last a c ≡ b
+pub is_last-number : (a : Looked) (c : Open ℕ) (number : ℕ) (b : Bool)
+    → number ≡ number_after a.answer (look_of a) c → (nat_lt 0 number || nat_lt 0 a.answer.notices) ≡ b
+    → is_last a c ≡ b
 is_last-number a c number b is last = ap (λ (n : ℕ). nat_lt 0 n || nat_lt 0 a.answer.notices) (sym is) ∙ last
 
 module _ (xs0 xs : List Looked) (i : ℕ) (c0 c : Open ℕ) (same : drop i xs ≡ drop i xs0) (none : drop i xs ≡ []) where
@@ -101,4 +118,5 @@ module _ (xs0 xs : List Looked) (i : ℕ) (c0 c : Open ℕ) (same : drop i xs �
   -- and that is what they made
   pub leads-all : Leads xs i c0 c → looked_through xs c0 ≡ record { cache = c; made = i + 0; number = 0 }
   leads-all inv =
-      ap (λ (zs : List Looked). looked_through zs c0) (sym (take-append-drop i xs)) ∙ inv (drop i xs) ∙ ap (λ (zs : List Looked). behind i (looked_through zs c)) none
+      ap (λ (zs : List Looked). looked_through zs c0) (sym (take-append-drop i xs)) ∙ inv (drop i xs)
+      ∙ ap (λ (zs : List Looked). behind i (looked_through zs c)) none

@@ -38,7 +38,8 @@ kind-answer_of (Forgot was) n = refl
 kind-answer_of Cleaned n = refl
 kind-answer_of (Refused f) n = refl
 
-module _ {K : Type 0} (eq : K → K → Bool) (word : K → ℕ) (call : Call K Token) (old new : Open K) (reply : Reply Token) (told : Answer) where
+module _ {K : Type 0} (eq : K → K → Bool) (word : K → ℕ) (call : Call K Token) (old new : Open K)
+    (reply : Reply Token) (told : Answer) where
   -- what the step makes
   abbrev stepped_of : Made K Token
   stepped_of = step eq word (λ v. v.weight) old.core call
@@ -53,22 +54,27 @@ module _ {K : Type 0} (eq : K → K → Bool) (word : K → ℕ) (call : Call K 
   pub kind-told : (n : ℕ) → told ≡ answer_of reply n → (told.kind == 0) ≡ false
   kind-told n is = ap (λ (a : Answer). a.kind == 0) is ∙ kind-answer_of reply n
 
-  pub state-told : Unrefused → (n : ℕ) → told ≡ answer_of reply n → new.core ≡ stepped_of.state → (before : NoticeList K Token) → before ≡ emptied old.notices → new.notices ≡ appended stepped_of.notices before → new ≡ after eq word told.kind call old
+  pub state-told : Unrefused → (n : ℕ) → told ≡ answer_of reply n → new.core ≡ stepped_of.state
+      → (before : NoticeList K Token) → before ≡ emptied old.notices
+      → new.notices ≡ appended stepped_of.notices before → new ≡ after eq word told.kind call old
   state-told un n is core before none notices =
       (λ i. record { core = core i; notices = (notices ∙ ap (λ (t : NoticeList K Token). appended stepped_of.notices t) none) i })
       ∙ ap (λ (m : Made K Token). record { core = m.state; notices = appended m.notices (emptied old.notices) }) (sym (made-step un))
       ∙ ap (λ (b : Bool). if b then quiet old else called eq word call old) (sym (kind-told n is))
 
-  pub number-told : Unrefused → (n : ℕ) → told ≡ answer_of reply n → reply ≡ stepped_of.reply → number_of reply ≡ number_after eq word told.kind call old
+  pub number-told : Unrefused → (n : ℕ) → told ≡ answer_of reply n → reply ≡ stepped_of.reply
+      → number_of reply ≡ number_after eq word told.kind call old
   number-told un n is replies =
       ap number_of (replies ∙ ap (λ (m : Made K Token). m.reply) (sym (made-step un)))
       ∙ ap (λ (b : Bool). if b then 1 else number_of (made_of eq word call old).reply) (sym (kind-told n is))
 
-  pub answer-told : Unrefused → (n : ℕ) → told ≡ answer_of reply n → reply ≡ stepped_of.reply → n ≡ length stepped_of.notices → told ≡ answer_after eq word told.kind call old
+  pub answer-told : Unrefused → (n : ℕ) → told ≡ answer_of reply n → reply ≡ stepped_of.reply
+      → n ≡ length stepped_of.notices → told ≡ answer_after eq word told.kind call old
   answer-told un n is replies count =
       is ∙ ap (λ (m : ℕ). answer_of reply m) count ∙ ap (λ (r : Reply Token). answer_of r (length stepped_of.notices)) replies
       ∙ ap (λ (m : Made K Token). answer_of m.reply (length m.notices)) (sym (made-step un))
-      ∙ ap (λ (b : Bool). if b then plain 0 1 0 else answer_of (made_of eq word call old).reply (length (made_of eq word call old).notices)) (sym (kind-told n is))
+      ∙ ap (λ (b : Bool). if b then plain 0 1 0 else answer_of (made_of eq word call old).reply
+      (length (made_of eq word call old).notices)) (sym (kind-told n is))
 
 -- a call that fails for another fault than want of memory was refused for it
 pub refused : (o : Option Fault) (f : Fault) → f ≢ fault.NoMemory → FailsBy {R = Reply Token} o (Err f) → o ≡ Some f
@@ -81,7 +87,10 @@ appended-none t =
     let same : (emptied t).room ≡ (emptied t).room - 0 = omega arith in
     λ i. record { list = []; room = same i }
 
-module _ {K : Type 0} (eq : K → K → Bool) (word : K → ℕ) (call : Call K Token) (old new : Open K) (f : Fault) (told : Answer) (other : f ≢ fault.NoMemory) (fails : FailsBy {R = Reply Token} (refusal_of eq word (λ v. v.weight) old.core call) (Err f)) (is : told ≡ answer_of (Refused f) 0) where
+module _ {K : Type 0} (eq : K → K → Bool) (word : K → ℕ) (call : Call K Token) (old new : Open K) (f : Fault)
+    (told : Answer) (other : f ≢ fault.NoMemory)
+    (fails : FailsBy {R = Reply Token} (refusal_of eq word (λ v. v.weight) old.core call) (Err f))
+    (is : told ≡ answer_of (Refused f) 0) where
   -- what the refused call makes
   abbrev nothing_of : Made K Token
   nothing_of = record { state = old.core; reply = Refused f; notices = [] }
@@ -107,4 +116,5 @@ module _ {K : Type 0} (eq : K → K → Bool) (word : K → ℕ) (call : Call K 
   pub answer-refused : told ≡ answer_after eq word told.kind call old
   answer-refused =
       is ∙ ap (λ (m : Made K Token). answer_of m.reply (length m.notices)) (sym made-refused)
-      ∙ ap (λ (b : Bool). if b then plain 0 1 0 else answer_of (made_of eq word call old).reply (length (made_of eq word call old).notices)) (sym kind-refused)
+      ∙ ap (λ (b : Bool). if b then plain 0 1 0 else answer_of (made_of eq word call old).reply
+      (length (made_of eq word call old).notices)) (sym kind-refused)

@@ -1,5 +1,5 @@
 -- What C is told of a call.
-use Rattle.std.specs.Prelude.{IsSome, ℕ, ◌==◌, Bool, if◌then◌else◌, length}
+use Rattle.std.specs.Prelude.{IsSome, ℕ, ◌==◌, Bool, true, if◌then◌else◌, length}
 use Rattle.wt_keys.specs.Faults.{fault_number}
 use Rattle.wt_regions.specs.Notices.{appended, emptied}
 use Rattle.wt_core.specs.declared.calls.Call.{Call}
@@ -96,6 +96,6 @@ module _ {K : Type 0} (eq : K → K → Bool) (word : K → ℕ) where
   abbrev pub IsRefused : Call K Token → Open K → Type 0
   IsRefused call c = IsSome (refusal_of eq word (λ v. v.weight) c.core call)
 
--- the call takes no memory in this state
+-- the call takes no memory in this state: a share of a token is a copy
 abbrev pub IsFree : {K : Type 0} → (K → K → Bool) → Call K Token → Open K → Type 0
-IsFree eq call c = TakesNone eq (λ v. v.weight) c.core call
+IsFree eq call c = TakesNone true eq (λ v. v.weight) c.core call

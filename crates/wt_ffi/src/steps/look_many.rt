@@ -48,8 +48,8 @@ impl Cached<u64> {
 /// were made.
 ///
 /// It ends early after one that is refused, whose fault's number it returns, and after one that
-/// tells a notice, since the notices are those of the last one. Each takes memory only for a hit.
-/// Expected O(look-ups), unless an attacker chooses the keys.
+/// tells a notice, since the notices are those of the last one. Each takes memory only for a hit in
+/// probation. Expected O(look-ups), unless an attacker chooses the keys.
 #[unsafe(no_mangle)]
 pub extern "C" fn rd_look_many(
     alloc: Global,

@@ -33,7 +33,8 @@ impl<K: CacheKey> Cached<K> {
 ///
 /// `RD_HIT`, `RD_JOIN` or `RD_LEAD`, or `RD_HIT_LEAD` if the entry is due for a further load, the
 /// last three with the load's id. After `RD_LEAD` or `RD_HIT_LEAD` the caller loads the value and
-/// lands it. Expected O(1), unless an attacker chooses the keys.
+/// lands it. Takes memory only for a load that it opens and for a hit in probation. Expected O(1),
+/// unless an attacker chooses the keys.
 #[unsafe(no_mangle)]
 pub extern "C" fn rd_seek(
     alloc: Global,

@@ -6,10 +6,14 @@ use Rattle.wt_ffi.proofs.Refusals.{passed-on, made-none, made-on}
 use Rattle.wt_ffi.proofs.setup.cached.Goals as goal
 
 pub returns-in-Err-clause-refusal : goal.returns-in-Err-clause-refusal
-returns-in-Err-clause-refusal g c = passed-on (Core g.row.K.Denot Token) (Cached g.row.K.Denot) (config_fault c.args.config.now) c.in-Err.fault c.in-Err.ensures.refusal
+returns-in-Err-clause-refusal g c =
+    passed-on (Core g.row.K.Denot Token) (Cached g.row.K.Denot)
+    (config_fault c.args.config.now) c.in-Err.fault c.in-Err.ensures.refusal
 
 pub returns-in-Ok-new-clause-lawful : goal.returns-in-Ok-new-clause-lawful
-returns-in-Ok-new-clause-lawful g c = λ _. made-none (Core g.row.K.Denot Token) (config_fault c.args.config.now) c.in-Ok.core c.in-Ok.ensures.refusal
+returns-in-Ok-new-clause-lawful g c =
+    λ _. made-none (Core g.row.K.Denot Token)
+    (config_fault c.args.config.now) c.in-Ok.core c.in-Ok.ensures.refusal
 
 pub returns-in-Ok-new-clause-refusal : goal.returns-in-Ok-new-clause-refusal
 returns-in-Ok-new-clause-refusal g c =

@@ -21,7 +21,10 @@ pub closed_spec : {M : Type 1} → statement M
 closed_spec 𝓤 𝓛 𝓜 𝓡 wired =
     let 𝓣 = tables 𝓤 𝓛.H 𝓜 𝓡 𝓡.env in
     let clauses = f.clauses 𝓛 𝓜.mem 𝓡.returns in
-    proved_at 𝓛 f.ended stayed clauses 𝓜 𝓡 (Goes-dropped 𝓛 0 (plain (λ _. Heap.the_row)) yes (λ κs x w. refl), (Goes-dropped 𝓛 0 (plain (λ _. RawPtr)) yes (λ κs x w. refl), tt))
+    proved_at 𝓛 f.ended stayed clauses 𝓜 𝓡 (
+      Goes-dropped 𝓛 0 (plain (λ _. Heap.the_row)) yes (λ κs x w. refl),
+      (Goes-dropped 𝓛 0 (plain (λ _. RawPtr)) yes (λ κs x w. refl), tt),
+    )
     f.Key.name code.function (code.unfolded 𝓤 𝓛.H 𝓜 𝓡 wired) (λ z are.
     let alloc = z.0.3.0 in let p = z.0.3.1.0 in
     let made : pointer.the_row.Denot = record { at = p; alloc = alloc; cache = None } in
@@ -34,11 +37,15 @@ closed_spec 𝓤 𝓛 𝓜 𝓡 wired =
     let word = beside p h in
     nothing ! $ move ! (2 ∷ 0 ∷ []) $ fjoin ! $ feq_i ! (List Val) (ptr_val p ∷ []) (ptr_val p ∷ []) refl $ fjoin ! $
     feq_i ! (List Val) (word ∷ []) (word ∷ []) refl $ fjoin ! $
-    fpack ! (Valss (RawPtr ∷ Heap.the_row ∷ [])) (within (shape (parts.the_type Opened.the_row Heap.the_row ghosts)) (p, (alloc, tt)) (word ∷ [])) (ptr_val p ∷ [], (h ∷ [], tt)) $
+    fpack ! (Valss (RawPtr ∷ Heap.the_row ∷ []))
+    (within (shape (parts.the_type Opened.the_row Heap.the_row ghosts)) (p, (alloc, tt)) (word ∷ []))
+    (ptr_val p ∷ [], (h ∷ [], tt)) $
     nothing ! $ move ! (1 ∷ 0 ∷ []) $ fjoin ! $
     use1 𝓛 (‵ (pointer.the_row.own_val made (word ∷ []))) (id⊢ 𝓤 _) $
     -- [what the pointer owns; nothing; no tokens; nothing asked]
-    suffices ! (Run (h ∷ ptr_val p ∷ [])) (subst (λ (vs : List Val). ent 𝓤 (Run (h ∷ ptr_val p ∷ [])) (Run vs)) (sym (λ i. is_handle i ++ (is_ptr i ++ []))) (id⊢ 𝓤 (Run (h ∷ ptr_val p ∷ [])))) $
+    suffices ! (Run (h ∷ ptr_val p ∷ []))
+    (subst (λ (vs : List Val). ent 𝓤 (Run (h ∷ ptr_val p ∷ [])) (Run vs))
+    (sym (λ i. is_handle i ++ (is_ptr i ++ []))) (id⊢ 𝓤 (Run (h ∷ ptr_val p ∷ [])))) $
     enter ! 𝓣.C 𝓣.Λ code.function (h ∷ ptr_val p ∷ []) Post $ alloc_all ! (λ l. pass_all ! refl (fits, (ptr_typed p, tt)) $
     sets ! (agg ! (and_then ! (get ! refl) (and_then ! (get ! refl) (no_more !)))) refl (beside_typed h p fits) $
     use0 𝓛 (raw (fact 𝓤 (made.cache ≡ None))) (fact_i 𝓤 (made.cache ≡ None) (emp 𝓤) refl) $

@@ -30,7 +30,9 @@ into_raw_box_spec 𝓤 𝓛 𝓜 𝓡 wired =
     let boxed : D cache_box = record { ptr = held.at; alloc = held.alloc; value = found.0 } in
     let made : Made.Denot = record { at = held.at; alloc = held.alloc; value = found.0 } in
     split ! $ move ! (1 ∷ []) $ fsplit ! $
-    rewrite ! 0 (λ (c : Option Opened.the_row.Denot). ‵ (pointer.the_row.own_val (record { at = held.at; alloc = held.alloc; cache = c }) z.0.4.0)) found.1 refl $
+    rewrite ! 0 (λ (c : Option Opened.the_row.Denot). ‵
+    (pointer.the_row.own_val (record { at = held.at; alloc = held.alloc; cache = c }) z.0.4.0)) found.1 refl
+    $
     use1 𝓛 (‵ ((B cache_box).own_val boxed z.0.4.0)) (id⊢ 𝓤 _) $
     box_out cache_box ! boxed z.0.4.0 (λ b o h is_at is_word fits.
     box_in cache_box ! boxed b o boxed.value is_at refl $
@@ -38,7 +40,8 @@ into_raw_box_spec 𝓤 𝓛 𝓜 𝓡 wired =
     let typed = box_typed cache_box h b o fits in
     -- [what the parts own; nothing; no tokens]
     use1 𝓛 (‵ (Made.own_val made (given ∷ []))) (id⊢ 𝓤 _) $
-    suffices ! (Run (given ∷ [])) (subst (λ (vs : List Val). ent 𝓤 (Run (given ∷ [])) (Run vs)) (sym (λ i. is_word i ++ [])) (id⊢ 𝓤 (Run (given ∷ [])))) $
+    suffices ! (Run (given ∷ [])) (subst (λ (vs : List Val). ent 𝓤 (Run (given ∷ [])) (Run vs))
+    (sym (λ i. is_word i ++ [])) (id⊢ 𝓤 (Run (given ∷ [])))) $
     enter ! 𝓣.C 𝓣.Λ code.function (given ∷ []) Post $ alloc_all ! (λ l. pass_all ! refl (typed, tt) $
     sets ! (of_opd ! (get_in ! (fld ! refl (stop !)) (sub ! 0 refl (whole !)))) refl (tt, tt) $
     sets ! (of_opd ! (get_in ! (fld ! refl (stop !)) (sub ! 1 refl (whole !)))) refl fits $

@@ -41,13 +41,16 @@ into_box_spec 𝓤 𝓛 𝓜 𝓡 wired T A lawsT lawsA g d dropT dropA allocato
     move ! (2 ∷ []) $ feq_i ! (List Val) (vptr b o ∷ []) (vptr b o ∷ []) refl $ fjoin ! $
     move ! (2 ∷ 0 ∷ []) $ fjoin ! $ move ! (2 ∷ 0 ∷ []) $ join ! $ join ! $
     use1 𝓛 (raw (Closes.pre y)) (id⊢ 𝓤 _) $
-    suffices ! (Run (given ∷ [])) (subst (λ (vs : List Val). ent 𝓤 (Run (given ∷ [])) (Run vs)) (sym (λ i. is_word i ++ [])) (id⊢ 𝓤 (Run (given ∷ [])))) $
+    suffices ! (Run (given ∷ [])) (subst (λ (vs : List Val). ent 𝓤 (Run (given ∷ [])) (Run vs))
+    (sym (λ i. is_word i ++ [])) (id⊢ 𝓤 (Run (given ∷ [])))) $
     enter ! 𝓣.C 𝓣.Λ body (given ∷ []) Post $ alloc_all ! (λ l. pass_all ! refl (typed, tt) $
     let locals = env body.locals l in
     sets ! (of_opd ! (get_in ! (fld ! refl (stop !)) (sub ! 0 refl (whole !)))) refl (tt, tt) $
     sets ! (of_opd ! (get_in ! (fld ! refl (stop !)) (sub ! 1 refl (whole !)))) refl fits $
     first ! $ blocks ! $ sets ! (of_opd ! (get ! refl)) refl fits $
-    calls_at_last ! (fm 𝓛 𝓜 𝓡) Closes (met 𝓤 𝓛 𝓜 𝓡 (code.calls-std_alloc::boxed::Box::from_raw 𝓡.env wired) T A lawsT lawsA g d dropA allocator glueA) y
+    calls_at_last ! (fm 𝓛 𝓜 𝓡) Closes
+    (met 𝓤 𝓛 𝓜 𝓡 (code.calls-std_alloc::boxed::Box::from_raw 𝓡.env wired) T A lawsT lawsA g d dropA
+    allocator glueA) y
     (and_then ! (get ! refl) (and_then ! (get ! refl) (no_more !))) (λ made.
     use1 𝓛 (later (some (λ (r : (B at).Denot). (tokens ⊛ ‵ ((B at).own_val r (made ∷ []))) ⊛
     some (λ (ws : Lasts (closing.ended T A g d dropA) κs y.0.3). ‵ (lasts (closing.ended T A g d dropA) κs y.0.3 ws) ⊛

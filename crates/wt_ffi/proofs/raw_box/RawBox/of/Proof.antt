@@ -33,23 +33,29 @@ of_spec 𝓤 𝓛 𝓜 𝓡 wired T A lawsT lawsA g d dropT dropA allocator glue
     let given = word at h b o in
     let y : Opens.Ghost = ((κs, qs, tt, (boxed, tt), (given ∷ [], tt)), tt) in
     fjoin ! $ move ! (1 ∷ 0 ∷ []) $ join ! $ join ! $ use1 𝓛 (raw (Opens.pre y)) (id⊢ 𝓤 _) $
-    suffices ! (Run (given ∷ [])) (subst (λ (vs : List Val). ent 𝓤 (Run (given ∷ [])) (Run vs)) (sym (λ i. is_word i ++ [])) (id⊢ 𝓤 (Run (given ∷ [])))) $
+    suffices ! (Run (given ∷ [])) (subst (λ (vs : List Val). ent 𝓤 (Run (given ∷ [])) (Run vs))
+    (sym (λ i. is_word i ++ [])) (id⊢ 𝓤 (Run (given ∷ [])))) $
     enter ! 𝓣.C 𝓣.Λ body (given ∷ []) Post $ alloc_all ! (λ l. pass_all ! refl (box_typed at h b o fits, tt) $
     sets ! (of_opd ! (get ! refl)) refl (box_typed at h b o fits) $
-    calls_at ! (fm 𝓛 𝓜 𝓡) Opens (met 𝓤 𝓛 𝓜 𝓡 (code.calls-std_alloc::boxed::Box::into_raw_with_allocator 𝓡.env wired) T A lawsT lawsA g d dropA dropT allocator glueA glueT) y
+    calls_at ! (fm 𝓛 𝓜 𝓡) Opens (met 𝓤 𝓛 𝓜 𝓡
+    (code.calls-std_alloc::boxed::Box::into_raw_with_allocator 𝓡.env wired) T A lawsT lawsA g d dropA dropT
+    allocator glueA glueT) y
     (and_then ! (get ! refl) (no_more !)) (λ pair.
     use1 𝓛 (later (some (λ (r : Ptr × A.Denot). (tokens ⊛ ‵ ((Tuple (RawPtr ∷ P at ∷ [])).own_val r (pair ∷ []))) ⊛
     some (λ (_ : (Unit {0} × (Unit {0} × Unit {0})) × Unit {0}). ‵ (fsep (fsep ftrue (fsep ftrue ftrue)) ftrue) ⊛
     (raw (fact 𝓤 (r.1 ≡ alloc)) ⊛ ‵ (box_owns (g.dealloc_token alloc) (R at) r.0 boxed.value)))))) (id⊢ 𝓤 _) $
     await ! tt $ pick ! (λ r. split ! $ move ! (1 ∷ []) $ pick ! (λ _. split3 ! $ drop ! $ heard ! (r.1 ≡ alloc) (λ same_alloc.
     -- [what the box owned; the tokens with the pair]
-    in_a_block ! r.0 (λ p. box_owns (g.dealloc_token alloc) (R at) p boxed.value) (fst∗ 𝓤 (never 𝓤) (sem 𝓛 (g.dealloc_token alloc (bare (layout T)) null_ptr))) (λ b' o' is_at'.
+    in_a_block ! r.0 (λ p. box_owns (g.dealloc_token alloc) (R at) p boxed.value)
+    (fst∗ 𝓤 (never 𝓤) (sem 𝓛 (g.dealloc_token alloc (bare (layout T)) null_ptr))) (λ b' o' is_at'.
     move ! (1 ∷ []) $ split ! $ move ! (1 ∷ []) $
     fpick ! (λ words. fsplit ! $ feq_l ! (λ is_pair. fsplit ! $ feq_l ! (λ is_ptr. fsplit ! $
     rewrite ! 0 (λ (a : A.Denot). ‵ (A.own_val a words.1.0)) same_alloc refl $ handle_tells at.al ! alloc words.1.0 (λ h' is_handle fits'.
     let typed = box_typed at h' b' o' fits' in
     let made : Made.Denot = record { at = block_ptr b' o'; alloc = alloc; value = boxed.value } in
-    lands_as ! (ap only (is_pair ∙ (λ i. vstruct (of_list ((is_ptr ∙ ap (λ (p : Ptr). ptr_val p ∷ []) is_at') i ++ (is_handle i ++ []))) ∷ []))) refl typed $
+    lands_as ! (ap only (is_pair ∙ (λ i. vstruct
+    (of_list ((is_ptr ∙ ap (λ (p : Ptr). ptr_val p ∷ []) is_at') i ++ (is_handle i ++ []))) ∷ []))) refl
+    typed $
     sets ! (of_opd ! (get_in ! (fld ! refl (stop !)) (sub ! 0 refl (whole !)))) refl (tt, tt) $
     sets ! (of_opd ! (get_in ! (fld ! refl (stop !)) (sub ! 1 refl (whole !)))) refl fits' $
     sets ! (of_opd ! (get ! refl)) refl fits' $

@@ -21,15 +21,18 @@ loop-look-preserved c =
     let lt0 : i < length c.args.looks.now = c.loop-look-test.true in
     let lt : i < length xs = omega (arith, lt0, c.loop-look.auto.looks) in
     let inv = c.loop-look.invariant in
-    let one : IsAnswered (get_or xs i blank) a c.loop-look.self = record { key = refl; now = refl; answer = step.answer; refusal = step.refusal; memory = step.memory } in
-    let goes = is_last-number a c.loop-look.self c.look-number.result false step.number (last-none _ _ c.if-number-gt0.false c.if-look-gt0.false) in
+    let one : IsAnswered (get_or xs i blank) a c.loop-look.self =
+    record { key = refl; now = refl; answer = step.answer; refusal = step.refusal; memory = step.memory } in
+    let goes = is_last-number a c.loop-look.self c.look-number.result false step.number
+    (last-none _ _ c.if-number-gt0.false c.if-look-gt0.false) in
     let more : i < i + 1 = omega arith in
     record {
       same = drop-set-lt (i + 1) xs i a more ∙ drop-next c.args.looks.now xs i blank lt0 lt inv.same;
       count = ap (λ (n : ℕ). n + 1) inv.count;
       answers = subst (λ (o : Open ℕ). Answers c.args.looks.now (set xs i a) (i + 1) c.args.self.now o) (sym step.state)
           (answers-next c.args.looks.now xs i blank a c.args.self.now c.loop-look.self lt0 lt inv.same inv.answers one goes);
-      leads = subst (λ (o : Open ℕ). Leads (set xs i a) (i + 1) c.args.self.now o) (sym step.state) (leads-next xs i a c.args.self.now c.loop-look.self lt inv.leads goes);
+      leads = subst (λ (o : Open ℕ). Leads (set xs i a) (i + 1) c.args.self.now o) (sym step.state)
+          (leads-next xs i a c.args.self.now c.loop-look.self lt inv.leads goes);
     }
 
 pub returns-then-number-gt0-clause-state : goal.returns-then-number-gt0-clause-state
@@ -42,8 +45,18 @@ returns-then-number-gt0-clause-state c =
     let lt : i < length xs = omega (arith, lt0, c.loop-look.auto.looks) in
     let inv = c.loop-look.invariant in
     elim c.then-number-gt0.branch [
-      | then-number-gt0-via-then-number-gt0 w ↦ step.state ∙ sym (ap (λ (t : Through). t.cache) (ap (λ (zs : List Looked). looked_through zs c.args.self.now) w.looks-is ∙ leads-last xs i a c.args.self.now c.loop-look.self lt inv.leads (is_last-number a c.loop-look.self c.look-number.result true step.number (last-number _ _ w.if-number-gt0.true))))
-      | then-number-gt0-via-else-number-gt0+then-look-gt0 w ↦ step.state ∙ sym (ap (λ (t : Through). t.cache) (ap (λ (zs : List Looked). looked_through zs c.args.self.now) w.looks-is ∙ leads-last xs i a c.args.self.now c.loop-look.self lt inv.leads (is_last-number a c.loop-look.self c.look-number.result true step.number (last-notice _ _ w.if-look-gt0.true))))
+      | then-number-gt0-via-then-number-gt0 w ↦ step.state
+          ∙ sym (ap (λ (t : Through). t.cache)
+          (ap (λ (zs : List Looked). looked_through zs c.args.self.now) w.looks-is
+          ∙ leads-last xs i a c.args.self.now c.loop-look.self lt inv.leads
+          (is_last-number a c.loop-look.self c.look-number.result true step.number
+          (last-number _ _ w.if-number-gt0.true))))
+      | then-number-gt0-via-else-number-gt0+then-look-gt0 w ↦ step.state
+          ∙ sym (ap (λ (t : Through). t.cache)
+          (ap (λ (zs : List Looked). looked_through zs c.args.self.now) w.looks-is
+          ∙ leads-last xs i a c.args.self.now c.loop-look.self lt inv.leads
+          (is_last-number a c.loop-look.self c.look-number.result true step.number
+          (last-notice _ _ w.if-look-gt0.true))))
     ]
 
 pub returns-then-number-gt0-clause-made : goal.returns-then-number-gt0-clause-made
@@ -56,8 +69,18 @@ returns-then-number-gt0-clause-made c =
     let lt : i < length xs = omega (arith, lt0, c.loop-look.auto.looks) in
     let inv = c.loop-look.invariant in
     elim c.then-number-gt0.branch [
-      | then-number-gt0-via-then-number-gt0 w ↦ ap (λ (n : ℕ). n + 1) inv.count ∙ sym (ap (λ (t : Through). t.made) (ap (λ (zs : List Looked). looked_through zs c.args.self.now) w.looks-is ∙ leads-last xs i a c.args.self.now c.loop-look.self lt inv.leads (is_last-number a c.loop-look.self c.look-number.result true step.number (last-number _ _ w.if-number-gt0.true))))
-      | then-number-gt0-via-else-number-gt0+then-look-gt0 w ↦ ap (λ (n : ℕ). n + 1) inv.count ∙ sym (ap (λ (t : Through). t.made) (ap (λ (zs : List Looked). looked_through zs c.args.self.now) w.looks-is ∙ leads-last xs i a c.args.self.now c.loop-look.self lt inv.leads (is_last-number a c.loop-look.self c.look-number.result true step.number (last-notice _ _ w.if-look-gt0.true))))
+      | then-number-gt0-via-then-number-gt0 w ↦ ap (λ (n : ℕ). n + 1) inv.count
+          ∙ sym (ap (λ (t : Through). t.made)
+          (ap (λ (zs : List Looked). looked_through zs c.args.self.now) w.looks-is
+          ∙ leads-last xs i a c.args.self.now c.loop-look.self lt inv.leads
+          (is_last-number a c.loop-look.self c.look-number.result true step.number
+          (last-number _ _ w.if-number-gt0.true))))
+      | then-number-gt0-via-else-number-gt0+then-look-gt0 w ↦ ap (λ (n : ℕ). n + 1) inv.count
+          ∙ sym (ap (λ (t : Through). t.made)
+          (ap (λ (zs : List Looked). looked_through zs c.args.self.now) w.looks-is
+          ∙ leads-last xs i a c.args.self.now c.loop-look.self lt inv.leads
+          (is_last-number a c.loop-look.self c.look-number.result true step.number
+          (last-notice _ _ w.if-look-gt0.true))))
     ]
 
 pub returns-then-number-gt0-clause-number : goal.returns-then-number-gt0-clause-number
@@ -70,8 +93,18 @@ returns-then-number-gt0-clause-number c =
     let lt : i < length xs = omega (arith, lt0, c.loop-look.auto.looks) in
     let inv = c.loop-look.invariant in
     elim c.then-number-gt0.branch [
-      | then-number-gt0-via-then-number-gt0 w ↦ step.number ∙ sym (ap (λ (t : Through). t.number) (ap (λ (zs : List Looked). looked_through zs c.args.self.now) w.looks-is ∙ leads-last xs i a c.args.self.now c.loop-look.self lt inv.leads (is_last-number a c.loop-look.self c.look-number.result true step.number (last-number _ _ w.if-number-gt0.true))))
-      | then-number-gt0-via-else-number-gt0+then-look-gt0 w ↦ step.number ∙ sym (ap (λ (t : Through). t.number) (ap (λ (zs : List Looked). looked_through zs c.args.self.now) w.looks-is ∙ leads-last xs i a c.args.self.now c.loop-look.self lt inv.leads (is_last-number a c.loop-look.self c.look-number.result true step.number (last-notice _ _ w.if-look-gt0.true))))
+      | then-number-gt0-via-then-number-gt0 w ↦ step.number
+          ∙ sym (ap (λ (t : Through). t.number)
+          (ap (λ (zs : List Looked). looked_through zs c.args.self.now) w.looks-is
+          ∙ leads-last xs i a c.args.self.now c.loop-look.self lt inv.leads
+          (is_last-number a c.loop-look.self c.look-number.result true step.number
+          (last-number _ _ w.if-number-gt0.true))))
+      | then-number-gt0-via-else-number-gt0+then-look-gt0 w ↦ step.number
+          ∙ sym (ap (λ (t : Through). t.number)
+          (ap (λ (zs : List Looked). looked_through zs c.args.self.now) w.looks-is
+          ∙ leads-last xs i a c.args.self.now c.loop-look.self lt inv.leads
+          (is_last-number a c.loop-look.self c.look-number.result true step.number
+          (last-notice _ _ w.if-look-gt0.true))))
     ]
 
 pub returns-then-number-gt0-clause-answers : goal.returns-then-number-gt0-clause-answers
@@ -83,10 +116,19 @@ returns-then-number-gt0-clause-answers c =
     let lt0 : i < length c.args.looks.now = c.loop-look-test.true in
     let lt : i < length xs = omega (arith, lt0, c.loop-look.auto.looks) in
     let inv = c.loop-look.invariant in
-    let one : IsAnswered (get_or xs i blank) a c.loop-look.self = record { key = refl; now = refl; answer = step.answer; refusal = step.refusal; memory = step.memory } in
+    let one : IsAnswered (get_or xs i blank) a c.loop-look.self =
+    record { key = refl; now = refl; answer = step.answer; refusal = step.refusal; memory = step.memory } in
     elim c.then-number-gt0.branch [
-      | then-number-gt0-via-then-number-gt0 w ↦ subst (λ (zs : List Looked). AreAnswered c.args.looks.now zs c.args.self.now) (sym w.looks-is) (answers-last c.args.looks.now xs i blank a c.args.self.now c.loop-look.self lt0 lt inv.same inv.answers one (is_last-number a c.loop-look.self c.look-number.result true step.number (last-number _ _ w.if-number-gt0.true)))
-      | then-number-gt0-via-else-number-gt0+then-look-gt0 w ↦ subst (λ (zs : List Looked). AreAnswered c.args.looks.now zs c.args.self.now) (sym w.looks-is) (answers-last c.args.looks.now xs i blank a c.args.self.now c.loop-look.self lt0 lt inv.same inv.answers one (is_last-number a c.loop-look.self c.look-number.result true step.number (last-notice _ _ w.if-look-gt0.true)))
+      | then-number-gt0-via-then-number-gt0 w ↦
+          subst (λ (zs : List Looked). AreAnswered c.args.looks.now zs c.args.self.now) (sym w.looks-is)
+          (answers-last c.args.looks.now xs i blank a c.args.self.now c.loop-look.self lt0 lt inv.same
+          inv.answers one (is_last-number a c.loop-look.self c.look-number.result true step.number
+          (last-number _ _ w.if-number-gt0.true)))
+      | then-number-gt0-via-else-number-gt0+then-look-gt0 w ↦
+          subst (λ (zs : List Looked). AreAnswered c.args.looks.now zs c.args.self.now) (sym w.looks-is)
+          (answers-last c.args.looks.now xs i blank a c.args.self.now c.loop-look.self lt0 lt inv.same
+          inv.answers one (is_last-number a c.loop-look.self c.look-number.result true step.number
+          (last-notice _ _ w.if-look-gt0.true)))
     ]
 
 pub returns-clause-state : goal.returns-clause-state
