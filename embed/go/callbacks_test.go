@@ -112,7 +112,7 @@ func TestALoadMayUseTheCacheForOtherKeysAndChangeItsOwn(t *testing.T) {
 		return other + " and one", 1, err
 	})
 	put, _, _ := c.Look(1)
-	if v != "two and one" || err != nil || put != "put" || c.Stats().Stale != 1 {
+	if v != "two and one" || err != nil || put != "put" || c.Stats().Loose != 1 {
 		t.Fatal(v, err, put, c.Stats())
 	}
 	holds(t, c)
@@ -142,7 +142,7 @@ func TestALoadThatClosesTheCacheHasItsValueReturned(t *testing.T) {
 func TestAWeightOutOfRangeStoresNothing(t *testing.T) {
 	c := open(t, Setup{Entries: 10, Bound: 5})
 	v, err := c.Get(ctx, 1, func(context.Context) (string, uint32, error) { return "heavy", math.MaxUint32, nil })
-	if v != "heavy" || err != nil || c.Stats().Stale != 1 {
+	if v != "heavy" || err != nil || c.Stats().Loose != 1 {
 		t.Fatal(v, err)
 	}
 	if err := c.Put(1, "heavy", 6); !errors.Is(err, TooHeavy) || c.Stats().Refused[TooHeavy] != 1 {

@@ -136,7 +136,7 @@ func (s *shard[K, V]) store(of *load[K, V]) {
 		s.table.store(token, of.row, s.latest)
 		return
 	}
-	s.stats.Stale++
+	s.stats.Loose++
 	s.table.drop(token)
 	s.table.letGo(of.row)
 }

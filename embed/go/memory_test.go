@@ -10,7 +10,7 @@ import (
 // that was loaded is returned and not stored, or a hit is no use; and the cache is whole.
 func TestRefusedMemoryKeepsTheCacheWhole(t *testing.T) {
 	c := open(t, Setup{Entries: 200, Flights: 16})
-	var refused, stale, puts uint64
+	var refused, loose, puts uint64
 	for i := 0; i < 3000; i++ {
 		key, before := uint64(i*7919)%600, c.Stats()
 		was := refusing.After(i%3, func() {
@@ -31,14 +31,14 @@ func TestRefusedMemoryKeepsTheCacheWhole(t *testing.T) {
 		})
 		after := c.Stats()
 		refused += after.Refused[OutOfMemory] - before.Refused[OutOfMemory]
-		stale += after.Stale - before.Stale
-		if !was && (after.Stale != before.Stale || after.Refused[OutOfMemory] != before.Refused[OutOfMemory]) {
+		loose += after.Loose - before.Loose
+		if !was && (after.Loose != before.Loose || after.Refused[OutOfMemory] != before.Refused[OutOfMemory]) {
 			t.Fatal(i, before, after)
 		}
 		holds(t, c)
 	}
-	t.Log(refused, "calls refused,", stale, "values not stored")
-	if stale == 0 || puts == 0 {
-		t.Fatal(stale, puts)
+	t.Log(refused, "calls refused,", loose, "values not stored")
+	if loose == 0 || puts == 0 {
+		t.Fatal(loose, puts)
 	}
 }

@@ -14,7 +14,7 @@ type Stats struct {
 	Loads, Failed                     uint64 // loads that returned a value; that returned an error, panicked or ended their goroutine
 	Refreshes                         uint64 // loads of a key that was there but due
 	LoadTime                          time.Duration
-	Stale                             uint64 // values that were loaded and not stored
+	Loose                             uint64 // values that were loaded and not stored
 	Explicit, Replaced, Expired, Size uint64 // entries that left, by their cause
 	Refused                           map[Fault]uint64
 }
@@ -58,7 +58,7 @@ func (s *Stats) add(other *Stats) {
 	s.Failed += other.Failed
 	s.Refreshes += other.Refreshes
 	s.LoadTime += other.LoadTime
-	s.Stale += other.Stale
+	s.Loose += other.Loose
 	s.Explicit += other.Explicit
 	s.Replaced += other.Replaced
 	s.Expired += other.Expired

@@ -230,7 +230,7 @@ func TestAStormOfClosingLetsGoOfEverything(t *testing.T) {
 		c.Close()
 		s := c.Stats()
 		values, keys := c.Kept()
-		if left := s.Explicit + s.Replaced + s.Expired + s.Size; values != 0 || keys != 0 || left != uint64(told.Load()) || s.Loads-s.Stale != left {
+		if left := s.Explicit + s.Replaced + s.Expired + s.Size; values != 0 || keys != 0 || left != uint64(told.Load()) || s.Loads-s.Loose != left {
 			t.Fatal(values, keys, s, told.Load())
 		}
 	}

@@ -92,7 +92,7 @@ func keepsWhatIsHeld(t *testing.T, s Setup) {
 	if counts.Hits != n.Hits || counts.Misses != n.Misses || counts.Failed != n.Failed || counts.Expired+counts.Size != n.Evicted {
 		t.Fatal(n, counts)
 	}
-	if counts.Explicit+counts.Replaced+counts.Expired+counts.Size != told || counts.Loads == 0 || counts.Refreshes == 0 || counts.Stale == 0 || counts.Expired == 0 || n.Entries == 0 {
+	if counts.Explicit+counts.Replaced+counts.Expired+counts.Size != told || counts.Loads == 0 || counts.Refreshes == 0 || counts.Loose == 0 || counts.Expired == 0 || n.Entries == 0 {
 		t.Fatal(told, counts)
 	}
 	c.Close()

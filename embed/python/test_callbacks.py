@@ -92,7 +92,7 @@ class Callbacks(CacheTest):
             return cache.get("b", lambda key: 20) + 1
 
         self.assertEqual(cache.get("a", load), 21)
-        self.assertEqual((cache.look("a"), cache.look("b"), cache.stats().stale), (5, 20, 1))
+        self.assertEqual((cache.look("a"), cache.look("b"), cache.stats().loose), (5, 20, 1))
         self.holds_exactly(cache, 2)
 
     def test_a_loader_that_closes_the_cache_has_its_value_returned(self):

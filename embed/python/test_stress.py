@@ -76,7 +76,7 @@ class Stress(CacheTest):
         self.assertEqual((stats.hits, stats.misses, stats.failed), (numbers["hits"], numbers["misses"], numbers["failed"]))
         self.assertEqual(stats.expired + stats.size, numbers["evicted"])
         self.assertEqual(told, {cause: count for cause in ("explicit", "replaced", "expired", "size") if (count := getattr(stats, cause))})
-        self.assertTrue(min(stats.loads, stats.refreshes, stats.stale, stats.expired, numbers["entries"]) > 0)
+        self.assertTrue(min(stats.loads, stats.refreshes, stats.loose, stats.expired, numbers["entries"]) > 0)
         cache.close()
         gc.collect()
         self.assertEqual((len(live), sum(told.values())), (0, sum(stats[8:]) + numbers["entries"]))

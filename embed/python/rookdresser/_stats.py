@@ -12,7 +12,7 @@ class Stats(NamedTuple):
     failed: int = 0
     refreshes: int = 0
     load_ns: int = 0
-    stale: int = 0
+    loose: int = 0
     explicit: int = 0
     replaced: int = 0
     expired: int = 0

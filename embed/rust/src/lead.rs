@@ -69,7 +69,7 @@ impl<K, V, E> Lead<'_, K, V, E> {
         shard.stats.load_time += took;
         shard.stats.loads += u64::from(has_value);
         shard.stats.failed += u64::from(!has_value);
-        shard.stats.stale += u64::from(has_value && !matches!(landed, Landed::Kept(_)));
+        shard.stats.loose += u64::from(has_value && !matches!(landed, Landed::Kept(_)));
         drop(shard);
         if let Some(flight) = load.flight {
             flight.tell(outcome());

@@ -24,7 +24,7 @@ pub struct Stats {
     pub load_time: Duration,
     /// Loads whose value was not stored, since the key was put, dropped, forgotten or cleared meanwhile, or the value is too
     /// heavy, or memory was refused.
-    pub stale: u64,
+    pub loose: u64,
     /// Entries that left because they were dropped or cleared.
     pub explicit: u64,
     /// Entries that left because another value was stored under their key.
@@ -59,7 +59,7 @@ impl AddAssign for Stats {
         self.failed += other.failed;
         self.refreshes += other.refreshes;
         self.load_time += other.load_time;
-        self.stale += other.stale;
+        self.loose += other.loose;
         self.explicit += other.explicit;
         self.replaced += other.replaced;
         self.expired += other.expired;

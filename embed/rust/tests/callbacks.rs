@@ -75,7 +75,7 @@ fn a_loader_may_use_the_cache_for_other_keys_and_change_its_own() {
         (got, cache.look_at(&1, 0), cache.look_at(&2, 0)),
         (Ok(Arc::new(21)), Ok(Some(Arc::new(7))), Ok(Some(Arc::new(20))))
     );
-    assert_eq!(cache.stats().stale, 1);
+    assert_eq!(cache.stats().loose, 1);
     holds_exactly(&cache);
 }
 
@@ -127,7 +127,7 @@ fn a_weight_out_of_range_stores_nothing_and_is_no_error_of_a_get() {
     let cache = Loading::<u64, u64, Down>::open(&SETUP).unwrap();
     assert_eq!(cache.get_at(&1, 0, || Ok((7, u32::MAX))), Ok(Arc::new(7)));
     assert_eq!(cache.put_at(&1, Arc::new(7), u32::MAX, 0), Err(Fault::TooHeavy));
-    assert_eq!((cache.look_at(&1, 0), cache.stats().stale), (Ok(None), 1));
+    assert_eq!((cache.look_at(&1, 0), cache.stats().loose), (Ok(None), 1));
     assert_eq!(cache.stats().refused[Fault::TooHeavy.place()], 1);
     holds_exactly(&cache);
 }

@@ -84,7 +84,7 @@ fn only_grow<K: Hash + Eq + Clone + Send + Sync + 'static>(key_of: fn(u64) -> K)
             });
             let (numbers, stats) = (cache.numbers(), cache.stats());
             assert_eq!((cache.kept(), numbers.flights), ((numbers.entries as usize, numbers.entries as usize), 0));
-            assert!(stats.stale > 0 && stats.refreshes > 0 && stats.replaced > 0 && stats.size > 0, "{stats:?}");
+            assert!(stats.loose > 0 && stats.refreshes > 0 && stats.replaced > 0 && stats.size > 0, "{stats:?}");
         });
     }
 }

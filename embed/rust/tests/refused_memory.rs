@@ -78,7 +78,7 @@ fn landing_is_refused(entries: u64) -> bool {
     REFUSES.store(false, Ordering::SeqCst);
     assert_eq!(got, Ok(Arc::new(200)));
     let refused = REFUSED.load(Ordering::SeqCst) > before;
-    assert_eq!(cache.stats().stale, u64::from(refused));
+    assert_eq!(cache.stats().loose, u64::from(refused));
     let of_the_key: Vec<_> = told.lock().unwrap().iter().copied().filter(|told| told.0 == 1).collect();
     assert_eq!(of_the_key, [(1, 1, Cause::Expired)]);
     let numbers = cache.numbers();

@@ -81,7 +81,7 @@ fn after_a_hundred_thousand_requests_exactly_what_is_held_is_kept() {
         // The two sides count alike.
         assert_eq!((stats.hits, stats.misses, stats.failed), (n.hits, n.misses, n.failed));
         assert_eq!(stats.expired + stats.size, n.evicted);
-        assert!(stats.loads > 0 && stats.refreshes > 0 && stats.stale > 0 && stats.expired > 0);
+        assert!(stats.loads > 0 && stats.refreshes > 0 && stats.loose > 0 && stats.expired > 0);
         assert!(n.entries > 0 && n.entries <= 500 * shards as u64);
         drop(cache);
         assert_eq!(LIVE.load(Ordering::SeqCst), 0);

@@ -140,7 +140,7 @@ int land(Table *self, Load *load, PyObject *value) {
             link_use(self, use, hash, number);
             use = NULL;
         } else
-            self->counts.stale++;
+            self->counts.loose++;
         if (fault) fault = rd_land_loose(cache, load->id, number, load->now, &answer);
         if (!fault) take_left(self, cache, &answer, &left);
     }

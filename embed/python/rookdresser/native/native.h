@@ -72,7 +72,7 @@ struct Waits {
 
 /* The fields of _stats.py, in their order. */
 typedef struct {
-    uint64_t hits, misses, joins, loads, failed, refreshes, load_ns, stale, left[4];
+    uint64_t hits, misses, joins, loads, failed, refreshes, load_ns, loose, left[4];
 } Counts;
 
 typedef struct {
