@@ -53,8 +53,8 @@ def numbers(child):
 
 
 def busy_threads(first, now):
-    """How many threads are busy: what the one that reads the trace did for that, alone, doesn't count."""
-    return sum(woken >= SWITCHES or used - first[name][1] >= TICKS for name, (woken, used) in now.items())
+    """How many threads have been busy since there were several: what the one that reads the trace did for that doesn't count."""
+    return sum(woken - first[name][0] >= SWITCHES or used - first[name][1] >= TICKS for name, (woken, used) in now.items())
 
 
 def most_busy(program, turn, workers, given):
