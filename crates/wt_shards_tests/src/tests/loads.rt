@@ -199,6 +199,47 @@ fn a_join_reads_what_the_lead_publishes(rt: HostRuntime) -> Result<(), Fail> {
     Ok(())
 }
 
+// More sharers of a load than any limit of a cache.
+const MANY: u64 = 100_001;
+
+// The first seek opens the load, the others join it, and all keep their tickets until it lands.
+fn join_many<N: Names>(
+    rt: &impl Abort,
+    run: &mut Run<Loaded, N>,
+    loads: &mut Loads,
+) -> Result<(), Fault> {
+    let opened = tell(rt, run, loads, (Act::Seek, 7, 3))?;
+    same(rt, "the first seek", opened, Told::Lead(1, 7, 3));
+    for _ in 1..MANY {
+        let joined = tell(rt, run, loads, (Act::Seek, 7, 3))?;
+        same(rt, "a later seek", joined, Told::Join(1, 7));
+    }
+    let landing = (Act::Step(Do::Keep(1, light(5))), 7, 3);
+    let landed = tell(rt, run, loads, landing)?;
+    same(rt, "the landing", landed, Told::Step(Said::Kept(MANY)));
+    Ok(())
+}
+
+fn share_with_many<N: Names>(
+    rt: &impl Abort,
+    alloc: Global,
+    blanks: Blanks<u64, Loaded>,
+    limits: &Config,
+) -> Result<(), Fault>
+    requires layout { N.layout ≡ record { shards = 1; config = limits.now } }
+    requires blanks { AreBlanksOf N.name N.book blanks }
+{
+    let mut loads = Loads::new(alloc);
+    let mut run: Run<Loaded, N> = Run::new(alloc, limits, blanks)?;
+    join_many(rt, &mut run, &mut loads)
+}
+
+#[test]
+fn a_load_may_have_many_sharers_at_once(rt: HostRuntime) -> Result<(), Fail> {
+    share_with_many::<Brand>(&rt, rt.alloc(), Blanks::new(), &config(1000))?;
+    Ok(())
+}
+
 // Opens a load of key 7, and drops the ticket.
 fn opened<N: Names>(run: &mut Run<Fussy, N>) -> Result<Lead<u64, Fussy>, Fault> {
     match run.seek(7, 3)? {
