@@ -92,10 +92,8 @@ fn opened<K: TraceKey, N: Names + Send + Sync, R: Wait>(
     if options.workers == 0 {
         return Ok(LoadingCache::new(shards, loader, None));
     }
-    match JobLine::new(rt, alloc, MOST_WAITING) {
-        Ok(line) => Ok(LoadingCache::new(shards, loader, Some(line))),
-        Err(fault) => Err(fault),
-    }
+    let line = JobLine::new(rt, alloc, MOST_WAITING)?;
+    Ok(LoadingCache::new(shards, loader, Some(line)))
 }
 
 // The sums of the numbers of all shards, if the passes account for all steps.
@@ -108,10 +106,8 @@ fn settled<K: TraceKey, N: Names + Send + Sync, R: Wait>(
     ensures looked { IfOk result AreLooked }
     ensures faults { IfErr result (λ f. is_config_fault (fault.Cache f) ≡ false) }
 {
-    match cache.finish().settle(rt, alloc, passes) {
-        Ok(totals) => Ok(sum_of(&totals)),
-        Err(fault) => Err(fault),
-    }
+    let totals = cache.finish().settle(rt, alloc, passes)?;
+    Ok(sum_of(&totals))
 }
 
 // A run at given ledgers.
@@ -203,9 +199,7 @@ fn sums_of_trace<K: TraceKey, G: Gate, R: Threads + Wait + Sync>(
     if let Some(n) = first_open(first, &read.lines) {
         return Err(ReplayFault::BadLine { n });
     }
-    if let Err(fault) = read.verdict {
-        return Err(fault);
-    }
+    read.verdict?;
     let loader = TraceLoader::of(options);
     let deal = Deal {
         loader: &loader,

@@ -198,11 +198,7 @@ pub(crate) fn gather<P: Drop>(
         }
     }
     for one in worked {
-        let pass = match one {
-            Ok(pass) => pass,
-            Err(fault) => return Err(fault),
-        };
-        if passes.push(pass).is_err() {
+        if passes.push(one?).is_err() {
             return Err(Fault::NoMemory);
         }
     }

@@ -170,9 +170,7 @@ impl<'a, K: TraceKey, B: Books> Turns<'a, K, B> {
         let mut rest = self.deal.lines;
         let mut n = self.deal.first;
         while let Some((line, after)) = rest.split_first() {
-            if let Err(fault) = self.take_turn(rt, gate, pass, n, line, notices) {
-                return Err(fault);
-            }
+            self.take_turn(rt, gate, pass, n, line, notices)?;
             rest = after;
             n += 1;
         }
@@ -201,10 +199,8 @@ pub(crate) fn run_thread<K: TraceKey, B: Books, G: Gate, R: Wait>(
         return Err(RunFault::Cache(Fault::NoMemory));
     };
     let turns = Turns { cache, deal, t };
-    match turns.do_lines(rt, gate, &mut pass, &mut notices) {
-        Ok(()) => Ok(pass),
-        Err(fault) => Err(fault),
-    }
+    turns.do_lines(rt, gate, &mut pass, &mut notices)?;
+    Ok(pass)
 }
 
 /// Runs loads with a pass of its own until the line of loads is closed and empty, and hands the
@@ -220,10 +216,7 @@ pub(crate) fn run_loads<K: TraceKey, B: Books, R: Wait>(
 ) -> Result<Pass<K, Version<K>, B>, Fault>
     ensures faults { IfErr result (λ f. is_config_fault (fault.Cache f) ≡ false) }
 {
-    let mut pass = match cache.pass(rt, alloc) {
-        Ok(pass) => pass,
-        Err(fault) => return Err(fault),
-    };
+    let mut pass = cache.pass(rt, alloc)?;
     let Some(line) = cache.line() else {
         return Ok(pass);
     };

@@ -5,13 +5,13 @@ use Rattle.wt_trace.specs.declared.shard.version.Version.{Version}
 use Rattle.wt_trace.specs.Keys.{keys_by}
 use Rattle.wt_replay.proofs.by_turn.turns.run_thread.Goals as goal
 
-pub returns-in-Ok-do_lines : goal.returns-in-Ok-do_lines
-returns-in-Ok-do_lines g c =
+pub returns : goal.returns
+returns g c =
     let deal = c.args.deal.now in
     let acted = HasActed (keys_by g.K.PartialEq.eq g.K.CacheKey.word g.K.TraceKey.read g.K.TraceKey.shown)
     deal.loader.now.options c.args.cache.now in
     let turns = subst (λ (p : Seen g.row.K.Denot (Version g.row.K.Denot)). AreTurns
     (is_turn deal.threads c.args.t)
     (λ n. g.G.Gate.answers c.args.gate.now n true) acted deal.first deal.lines.now p c.do_lines.new.pass)
-    c.in-Ok.ensures.ok c.in-Ok-do_lines.ensures.turns in
+    c.in-Ok.ensures.ok c.in_ok-do_lines.ensures.turns in
     record { made = record { turns = turns; err = tt } }
