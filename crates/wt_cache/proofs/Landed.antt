@@ -12,6 +12,7 @@ use Rattle.wt_core.specs.Step.{is_kept, landing, own_expired, step, storing}
 use Rattle.wt_shards.specs.Contract.{IsHomeCall}
 use Rattle.wt_shards.specs.Counts.{is_hit}
 use Rattle.wt_shards.specs.History.{state_after}
+use Rattle.wt_shards.specs.Members.{Members}
 use Rattle.wt_shards.specs.declared.done.Done.{Done}
 use Rattle.wt_history.proofs.Fronts.{prefix_trans}
 use Rattle.wt_keys.specs.declared.fault.Fault.{Fault}
@@ -50,62 +51,62 @@ landing-no_hit {K} {V} eq word weight s id k what now = at_row (row_of eq k id s
     at_row (Some row) = at_kept what row
 
 -- the landing of a lead at its moment is the call of its shard
-module _ {K V : Type 0} (eq : K → K → Bool) (word : K → ℕ) (weight : V → ℕ) (answers : V → K → Bool)
+module _ {K V : Type 0} (members : Members K V)
     (l m : Layout) (lead : Leading K) (what : Landing V) (moment : ℕ) (old new : Seen K V) (before list : NoticeList K V) where
   pub landed-made : (done : Done (Reply V)) → l ≡ m → moment ≡ lead.moment
-      → IsHomeCall eq word weight answers (home_at word lead.key l) (Land lead.id lead.key what moment) (λ r. r) old new before list
+      → IsHomeCall members (home_at members.word lead.key l) (Land lead.id lead.key what moment) (λ r. r) old new before list
       (Ok done)
-      → IsLandCall eq word weight answers m lead what old new before list (Ok tt)
+      → IsLandCall members m lead what old new before list (Ok tt)
   landed-made done same at called =
-      let home : ℕ = home_of word lead.key l in
-      let h = subst (λ (n : ℕ). IsHomeCall eq word weight answers (home_at word lead.key l) (Land lead.id lead.key what n) (λ r. r) old new
+      let home : ℕ = home_of members.word lead.key l in
+      let h = subst (λ (n : ℕ). IsHomeCall members (home_at members.word lead.key l) (Land lead.id lead.key what n) (λ r. r) old new
       before list (Ok done)) at called in
       let calls : List (Call K V) = front_at home old ++ h.step.placed.between in
-      let miss : is_hit done.reply ≡ false = ap is_hit h.step.replied ∙ landing-no_hit eq word weight
-      (state_after eq word weight l.config calls) lead.id lead.key what lead.moment in
-      subst (λ (x : Layout). IsLandCall eq word weight answers x lead what old new before list (Ok tt)) same (record {
+      let miss : is_hit done.reply ≡ false = ap is_hit h.step.replied ∙ landing-no_hit members.eq members.word members.weight
+      (state_after members.eq members.word members.weight l.config calls) lead.id lead.key what lead.moment in
+      subst (λ (x : Layout). IsLandCall members x lead what old new before list (Ok tt)) same (record {
         moved = h.moved ∙ ap (λ b. with_step home b old.counted) miss;
         step = record { reply = done.reply; number = done.step; made = h.step };
         told = h.told;
         faults = tt;
         cause = tt;
-        more = seen-more home old new h.elsewhere (made-grows eq word weight answers (home_at word lead.key l)
+        more = seen-more home old new h.elsewhere (made-grows members (home_at members.word lead.key l)
             (Land lead.id lead.key what lead.moment) done.reply done.step (front_at home old) (front_at home new) before list h.step);
         elsewhere = h.elsewhere;
         err = tt;
       })
 
-  refused-so : (f : Fault) → l ≡ m → moment ≡ lead.moment → IsHomeCall {R = Reply V} eq word weight answers (home_at word lead.key l)
+  refused-so : (f : Fault) → l ≡ m → moment ≡ lead.moment → IsHomeCall {R = Reply V} members (home_at members.word lead.key l)
       (Land lead.id lead.key what moment) (λ r. r) old new before list (Err f)
-      → IsLandCall eq word weight answers m lead what old new before list (Err f)
+      → IsLandCall members m lead what old new before list (Err f)
   refused-so f same at called =
-      let home : ℕ = home_of word lead.key l in
-      let h = subst (λ (n : ℕ). IsHomeCall {R = Reply V} eq word weight answers (home_at word lead.key l) (Land lead.id lead.key what n)
+      let home : ℕ = home_of members.word lead.key l in
+      let h = subst (λ (n : ℕ). IsHomeCall {R = Reply V} members (home_at members.word lead.key l) (Land lead.id lead.key what n)
       (λ r. r) old new before list (Err f)) at called in
-      subst (λ (x : Layout). IsLandCall eq word weight answers x lead what old new before list (Err f)) same (record {
+      subst (λ (x : Layout). IsLandCall members x lead what old new before list (Err f)) same (record {
         moved = tt;
         step = tt;
         told = h.told;
         faults = h.faults;
         cause = h.cause;
-        more = seen-more home old new h.elsewhere (refused-grows eq word weight answers (home_at word lead.key l)
+        more = seen-more home old new h.elsewhere (refused-grows members (home_at members.word lead.key l)
             (Land lead.id lead.key what lead.moment) (front_at home old) (front_at home new) f h.cause);
         elsewhere = h.elsewhere;
         err = h.err;
       })
 
   pub landed-refused : (f : Fault) (r : Result (Unit {0}) Fault) → IsErrAnd r (λ g. g ≡ f) → l ≡ m → moment ≡ lead.moment
-      → IsHomeCall {R = Reply V} eq word weight answers (home_at word lead.key l) (Land lead.id lead.key what moment) (λ r. r) old new
+      → IsHomeCall {R = Reply V} members (home_at members.word lead.key l) (Land lead.id lead.key what moment) (λ r. r) old new
       before list (Err f)
-      → IsLandCall eq word weight answers m lead what old new before list r
+      → IsLandCall members m lead what old new before list r
   landed-refused f (Ok x) told same at called = absurd told
-  landed-refused f (Err g) told same at called = subst (λ (e : Fault). IsLandCall eq word weight answers m lead what old new before list
+  landed-refused f (Err g) told same at called = subst (λ (e : Fault). IsLandCall members m lead what old new before list
       (Err e)) (sym told) (refused-so f same at called)
 
-module _ {K V : Type 0} (eq : K → K → Bool) (word : K → ℕ) (weight : V → ℕ) (answers : V → K → Bool)
+module _ {K V : Type 0} (members : Members K V)
     (l : Layout) (lead : Leading K) (what : Landing V) where
   abbrev home : ℕ
-  home = home_of word lead.key l
+  home = home_of members.word lead.key l
 
   abbrev call : Call K V
   call = Land lead.id lead.key what lead.moment
@@ -113,12 +114,12 @@ module _ {K V : Type 0} (eq : K → K → Bool) (word : K → ℕ) (weight : V �
   -- a landing after one that was refused is one for who was there before both
   pub landed-again : (old mid new : Seen K V) (before between list : NoticeList K V) (r : Result (Unit {0}) Fault)
       → mid.counted ≡ old.counted → between ≡ before → SeenMore old mid → SeenAt home old mid
-      → IsLandCall eq word weight answers l lead what mid new between list r
-      → IsLandCall eq word weight answers l lead what old new before list r
+      → IsLandCall members l lead what mid new between list r
+      → IsLandCall members l lead what old new before list r
   landed-again old mid new before between list (Ok x) counted same more elsewhere landed =
-      let made = made-earlier eq word weight answers (home_at word lead.key l) call landed.step.reply landed.step.number
+      let made = made-earlier members (home_at members.word lead.key l) call landed.step.reply landed.step.number
       (front_at home old) (front_at home mid) (front_at home new) between list (more home) landed.step.made in
-      subst (λ (t : NoticeList K V). IsLandCall eq word weight answers l lead what old new t list (Ok x)) same (record {
+      subst (λ (t : NoticeList K V). IsLandCall members l lead what old new t list (Ok x)) same (record {
         moved = landed.moved ∙ ap (with_step home false) counted;
         step = record { reply = landed.step.reply; number = landed.step.number; made = made };
         told = landed.told;
@@ -129,12 +130,12 @@ module _ {K V : Type 0} (eq : K → K → Bool) (word : K → ℕ) (weight : V �
         err = tt;
       })
   landed-again old mid new before between list (Err f) counted same more elsewhere landed =
-      subst (λ (t : NoticeList K V). IsLandCall eq word weight answers l lead what old new t list (Err f)) same (record {
+      subst (λ (t : NoticeList K V). IsLandCall members l lead what old new t list (Err f)) same (record {
         moved = tt;
         step = tt;
         told = landed.told;
         faults = landed.faults;
-        cause = refused-earlier eq word weight answers (home_at word lead.key l) call (front_at home old) (front_at home mid)
+        cause = refused-earlier members (home_at members.word lead.key l) call (front_at home old) (front_at home mid)
             (front_at home new) f (more home) landed.cause;
         more = λ i. prefix_trans (front_at i old) (front_at i mid) (front_at i new) (more i) (landed.more i);
         elsewhere = seen-twice home old mid new elsewhere landed.elsewhere;

@@ -1,5 +1,5 @@
 -- What a call promises that hands on what another one made, and what several functions promise alike.
-use Rattle.std.specs.Prelude.{◌≡◌, ◌⊎◌, ◌<◌, ◌≤◌, ◌*◌, ℕ, Bool, true, List, Vec, vec_len, slice_index_or, Result, Err, IsTrue, IfOk, IfErr, IsErrAnd, IsOkUnless, MatchOption}
+use Rattle.std.specs.Prelude.{◌≡◌, ◌⊎◌, ◌<◌, ◌≤◌, ◌*◌, ℕ, true, List, Vec, vec_len, slice_index_or, Result, Err, IsTrue, IfOk, IfErr, IsErrAnd, IsOkUnless, MatchOption}
 use Rattle.wt_keys.specs.declared.fault.Fault.{Fault}
 use Rattle.wt_keys.specs.declared.fault.Fault.TheVariants.{NoMemory, BadConfig, TooHeavy, PassesSpent}
 use Rattle.wt_regions.specs.Notices.{NoticeList, emptied}
@@ -11,6 +11,7 @@ use Rattle.wt_core.specs.declared.calls.Reply.TheVariants.{Stored}
 use Rattle.wt_core.specs.declared.config.Config.{Config}
 use Rattle.wt_shards.specs.Contract.{IsHomeCall, IsSweepCall}
 use Rattle.wt_shards.specs.Opening.{layout_fault}
+use Rattle.wt_shards.specs.Members.{Members}
 use Rattle.wt_shards.specs.Passes.{Seen}
 use Rattle.wt_shards.specs.Place.{Layout, home_at}
 use Rattle.wt_shards.specs.Told.{HasTold}
@@ -21,56 +22,56 @@ use Rattle.wt_cache.specs.Moves.{HasGotIn, IsLaterIn}
 use Rattle.wt_cache.specs.declared.got.Got.{Got}
 
 -- what the put of a value promises: the call at its key's shard, and when the value is too heavy
-pub record IsPutCall {K V : Type 0} (eq : K → K → Bool) (word : K → ℕ) (weight : V → ℕ) (answers : V → K → Bool) (l : Layout) (key : K) (value : V) (now : ℕ)
+pub record IsPutCall {K V : Type 0} (members : Members K V) (l : Layout) (key : K) (value : V) (now : ℕ)
     (old new : Seen K V) (before list : NoticeList K V) (result : Result (Done (Unit {0})) Fault) : Type 0 where
   -- the call at the key's shard
-  pub made : IsHomeCall eq word weight answers (home_at word key l) (Put key value now) (λ _. Stored) old new before list result
+  pub made : IsHomeCall members (home_at members.word key l) (Put key value now) (λ _. Stored) old new before list result
   -- a value above the bound is refused, with its weight and the bound
-  pub heavy : l.config.bound < weight value → result ≡ Err (TooHeavy (weight value) l.config.bound)
+  pub heavy : l.config.bound < members.weight value → result ≡ Err (TooHeavy (members.weight value) l.config.bound)
   -- no other value is too heavy
-  pub light : weight value ≤ l.config.bound → IfErr result (λ f. is_step_fault f ≡ true)
+  pub light : members.weight value ≤ l.config.bound → IfErr result (λ f. is_step_fault f ≡ true)
 
 -- what a caller's call promises that goes to the shard of a key: that call, with its pass and with its list, which is emptied first
-pub record IsLentCall {K V R : Type 0} (eq : K → K → Bool) (word : K → ℕ) (weight : V → ℕ) (answers : V → K → Bool) (key : K) (c : Call K V)
+pub record IsLentCall {K V R : Type 0} (members : Members K V) (key : K) (c : Call K V)
     (said : R → Reply V) (old new : Calling K V) (result : Result (Done R) Fault) : Type 0 where
   -- the call at the key's shard
-  pub made : IsHomeCall eq word weight answers (home_at word key old.cache.layout) c said old.pass new.pass (emptied old.left) new.left result
+  pub made : IsHomeCall members (home_at members.word key old.cache.layout) c said old.pass new.pass (emptied old.left) new.left result
   -- the caller's cache is the same
   pub same : new.cache ≡ old.cache
 
 -- what a caller's put promises: that of the cache, with its pass and with its list, which is emptied first
-pub record IsLentPut {K V : Type 0} (eq : K → K → Bool) (word : K → ℕ) (weight : V → ℕ) (answers : V → K → Bool) (key : K) (value : V) (now : ℕ)
+pub record IsLentPut {K V : Type 0} (members : Members K V) (key : K) (value : V) (now : ℕ)
     (old new : Calling K V) (result : Result (Done (Unit {0})) Fault) : Type 0 where
   -- the call at the key's shard, and when the value is too heavy
-  pub made : IsPutCall eq word weight answers old.cache.layout key value now old.pass new.pass (emptied old.left) new.left result
+  pub made : IsPutCall members old.cache.layout key value now old.pass new.pass (emptied old.left) new.left result
   -- the caller's cache is the same
   pub same : new.cache ≡ old.cache
 
 -- what a caller's sweep promises: the call at each shard in turn, with its pass and with the list that is lent for it
-pub record IsLentSweep {K V : Type 0} (eq : K → K → Bool) (word : K → ℕ) (weight : V → ℕ) (answers : V → K → Bool) (c : Call K V)
+pub record IsLentSweep {K V : Type 0} (members : Members K V) (c : Call K V)
     (old new : Calling K V) (before list : NoticeList K V) (result : Result (Unit {0}) Fault) : Type 0 where
   -- the call at each shard in turn
-  pub made : IsSweepCall eq word weight answers old.cache.layout c old.pass new.pass before list result
+  pub made : IsSweepCall members old.cache.layout c old.pass new.pass before list result
   -- the caller's cache and its own list are the same
   pub same : (new.cache ≡ old.cache) × (new.left ≡ old.left)
 
 -- what a caller's get promises: the get of its cache, with its pass and with its list, which is emptied first
-pub record IsLentGet {K V : Type 0} (eq : K → K → Bool) (word : K → ℕ) (weight : V → ℕ) (stands : V → K → Bool) (key : K) (now : ℕ)
+pub record IsLentGet {K V : Type 0} (members : Members K V) (key : K) (now : ℕ)
     (old new : Calling K V) (result : Result (Got V) Fault) : Type 0 where
   -- the value may stand for the key
-  pub answers : IfOk result (λ got. IsTrue (stands got.value key))
+  pub answers : IfOk result (λ got. IsTrue (members.answers got.value key))
   -- the pass counts the seek, and the landings that this caller ran
-  pub moved : IfOk result (HasGotIn word key old.cache old.pass.counted new.pass.counted)
+  pub moved : IfOk result (HasGotIn members.word key old.cache old.pass.counted new.pass.counted)
   -- the number of the seek is above those of all steps that the pass had made there
-  pub later : IfOk result (IsLaterIn word key old.cache old.pass.counted)
+  pub later : IfOk result (IsLaterIn members.word key old.cache old.pass.counted)
   -- the seek stands in that shard's history, and then what its answer asked for and nothing else, each with its notices
-  pub sought : IfOk result (IsSought eq word weight stands key now old.cache old.pass new.pass (emptied old.left) new.left)
+  pub sought : IfOk result (IsSought members key now old.cache old.pass new.pass (emptied old.left) new.left)
   -- whatever is returned: few notices, and no room lost
   pub told : HasTold (2 * old.cache.layout.config.entries) (emptied old.left) new.left
   -- no other fault comes than a get's
   pub faults : IfErr result (λ f. is_get_fault f ≡ true)
   -- either the seek was refused, for a cause of its own and with nothing done, or it stands, and this is why it brought nothing
-  pub err : IfErr result (HasTriedIn eq word weight stands key now old.cache old.pass new.pass (emptied old.left) new.left)
+  pub err : IfErr result (HasTriedIn members key now old.cache old.pass new.pass (emptied old.left) new.left)
   -- the caller's cache is the same
   pub same : new.cache ≡ old.cache
 

@@ -14,6 +14,7 @@ use Rattle.wt_core.specs.declared.calls.Land.{Land as Landing}
 use Rattle.wt_core.specs.declared.calls.Land.TheVariants as land
 use Rattle.wt_core.specs.declared.calls.Reply.{Reply}
 use Rattle.wt_shards.specs.History.{IsMade, IsRefused}
+use Rattle.wt_shards.specs.Members.{Members}
 use Rattle.wt_shards.specs.Passes.{Seen, SeenAt, SeenMore, front_at, with_step}
 use Rattle.wt_shards.specs.Place.{Layout, home_of, home_at}
 use Rattle.wt_shards.specs.Told.{HasTold}
@@ -56,19 +57,19 @@ is_outcome_fault Abandoned = true
 is_outcome_fault Mixed = true
 is_outcome_fault fault = false
 
-module _ {K V : Type 0} (eq : K → K → Bool) (word : K → ℕ) (weight : V → ℕ) (answers : V → K → Bool) (l : Layout) (lead : Leading K) where
+module _ {K V : Type 0} (members : Members K V) (l : Layout) (lead : Leading K) where
   -- a landing stands in the history of its key's shard, at the moment of its seek
   pub record IsPlacedLanding (what : Landing V) (old new : Seen K V) (before list : NoticeList K V) : Type 0 where
     pub reply : Reply V
     pub number : ℕ
-    pub made : IsMade eq word weight answers (home_at word lead.key l) (Land lead.id lead.key what lead.moment) reply number
-        (front_at (home_of word lead.key l) old) (front_at (home_of word lead.key l) new) before list
+    pub made : IsMade members (home_at members.word lead.key l) (Land lead.id lead.key what lead.moment) reply number
+        (front_at (home_of members.word lead.key l) old) (front_at (home_of members.word lead.key l) new) before list
 
   -- what a landing promises: one step at the key's shard at the moment of its seek, or a refusal that moves nothing
   pub record IsLandCall (what : Landing V) (old new : Seen K V) (before list : NoticeList K V) (result : Result (Unit {0}) Fault) : Type 0
     where
       -- the pass counts the step at that shard, which is no hit
-      pub moved : OnOk result (new.counted ≡ with_step (home_of word lead.key l) false old.counted)
+      pub moved : OnOk result (new.counted ≡ with_step (home_of members.word lead.key l) false old.counted)
       -- the landing stands in that shard's history, at the moment of the load's seek, behind all that the pass had seen of it
       pub step : OnOk result (IsPlacedLanding what old new before list)
       -- whatever is returned: few notices, and no room lost
@@ -76,18 +77,18 @@ module _ {K V : Type 0} (eq : K → K → Bool) (word : K → ℕ) (weight : V �
       -- no other fault comes than a step's
       pub faults : IfErr result (λ f. is_step_fault f ≡ true)
       -- memory is refused, or that shard refuses the landing by this fault after the history that the pass then has seen
-      pub cause : IfErr result (IsRefused eq word weight answers (home_at word lead.key l) (Land lead.id lead.key what lead.moment)
-          (front_at (home_of word lead.key l) old) (front_at (home_of word lead.key l) new))
+      pub cause : IfErr result (IsRefused members (home_at members.word lead.key l) (Land lead.id lead.key what lead.moment)
+          (front_at (home_of members.word lead.key l) old) (front_at (home_of members.word lead.key l) new))
       -- whatever is returned: the pass has seen at least what it had, and no more of the other shards
       pub more : SeenMore old new
-      pub elsewhere : SeenAt (home_of word lead.key l) old new
+      pub elsewhere : SeenAt (home_of members.word lead.key l) old new
       -- a fault leaves what the pass counts, and the notices
       pub err : OnErr result ((new.counted ≡ old.counted) × (list ≡ before))
 
   -- a load was run: what its loader returned may stand for the key, and was landed
   pub record IsLanded (loaded : Result V ℕ) (landed : Result (Unit {0}) Fault) (old new : Seen K V) (before list : NoticeList K V) : Type 0
     where
-      pub fits : AnswersKey answers lead.key (outcome_of loaded)
+      pub fits : AnswersKey members.answers lead.key (outcome_of loaded)
       pub what : Landing V
       pub lands : LandsAs loaded what
       pub made : IsLandCall what old new before list landed
@@ -103,13 +104,13 @@ module _ {K V : Type 0} (eq : K → K → Bool) (word : K → ℕ) (weight : V �
     pub failed : ran.failed ≡ is_err loaded
 
 -- a load of a cache, and a pass and notices before and after it
-module _ {K V : Type 0} (eq : K → K → Bool) (word : K → ℕ) (weight : V → ℕ) (answers : V → K → Bool)
+module _ {K V : Type 0} (members : Members K V)
     (cache : Cached) (lead : Leading K) (old new : Seen K V) (before list : NoticeList K V) where
   -- this caller ran the load
   pub record IsRunHere : Type 0 where
     pub loaded : Result V ℕ
     pub landed : Result (Unit {0}) Fault
-    pub run : IsLanded eq word weight answers cache.layout lead loaded landed old new before list
+    pub run : IsLanded members cache.layout lead loaded landed old new before list
 
   -- the load was left to the line. If that was closed by then, this caller ran what was in it, and dropped what left
   pub record IsLeft : Type 0 where
@@ -124,14 +125,14 @@ module _ {K V : Type 0} (eq : K → K → Bool) (word : K → ℕ) (weight : V �
 
   -- the same, with what was run here
   abbrev pub IsHandedTo : Option (Ran K V) → Type 0
-  IsHandedTo (Some ran) = IsRun eq word weight answers cache.layout lead old new before list ran
+  IsHandedTo (Some ran) = IsRun members cache.layout lead old new before list ran
   IsHandedTo None = IsLeft
 
   -- this caller ran the load, and is told what its loader returned
   pub record IsLoadedHere (told : Result V Fault) : Type 0 where
     pub loaded : Result V ℕ
     pub landed : Result (Unit {0}) Fault
-    pub run : IsLanded eq word weight answers cache.layout lead loaded landed old new before list
+    pub run : IsLanded members cache.layout lead loaded landed old new before list
     pub tells : IsToldOf loaded landed told
 
   -- what the caller that opened a load is told: what its loader returned, if it ran here, or an outcome that came by the line

@@ -10,6 +10,7 @@ ghost use Rattle.std.specs.Prelude.{◌≡◌, ◌≤◌, true, IsTrue, IfOk, If
 ghost use Rattle.wt_flights.specs.Outcomes.{IsSameTicket, outcome_answers};
 ghost use Rattle.wt_flights.specs.Published.{Publishes};
 ghost use Rattle.wt_shards.specs.Asked.{LandAnswers};
+ghost use Rattle.wt_shards.specs.Members.{members_of};
 ghost use Rattle.wt_shards.specs.Passes.{SeenMore};
 ghost use Rattle.wt_core.specs.declared.calls.Land.{Land as Landing};
 ghost use Rattle.wt_core.specs.declared.calls.Land.TheVariants as land;
@@ -87,7 +88,7 @@ impl<K: CacheKey, V: Value<K>, L: Loader<K, V> + Drop, B: Books> LoadingCache<K,
     ) -> Result<(), Fault>
         requires room { self.now.layout.config.entries ≤ notices.old.room }
         requires answers { LandAnswers V.answers lead.now.key what }
-        ensures made { IsLandCall K.eq K.word V.weight V.answers self.now.layout lead.now what
+        ensures made { IsLandCall (members_of K.CacheKey V.Value) self.now.layout lead.now what
             pass.old pass.new notices.old notices.new result }
     {
         let moment = lead.moment();
@@ -106,9 +107,9 @@ impl<K: CacheKey, V: Value<K>, L: Loader<K, V> + Drop, B: Books> LoadingCache<K,
     ) -> Result<(), Fault>
         requires room { self.now.layout.config.entries ≤ notices.old.room }
         requires answers { IsTrue (V.answers value.now lead.now.key) }
-        ensures made { (what : Landing V) × LandsAs (Ok value.now) what × IsLandCall K.eq K.word
-            V.weight V.answers self.now.layout lead.now what pass.old pass.new notices.old
-            notices.new result }
+        ensures made { (what : Landing V) × LandsAs (Ok value.now) what
+            × IsLandCall (members_of K.CacheKey V.Value) self.now.layout lead.now what pass.old
+            pass.new notices.old notices.new result }
     {
         let Ok(kept) = value.share() else {
             return self.land(rt, pass, lead, Land::Loose, notices);
@@ -129,7 +130,7 @@ impl<K: CacheKey, V: Value<K>, L: Loader<K, V> + Drop, B: Books> LoadingCache<K,
         notices: &mut Notices<K, V>,
     ) -> Ran<K, V>
         requires room { self.now.layout.config.entries ≤ notices.old.room }
-        ensures made { IsRun K.eq K.word V.weight V.answers self.now.layout lead pass.old pass.new
+        ensures made { IsRun (members_of K.CacheKey V.Value) self.now.layout lead pass.old pass.new
             notices.old notices.new result }
         ensures few { HasLanded 1 pass.old.counted pass.new.counted }
         ensures more { SeenMore pass.old pass.new }
@@ -173,7 +174,7 @@ impl<K: CacheKey, V: Value<K>, L: Loader<K, V> + Drop, B: Books> LoadingCache<K,
         notices: &mut Notices<K, V>,
     ) -> Result<(), Fault>
         requires room { self.now.layout.config.entries ≤ notices.old.room }
-        ensures made { IsLandCall K.eq K.word V.weight V.answers self.now.layout lead land.Failed
+        ensures made { IsLandCall (members_of K.CacheKey V.Value) self.now.layout lead land.Failed
             pass.old pass.new notices.old notices.new result }
     {
         let landed = self.land(rt, pass, &lead, Land::Failed, notices);

@@ -9,7 +9,7 @@ use Rattle.wt_shards.specs.Passes.{Seen}
 use Rattle.wt_shards.specs.Place.{home_at}
 use Rattle.wt_shards.specs.declared.done.Done.{Done}
 use Rattle.wt_cache.specs.Cached.{Cached}
-use Rattle.wt_replay.specs.Turns.{HasActed, HasDone, HasMade, HasSwept, weight_of, answers_for}
+use Rattle.wt_replay.specs.Turns.{HasActed, HasDone, HasMade, HasSwept, members}
 use Rattle.wt_trace.specs.Keys.{Keys}
 use Rattle.wt_trace.specs.declared.trace.line.Act.{Act}
 use Rattle.wt_trace.specs.declared.trace.line.Line.{Line}
@@ -24,8 +24,7 @@ module _ {K : Type 0} (keys : Keys K) (o : Options) (c : Cached) (old new : Seen
   -- a call that was made
   pub made_of : {R : Type 0} (k : K) (call : Call K (Version K)) (said : R → Reply (Version K))
       (before after : NoticeList K (Version K)) (done : Done R)
-      → IsHomeCall keys.eq keys.word (weight_of keys) (answers_for keys)
-      (home_at keys.word k c.layout) call said old new before after (Ok done)
+      → IsHomeCall (members keys) (home_at keys.word k c.layout) call said old new before after (Ok done)
       → HasMade keys o c old new k call
   made_of k call said before after done made =
       record {
@@ -40,7 +39,7 @@ module _ {K : Type 0} (keys : Keys K) (o : Options) (c : Cached) (old new : Seen
 
   -- a sweep, if it was made
   pub swept : (call : Call K (Version K)) (before after : NoticeList K (Version K)) (r : Result (Unit {0}) Fault)
-      → IsSweepCall keys.eq keys.word (weight_of keys) (answers_for keys) c.layout call old new before after r
+      → IsSweepCall (members keys) c.layout call old new before after r
       → OnOk r (HasSwept keys o c old new call)
   swept call before after (Ok x) made = record { before = before; after = after; steps = made.steps; moved = made.moved }
   swept call before after (Err f) made = tt

@@ -9,6 +9,7 @@ use Rattle.wt_core.specs.declared.calls.Call.TheVariants as call
 use Rattle.wt_core.specs.declared.calls.Reply.{Reply}
 use Rattle.wt_shards.specs.Counts.{is_hit}
 use Rattle.wt_shards.specs.History.{IsMade}
+use Rattle.wt_shards.specs.Members.{Members, members_by}
 use Rattle.wt_shards.specs.Passes.{Seen, SeenAt, front_at, new_pass, with_step, with_steps}
 use Rattle.wt_shards.specs.Place.{Place, home_of, home_at}
 use Rattle.wt_shards.specs.Sweeps.{AreSwept}
@@ -52,6 +53,10 @@ module _ {K : Type 0} (keys : Keys K) where
   abbrev pub answers_for : Version K → K → Bool
   answers_for v k = keys.eq v.key k
 
+  -- what a cache asks of the keys of a trace and of their values
+  abbrev pub members : Members K (Version K)
+  members = members_by keys.eq keys.word weight_of answers_for
+
   module _ (o : Options) (c : Cached) (old new : Seen K (Version K)) where
     -- the number of a key's shard
     abbrev pub home : K → ℕ
@@ -67,7 +72,7 @@ module _ {K : Type 0} (keys : Keys K) where
       pub number : ℕ
       pub before : NoticeList K (Version K)
       pub after : NoticeList K (Version K)
-      pub step : IsMade keys.eq keys.word weight_of answers_for (place k) call reply number (front_at (home k) old) (front_at (home k) new) before after
+      pub step : IsMade members (place k) call reply number (front_at (home k) old) (front_at (home k) new) before after
       pub moved : new.counted ≡ with_step (home k) (is_hit reply) old.counted
       pub elsewhere : SeenAt (home k) old new
 
@@ -75,7 +80,7 @@ module _ {K : Type 0} (keys : Keys K) where
     pub record HasSwept (call : Call K (Version K)) : Type 0 where
       pub before : NoticeList K (Version K)
       pub after : NoticeList K (Version K)
-      pub steps : AreSwept keys.eq keys.word weight_of answers_for c.layout call c.layout.shards old new before after
+      pub steps : AreSwept members c.layout call c.layout.shards old new before after
       pub moved : new.counted ≡ with_steps c.layout.shards old.counted
 
     -- a get gave a value
@@ -83,7 +88,7 @@ module _ {K : Type 0} (keys : Keys K) where
       pub got : Got (Version K)
       pub before : NoticeList K (Version K)
       pub after : NoticeList K (Version K)
-      pub sought : IsSought keys.eq keys.word weight_of answers_for k now c old new before after got
+      pub sought : IsSought members k now c old new before after got
       pub moved : HasGotIn keys.word k c old.counted new.counted got
 
     -- a get ended by a fault that is passed over
@@ -92,7 +97,7 @@ module _ {K : Type 0} (keys : Keys K) where
       pub passed_over : is_passed_over fault ≡ true
       pub before : NoticeList K (Version K)
       pub after : NoticeList K (Version K)
-      pub tried : HasTriedIn keys.eq keys.word weight_of answers_for k now c old new before after fault
+      pub tried : HasTriedIn members k now c old new before after fault
 
     -- a value is stored, unless it is too heavy
     abbrev pub HasPut : K → Version K → ℕ → Type 0

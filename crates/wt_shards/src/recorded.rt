@@ -9,6 +9,7 @@ ghost use Rattle.wt_core.specs.declared.calls.Call.TheVariants as call;
 ghost use Rattle.wt_shards.specs.Asked.{AnswersAsked, MayAsk, ReplyAnswers, is_seek};
 ghost use Rattle.wt_shards.specs.Contract.{IsLockedCall};
 ghost use Rattle.wt_shards.specs.History.{state_after};
+ghost use Rattle.wt_shards.specs.Members.{members_by};
 ghost use Rattle.wt_shards.specs.Outer.{IsOfKey};
 ghost use Rattle.wt_shards.specs.Passes.{new_mine};
 ghost use Rattle.wt_shards.specs.Sought.{reply_of};
@@ -74,8 +75,8 @@ impl<K: CacheKey, V: Share + Weighs + Answers<K>, S: ShardLedger, H: Ledger> Rec
     ) -> Result<Done<Reply<V>>, Fault>
         requires asked { MayAsk V.answers K.word S.ShardLedger.place call notices.old }
         requires plain { is_seek call ≡ false }
-        ensures made { IsLockedCall K.eq K.word V.weight V.answers S.ShardLedger.place call
-            (λ reply. reply) mine.old mine.new notices.old notices.new result }
+        ensures made { IsLockedCall (members_by K.eq K.word V.weight V.answers) S.ShardLedger.place
+            call (λ reply. reply) mine.old mine.new notices.old notices.new result }
         ensures answers { IfOk result (λ done. AnswersAsked V.answers call done.reply) }
     {
         let step = self.shard.steps();
@@ -107,7 +108,7 @@ impl<K: CacheKey, V: Share + Weighs + Answers<K>, S: ShardLedger, H: Ledger> Rec
     ) -> Result<Done<Sought<K, V>>, Fault>
         requires asked { MayAsk V.answers K.word S.ShardLedger.place
             (call.Seek key now) notices.old }
-        ensures made { IsLockedCall K.eq K.word V.weight V.answers S.ShardLedger.place
+        ensures made { IsLockedCall (members_by K.eq K.word V.weight V.answers) S.ShardLedger.place
             (call.Seek key now) reply_of mine.old mine.new notices.old notices.new result }
         ensures answers { IfOk result (λ done. ReplyAnswers V.answers key (reply_of done.reply)) }
         ensures asked { IfOk result (λ done. IsOfKey key now done.reply) }
@@ -132,7 +133,8 @@ impl<K: CacheKey, V: Share + Weighs + Answers<K>, S: ShardLedger, H: Ledger> Rec
     // Ends the shard and closes its books.
     pub(crate) fn close(self) -> Closed<S, H>
         // What held of the shard at all times.
-        ensures whole { IsHistory K.eq K.word V.weight V.answers S.ShardLedger.place self }
+        ensures whole { IsHistory (members_by K.eq K.word V.weight V.answers) S.ShardLedger.place
+            self }
         ensures total { result
             ≡ total_of (state_after K.eq K.word V.weight S.ShardLedger.place.config self) }
         ensures steps { result.steps ≡ length self }

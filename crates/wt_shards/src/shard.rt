@@ -13,6 +13,7 @@ ghost use Rattle.std.specs.Prelude.{◌≡◌, ◌+◌, ◌<◌, ◌≤◌, ◌=
 ghost use Rattle.wt_keys.specs.declared.fault.Fault.TheVariants as fault;
 ghost use Rattle.wt_core.specs.State.{config_fault, stats_of};
 ghost use Rattle.wt_core.specs.Lawful.{AreSmall};
+ghost use Rattle.wt_shards.specs.Members.{members_by};
 ghost use Rattle.wt_shards.specs.StateAt.{IsStateAt};
 ghost use Rattle.wt_shards.specs.Totals.{total_of};
 ghost use Rattle.wt_shards.specs.Counts.{no_steps, IsBlankOf};
@@ -62,6 +63,7 @@ impl<K: CacheKey, V: Share + Weighs + Answers<K>, S: ShardLedger, H: Ledger> Mod
     for Shard<K, V, S, H> {
     ghost use Rattle.std.specs.Prelude.{◌≡◌, ◌+◌, ◌≤◌, length, vec_capacity};
     ghost use Rattle.wt_shards.specs.Audited.{Audited, IsAudited};
+    ghost use Rattle.wt_shards.specs.Members.{members_by};
 
     ghost Value = { Audited K V };
 
@@ -74,7 +76,7 @@ impl<K: CacheKey, V: Share + Weighs + Answers<K>, S: ShardLedger, H: Ledger> Mod
       given = s.given;
     } };
 
-    ghost invariant = { λ s. IsAudited K.eq K.word V.weight V.answers
+    ghost invariant = { λ s. IsAudited (members_by K.eq K.word V.weight V.answers)
         S.ShardLedger.place.shards S.ShardLedger.place.index (record {
           config = s.config;
           core = s.core;
@@ -175,10 +177,10 @@ impl<K: CacheKey, V: Share + Weighs + Answers<K>, S: ShardLedger, H: Ledger> Sha
     pub fn steps(&self) -> u64
         ensures number { result ≡ self.now.core.step }
         // What holds of the shard at all times.
-        ensures audited { IsAudited K.eq K.word V.weight V.answers
+        ensures audited { IsAudited (members_by K.eq K.word V.weight V.answers)
             S.ShardLedger.place.shards S.ShardLedger.place.index self.now }
-        ensures lawful { IsStateAt K.eq K.word V.weight V.answers
-            S.ShardLedger.place self.now.core }
+        ensures lawful { IsStateAt (members_by K.eq K.word V.weight V.answers) S.ShardLedger.place
+            self.now.core }
     {
         self.core.step()
     }
@@ -196,7 +198,7 @@ impl<K: CacheKey, V: Share + Weighs + Answers<K>, S: ShardLedger, H: Ledger> Sha
     pub fn explain(&self) -> Explained<'_, K>
         ensures shown { (result.lagging ≡ self.now.lagging) × (result.records ≡ self.now.records) }
         // What holds of the shard at all times.
-        ensures audited { IsAudited K.eq K.word V.weight V.answers
+        ensures audited { IsAudited (members_by K.eq K.word V.weight V.answers)
             S.ShardLedger.place.shards S.ShardLedger.place.index self.now }
     {
         Explained {
@@ -209,7 +211,8 @@ impl<K: CacheKey, V: Share + Weighs + Answers<K>, S: ShardLedger, H: Ledger> Sha
     pub(crate) fn close(self) -> Closed<S, H>
         ensures total { result ≡ total_of self.core }
         // What held of the shard at all times.
-        ensures lawful { IsStateAt K.eq K.word V.weight V.answers S.ShardLedger.place self.core }
+        ensures lawful { IsStateAt (members_by K.eq K.word V.weight V.answers) S.ShardLedger.place
+            self.core }
         ensures sound { (result.stats.hits + result.stats.misses ≡ result.stats.lookups)
             × (result.stats.weight ≤ S.ShardLedger.place.config.bound) }
         ensures small { AreSmall result.stats }

@@ -5,6 +5,7 @@ ghost use Rattle.wt_core.specs.declared.calls.Call.TheVariants as call;
 ghost use Rattle.wt_core.specs.declared.calls.Reply.TheVariants as reply;
 ghost use Rattle.wt_shards.specs.Asked.{ReplyAnswers};
 ghost use Rattle.wt_shards.specs.Contract.{IsHomeCall, IsSweepCall};
+ghost use Rattle.wt_shards.specs.Members.{members_of};
 ghost use Rattle.wt_shards.specs.Place.{home_at};
 ghost use Rattle.wt_cache.specs.Cached.{most_entries};
 ghost use Rattle.wt_cache.specs.Contract.{IsPutCall};
@@ -32,9 +33,9 @@ impl<K: CacheKey, V: Value<K>, L: Loader<K, V> + Drop, B: Books> LoadingCache<K,
         notices: &mut Notices<K, V>,
     ) -> Result<Done<Reply<V>>, Fault>
         requires room { self.now.layout.config.entries ≤ notices.old.room }
-        ensures made { IsHomeCall K.eq K.word V.weight V.answers
-            (home_at K.word key self.now.layout) (call.Look key now) (λ reply. reply)
-            pass.old pass.new notices.old notices.new result }
+        ensures made { IsHomeCall (members_of K.CacheKey V.Value)
+            (home_at K.word key self.now.layout) (call.Look key now) (λ reply. reply) pass.old
+            pass.new notices.old notices.new result }
         ensures answers { IfOk result (λ done. ReplyAnswers V.answers key done.reply) }
     {
         self.shards.look(rt, pass, key, now, notices)
@@ -57,7 +58,7 @@ impl<K: CacheKey, V: Value<K>, L: Loader<K, V> + Drop, B: Books> LoadingCache<K,
     ) -> Result<Done<()>, Fault>
         requires answers { IsTrue (V.answers value key) }
         requires room { self.now.layout.config.entries ≤ notices.old.room }
-        ensures made { IsPutCall K.eq K.word V.weight V.answers self.now.layout key value now
+        ensures made { IsPutCall (members_of K.CacheKey V.Value) self.now.layout key value now
             pass.old pass.new notices.old notices.new result }
     {
         self.shards.put(rt, pass, key, value, now, notices)
@@ -77,9 +78,9 @@ impl<K: CacheKey, V: Value<K>, L: Loader<K, V> + Drop, B: Books> LoadingCache<K,
         notices: &mut Notices<K, V>,
     ) -> Result<Done<bool>, Fault>
         requires room { self.now.layout.config.entries ≤ notices.old.room }
-        ensures made { IsHomeCall K.eq K.word V.weight V.answers
-            (home_at K.word key self.now.layout) (call.DropKey key now) reply.Dropped
-            pass.old pass.new notices.old notices.new result }
+        ensures made { IsHomeCall (members_of K.CacheKey V.Value)
+            (home_at K.word key self.now.layout) (call.DropKey key now) reply.Dropped pass.old
+            pass.new notices.old notices.new result }
     {
         self.shards.drop_key(rt, pass, key, now, notices)
     }
@@ -98,9 +99,9 @@ impl<K: CacheKey, V: Value<K>, L: Loader<K, V> + Drop, B: Books> LoadingCache<K,
         notices: &mut Notices<K, V>,
     ) -> Result<Done<bool>, Fault>
         requires room { self.now.layout.config.entries ≤ notices.old.room }
-        ensures made { IsHomeCall K.eq K.word V.weight V.answers
-            (home_at K.word key self.now.layout) (call.Forget key now) reply.Forgot
-            pass.old pass.new notices.old notices.new result }
+        ensures made { IsHomeCall (members_of K.CacheKey V.Value)
+            (home_at K.word key self.now.layout) (call.Forget key now) reply.Forgot pass.old
+            pass.new notices.old notices.new result }
     {
         self.shards.forget(rt, pass, key, now, notices)
     }
@@ -118,7 +119,7 @@ impl<K: CacheKey, V: Value<K>, L: Loader<K, V> + Drop, B: Books> LoadingCache<K,
         notices: &mut Notices<K, V>,
     ) -> Result<(), Fault>
         requires room { most_entries self.now ≤ notices.old.room }
-        ensures made { IsSweepCall K.eq K.word V.weight V.answers self.now.layout (call.Clear now)
+        ensures made { IsSweepCall (members_of K.CacheKey V.Value) self.now.layout (call.Clear now)
             pass.old pass.new notices.old notices.new result }
     {
         self.shards.clear(rt, pass, now, notices)
@@ -138,7 +139,7 @@ impl<K: CacheKey, V: Value<K>, L: Loader<K, V> + Drop, B: Books> LoadingCache<K,
         notices: &mut Notices<K, V>,
     ) -> Result<(), Fault>
         requires room { most_entries self.now ≤ notices.old.room }
-        ensures made { IsSweepCall K.eq K.word V.weight V.answers self.now.layout (call.Clean now)
+        ensures made { IsSweepCall (members_of K.CacheKey V.Value) self.now.layout (call.Clean now)
             pass.old pass.new notices.old notices.new result }
     {
         self.shards.clean(rt, pass, now, notices)

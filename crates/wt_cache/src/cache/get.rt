@@ -14,6 +14,7 @@
 // stays with its caller, and each waits on its own. A caller that ran its own load reads what it
 // published, and doesn't wait. A get holds no lock while it loads or waits.
 ghost use Rattle.std.specs.Prelude.{◌≡◌, ◌*◌, ◌≤◌, true, IsTrue, IfOk, IfErr};
+ghost use Rattle.wt_shards.specs.Members.{members_of};
 ghost use Rattle.wt_shards.specs.Passes.{SeenMore};
 ghost use Rattle.wt_shards.specs.Told.{HasTold};
 ghost use Rattle.wt_cache.specs.Gets.{IsSought, HasTriedIn, is_get_fault};
@@ -62,14 +63,14 @@ impl<K: CacheKey, V: Value<K>, L: Loader<K, V> + Drop, B: Books> LoadingCache<K,
         ensures answers { IfOk result (λ got. IsTrue (V.answers got.value key)) }
         ensures moved { IfOk result (HasGotIn K.word key self.now pass.old.counted pass.new.counted) }
         ensures later { IfOk result (IsLaterIn K.word key self.now pass.old.counted) }
-        ensures sought { IfOk result (IsSought K.eq K.word V.weight V.answers key now self.now
+        ensures sought { IfOk result (IsSought (members_of K.CacheKey V.Value) key now self.now
             pass.old pass.new notices.old notices.new) }
 
         ensures told { HasTold (2 * self.now.layout.config.entries) notices.old notices.new }
         ensures faults { IfErr result (λ fault. is_get_fault fault ≡ true) }
         // Either the seek was refused, for a cause of its own and with nothing done, or it stands.
         // Then this is why it brought nothing.
-        ensures err { IfErr result (HasTriedIn K.eq K.word V.weight V.answers key now self.now
+        ensures err { IfErr result (HasTriedIn (members_of K.CacheKey V.Value) key now self.now
             pass.old pass.new notices.old notices.new) }
     {
         let done = self.shards.seek(rt, pass, key, now, notices)?;
@@ -112,7 +113,7 @@ impl<K: CacheKey, V: Value<K>, L: Loader<K, V> + Drop, B: Books> LoadingCache<K,
         requires room { self.now.layout.config.entries ≤ notices.old.room }
         requires ticket { ticket.key ≡ lead.key }
         ensures answers { IfOk result (λ value. IsTrue (V.answers value lead.key)) }
-        ensures made { IsLoaded K.eq K.word V.weight V.answers self.now lead pass.old pass.new
+        ensures made { IsLoaded (members_of K.CacheKey V.Value) self.now lead pass.old pass.new
             notices.old notices.new result }
     {
         let Some(ran) = self.hand_on(rt, pass, lead, notices) else {
@@ -143,7 +144,7 @@ impl<K: CacheKey, V: Value<K>, L: Loader<K, V> + Drop, B: Books> LoadingCache<K,
         notices: &mut Notices<K, V>,
     ) -> Option<Ran<K, V>>
         requires room { self.now.layout.config.entries ≤ notices.old.room }
-        ensures { IsHandedTo K.eq K.word V.weight V.answers self.now lead pass.old pass.new
+        ensures { IsHandedTo (members_of K.CacheKey V.Value) self.now lead pass.old pass.new
             notices.old notices.new result }
     {
         let Some(line) = &self.line else {

@@ -3,6 +3,7 @@ ghost use Rattle.std.specs.Prelude.{◌≤◌, IsTrue, IfOk};
 ghost use Rattle.wt_core.specs.declared.calls.Call.TheVariants as call;
 ghost use Rattle.wt_core.specs.declared.calls.Reply.TheVariants as reply;
 ghost use Rattle.wt_shards.specs.Asked.{ReplyAnswers};
+ghost use Rattle.wt_shards.specs.Members.{members_of};
 ghost use Rattle.wt_cache.specs.Cached.{most_entries};
 ghost use Rattle.wt_cache.specs.Contract.{IsLentCall, IsLentGet, IsLentPut, IsLentSweep};
 
@@ -29,7 +30,7 @@ impl<'c, K: CacheKey, V: Value<K>, L: Loader<K, V> + Drop, B: Books, R: Wait> Ca
     ///
     /// In use: `uses::callers::get`.
     pub fn get(&mut self, key: K, now: u64) -> Result<Got<V>, Fault>
-        ensures made { IsLentGet K.eq K.word V.weight V.answers key now self.old self.new result }
+        ensures made { IsLentGet (members_of K.CacheKey V.Value) key now self.old self.new result }
     {
         self.left.empty();
         let cache = self.callers.cache();
@@ -43,7 +44,7 @@ impl<'c, K: CacheKey, V: Value<K>, L: Loader<K, V> + Drop, B: Books, R: Wait> Ca
     ///
     /// In use: `uses::callers::get_if_present`.
     pub fn get_if_present(&mut self, key: K, now: u64) -> Result<Done<Reply<V>>, Fault>
-        ensures made { IsLentCall K.eq K.word V.weight V.answers key (call.Look key now)
+        ensures made { IsLentCall (members_of K.CacheKey V.Value) key (call.Look key now)
             (λ reply. reply) self.old self.new result }
         ensures answers { IfOk result (λ done. ReplyAnswers V.answers key done.reply) }
     {
@@ -60,7 +61,7 @@ impl<'c, K: CacheKey, V: Value<K>, L: Loader<K, V> + Drop, B: Books, R: Wait> Ca
     /// In use: `uses::callers::put`.
     pub fn put(&mut self, key: K, value: V, now: u64) -> Result<Done<()>, Fault>
         requires answers { IsTrue (V.answers value key) }
-        ensures made { IsLentPut K.eq K.word V.weight V.answers key value now self.old self.new
+        ensures made { IsLentPut (members_of K.CacheKey V.Value) key value now self.old self.new
             result }
     {
         self.left.empty();
@@ -75,7 +76,7 @@ impl<'c, K: CacheKey, V: Value<K>, L: Loader<K, V> + Drop, B: Books, R: Wait> Ca
     ///
     /// In use: `uses::callers::invalidate`.
     pub fn invalidate(&mut self, key: K, now: u64) -> Result<Done<bool>, Fault>
-        ensures made { IsLentCall K.eq K.word V.weight V.answers key (call.DropKey key now)
+        ensures made { IsLentCall (members_of K.CacheKey V.Value) key (call.DropKey key now)
             reply.Dropped self.old self.new result }
     {
         self.left.empty();
@@ -90,7 +91,7 @@ impl<'c, K: CacheKey, V: Value<K>, L: Loader<K, V> + Drop, B: Books, R: Wait> Ca
     ///
     /// In use: `uses::callers::forget`.
     pub fn forget(&mut self, key: K, now: u64) -> Result<Done<bool>, Fault>
-        ensures made { IsLentCall K.eq K.word V.weight V.answers key (call.Forget key now)
+        ensures made { IsLentCall (members_of K.CacheKey V.Value) key (call.Forget key now)
             reply.Forgot self.old self.new result }
     {
         self.left.empty();
@@ -107,8 +108,8 @@ impl<'c, K: CacheKey, V: Value<K>, L: Loader<K, V> + Drop, B: Books, R: Wait> Ca
     /// In use: `uses::callers::invalidate_all`.
     pub fn invalidate_all(&mut self, now: u64, notices: &mut Notices<K, V>) -> Result<(), Fault>
         requires room { most_entries self.old.cache ≤ notices.old.room }
-        ensures made { IsLentSweep K.eq K.word V.weight V.answers (call.Clear now) self.old self.new
-            notices.old notices.new result }
+        ensures made { IsLentSweep (members_of K.CacheKey V.Value) (call.Clear now) self.old
+            self.new notices.old notices.new result }
     {
         let cache = self.callers.cache();
         cache.invalidate_all(self.rt, &mut self.pass, now, notices)
@@ -122,8 +123,8 @@ impl<'c, K: CacheKey, V: Value<K>, L: Loader<K, V> + Drop, B: Books, R: Wait> Ca
     /// In use: `uses::callers::clean_up`.
     pub fn clean_up(&mut self, now: u64, notices: &mut Notices<K, V>) -> Result<(), Fault>
         requires room { most_entries self.old.cache ≤ notices.old.room }
-        ensures made { IsLentSweep K.eq K.word V.weight V.answers (call.Clean now) self.old self.new
-            notices.old notices.new result }
+        ensures made { IsLentSweep (members_of K.CacheKey V.Value) (call.Clean now) self.old
+            self.new notices.old notices.new result }
     {
         let cache = self.callers.cache();
         cache.clean_up(self.rt, &mut self.pass, now, notices)

@@ -6,7 +6,8 @@ ghost use Rattle.wt_core.specs.Landings.{IsEmpty, IsEmptyLanding, IsLanding};
 ghost use Rattle.wt_flights.specs.Rows.{row_of};
 ghost use Rattle.wt_shards.specs.Asked.{AnswersAsked, MayAsk, ReplyAnswers, is_seek};
 ghost use Rattle.wt_shards.specs.Audited.{excess};
-ghost use Rattle.wt_shards.specs.Contract.{IsShardCall};
+ghost use Rattle.wt_shards.specs.Contract.{IsShardCall, owned};
+ghost use Rattle.wt_shards.specs.Members.{members_by};
 
 use crate::shard::Shard;
 use crate::shard_ledger::ShardLedger;
@@ -26,9 +27,9 @@ impl<K: CacheKey, V: Share + Weighs + Answers<K>, S: ShardLedger, H: Ledger> Sha
     ) -> Result<Reply<V>, Fault>
         requires asked { MayAsk V.answers K.word S.ShardLedger.place call notices.old }
         requires plain { is_seek call ≡ false }
-        ensures made { IsShardCall V.Share.is_copied K.eq K.word V.weight
-            S.ShardLedger.place.config.entries call (λ reply. reply) (λ _. []) self.old self.new
-            mine.old mine.new notices.old notices.new result }
+        ensures made { IsShardCall (members_by K.eq K.word V.weight V.answers) V.Share.is_copied
+            S.ShardLedger.place.config.entries call (λ reply. reply) (λ _. [])
+            (owned self.old mine.old notices.old) (owned self.new mine.new notices.new) result }
         ensures answers { IfOk result (AnswersAsked V.answers call) }
         // A landing of an open load has its place.
         ensures place { IsLanding K.eq self.old.core call
@@ -53,9 +54,9 @@ impl<K: CacheKey, V: Share + Weighs + Answers<K>, S: ShardLedger, H: Ledger> Sha
     ) -> Result<Reply<V>, Fault>
         requires asked { MayAsk V.answers K.word S.ShardLedger.place
             (call.Look key now) notices.old }
-        ensures made { IsShardCall V.Share.is_copied K.eq K.word V.weight
+        ensures made { IsShardCall (members_by K.eq K.word V.weight V.answers) V.Share.is_copied
             S.ShardLedger.place.config.entries (call.Look key now) (λ reply. reply) (λ _. [])
-            self.old self.new mine.old mine.new notices.old notices.new result }
+            (owned self.old mine.old notices.old) (owned self.new mine.new notices.new) result }
         ensures answers { IfOk result (λ reply. ReplyAnswers V.answers key reply) }
     {
         self.step(mine, Call::Look(key, now), notices)
@@ -79,9 +80,10 @@ impl<K: CacheKey, V: Share + Weighs + Answers<K>, S: ShardLedger, H: Ledger> Sha
     ) -> Result<Reply<V>, Fault>
         requires asked { MayAsk V.answers K.word S.ShardLedger.place
             (call.Land id key what now) notices.old }
-        ensures made { IsShardCall V.Share.is_copied K.eq K.word V.weight
+        ensures made { IsShardCall (members_by K.eq K.word V.weight V.answers) V.Share.is_copied
             S.ShardLedger.place.config.entries (call.Land id key what now) (λ reply. reply)
-            (λ _. []) self.old self.new mine.old mine.new notices.old notices.new result }
+            (λ _. []) (owned self.old mine.old notices.old) (owned self.new mine.new notices.new)
+            result }
         // An open load drops no record.
         ensures place { IsTrue (is_some (row_of K.eq key id self.old.core.flights))
             → excess K.eq K.word V.weight (call.Land id key what now) self.old ≡ 0 }
@@ -106,9 +108,10 @@ impl<K: CacheKey, V: Share + Weighs + Answers<K>, S: ShardLedger, H: Ledger> Sha
     ) -> Result<(), Fault>
         requires asked { MayAsk V.answers K.word S.ShardLedger.place
             (call.Put key value now) notices.old }
-        ensures made { IsShardCall V.Share.is_copied K.eq K.word V.weight
+        ensures made { IsShardCall (members_by K.eq K.word V.weight V.answers) V.Share.is_copied
             S.ShardLedger.place.config.entries (call.Put key value now) (λ _. reply.Stored)
-            (λ _. []) self.old self.new mine.old mine.new notices.old notices.new result }
+            (λ _. []) (owned self.old mine.old notices.old) (owned self.new mine.new notices.new)
+            result }
     {
         self.step(mine, Call::Put(key, value, now), notices)?;
         Ok(())
@@ -129,9 +132,9 @@ impl<K: CacheKey, V: Share + Weighs + Answers<K>, S: ShardLedger, H: Ledger> Sha
     ) -> Result<bool, Fault>
         requires asked { MayAsk V.answers K.word S.ShardLedger.place
             (call.DropKey key now) notices.old }
-        ensures made { IsShardCall V.Share.is_copied K.eq K.word V.weight
+        ensures made { IsShardCall (members_by K.eq K.word V.weight V.answers) V.Share.is_copied
             S.ShardLedger.place.config.entries (call.DropKey key now) reply.Dropped (λ _. [])
-            self.old self.new mine.old mine.new notices.old notices.new result }
+            (owned self.old mine.old notices.old) (owned self.new mine.new notices.new) result }
     {
         match self.step(mine, Call::DropKey(key, now), notices)? {
             Reply::Dropped(left) => Ok(left),
@@ -150,9 +153,9 @@ impl<K: CacheKey, V: Share + Weighs + Answers<K>, S: ShardLedger, H: Ledger> Sha
         notices: &mut Notices<K, V>,
     ) -> Result<(), Fault>
         requires room { S.ShardLedger.place.config.entries ≤ notices.old.room }
-        ensures made { IsShardCall V.Share.is_copied K.eq K.word V.weight
+        ensures made { IsShardCall (members_by K.eq K.word V.weight V.answers) V.Share.is_copied
             S.ShardLedger.place.config.entries (call.Clear now) (λ _. reply.Cleared) (λ _. [])
-            self.old self.new mine.old mine.new notices.old notices.new result }
+            (owned self.old mine.old notices.old) (owned self.new mine.new notices.new) result }
     {
         self.step(mine, Call::Clear(now), notices)?;
         Ok(())
@@ -173,9 +176,9 @@ impl<K: CacheKey, V: Share + Weighs + Answers<K>, S: ShardLedger, H: Ledger> Sha
     ) -> Result<bool, Fault>
         requires asked { MayAsk V.answers K.word S.ShardLedger.place
             (call.Forget key now) notices.old }
-        ensures made { IsShardCall V.Share.is_copied K.eq K.word V.weight
-            S.ShardLedger.place.config.entries (call.Forget key now) reply.Forgot (λ _. []) self.old
-            self.new mine.old mine.new notices.old notices.new result }
+        ensures made { IsShardCall (members_by K.eq K.word V.weight V.answers) V.Share.is_copied
+            S.ShardLedger.place.config.entries (call.Forget key now) reply.Forgot (λ _. [])
+            (owned self.old mine.old notices.old) (owned self.new mine.new notices.new) result }
     {
         match self.step(mine, Call::Forget(key, now), notices)? {
             Reply::Forgot(was) => Ok(was),
@@ -194,9 +197,9 @@ impl<K: CacheKey, V: Share + Weighs + Answers<K>, S: ShardLedger, H: Ledger> Sha
         notices: &mut Notices<K, V>,
     ) -> Result<(), Fault>
         requires room { S.ShardLedger.place.config.entries ≤ notices.old.room }
-        ensures made { IsShardCall V.Share.is_copied K.eq K.word V.weight
+        ensures made { IsShardCall (members_by K.eq K.word V.weight V.answers) V.Share.is_copied
             S.ShardLedger.place.config.entries (call.Clean now) (λ _. reply.Cleaned) (λ _. [])
-            self.old self.new mine.old mine.new notices.old notices.new result }
+            (owned self.old mine.old notices.old) (owned self.new mine.new notices.new) result }
     {
         self.step(mine, Call::Clean(now), notices)?;
         Ok(())

@@ -2,7 +2,8 @@
 ghost use Rattle.std.specs.Prelude.{IfOk};
 ghost use Rattle.wt_core.specs.declared.calls.Call.TheVariants as call;
 ghost use Rattle.wt_shards.specs.Asked.{MayAsk, ReplyAnswers};
-ghost use Rattle.wt_shards.specs.Contract.{IsShardCall};
+ghost use Rattle.wt_shards.specs.Contract.{IsShardCall, owned};
+ghost use Rattle.wt_shards.specs.Members.{members_by};
 ghost use Rattle.wt_shards.specs.Sought.{reply_of};
 
 use crate::kept::{Kept, find_kept};
@@ -37,9 +38,9 @@ impl<K: CacheKey, V: Share + Weighs + Answers<K>, S: ShardLedger, H: Ledger> Sha
     ) -> Result<Sought<K, V>, Fault>
         requires asked { MayAsk V.answers K.word S.ShardLedger.place
             (call.Seek key now) notices.old }
-        ensures made { IsShardCall V.Share.is_copied K.eq K.word V.weight
-            S.ShardLedger.place.config.entries (call.Seek key now) reply_of opened_by self.old
-            self.new mine.old mine.new notices.old notices.new result }
+        ensures made { IsShardCall (members_by K.eq K.word V.weight V.answers) V.Share.is_copied
+            S.ShardLedger.place.config.entries (call.Seek key now) reply_of opened_by
+            (owned self.old mine.old notices.old) (owned self.new mine.new notices.new) result }
         ensures landings { IfOk result (IsOfLandings key now self.new.landings) }
         ensures answers { IfOk result (λ sought. ReplyAnswers V.answers key (reply_of sought)) }
     {

@@ -5,6 +5,7 @@ ghost use Rattle.wt_keys.specs.declared.fault.Fault.TheVariants as fault;
 ghost use Rattle.wt_regions.specs.Notices.{appended};
 ghost use Rattle.wt_core.specs.declared.calls.Call.TheVariants as call;
 ghost use Rattle.wt_shards.specs.Counts.{counted, is_hit};
+ghost use Rattle.wt_shards.specs.Members.{members_by};
 ghost use Rattle.wt_shards.specs.Told.{HasTold};
 ghost use Rattle.wt_core.specs.Faults.{is_fault_of};
 
@@ -38,7 +39,7 @@ impl<K: CacheKey, V: Share + Weighs + Answers<K>, S: ShardLedger, H: Ledger> Sha
         requires asked { MayAsk V.answers K.word S.ShardLedger.place call notices.old }
         // Where each open load has one landing, each has one after the call.
         requires landed { refusal_of K.eq K.word V.weight self.old.core call ≡ None
-            → IsAudited K.eq K.word V.weight V.answers
+            → IsAudited (members_by K.eq K.word V.weight V.answers)
             S.ShardLedger.place.shards S.ShardLedger.place.index self.old
             → map load_at (still_open K.eq call self.old.landings ++ option_to_list opened)
             ≡ map load_of (step K.eq K.word V.weight self.old.core call).state.flights.rows }
@@ -93,7 +94,7 @@ impl<K: CacheKey, V: Share + Weighs + Answers<K>, S: ShardLedger, H: Ledger> Sha
         requires rows { rows
             ≡ length (step K.eq K.word V.weight self.old.core call).state.flights.rows }
         // Where each open load has one landing, each has one after the call.
-        requires landed { IsAudited K.eq K.word V.weight V.answers
+        requires landed { IsAudited (members_by K.eq K.word V.weight V.answers)
             S.ShardLedger.place.shards S.ShardLedger.place.index self.old
             → map load_at (still_open K.eq call self.old.landings ++ option_to_list opened)
             ≡ map load_of (step K.eq K.word V.weight self.old.core call).state.flights.rows }

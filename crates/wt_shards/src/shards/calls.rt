@@ -7,6 +7,7 @@ ghost use Rattle.wt_core.specs.declared.calls.Call.TheVariants as call;
 ghost use Rattle.wt_core.specs.declared.calls.Reply.TheVariants as reply;
 ghost use Rattle.wt_shards.specs.Asked.{AnswersAsked, LandAnswers, MayAsk, ReplyAnswers, is_seek};
 ghost use Rattle.wt_shards.specs.Contract.{IsHomeCall, IsLockedCall, IsSweepCall};
+ghost use Rattle.wt_shards.specs.Members.{members_of};
 ghost use Rattle.wt_shards.specs.Outer.{IsOfKey};
 ghost use Rattle.wt_shards.specs.Place.{home_at, place_of};
 ghost use Rattle.wt_shards.specs.Sought.{reply_of};
@@ -40,7 +41,7 @@ fn step_at<K: CacheKey, V: Value<K>, S: ShardLedger, H: Ledger, R: Wait>(
 ) -> Result<Done<Reply<V>>, Fault>
     requires asked { MayAsk V.answers K.word S.ShardLedger.place call notices.old }
     requires plain { is_seek call ≡ false }
-    ensures made { IsLockedCall K.eq K.word V.weight V.answers S.ShardLedger.place call
+    ensures made { IsLockedCall (members_of K.CacheKey V.Value) S.ShardLedger.place call
         (λ reply. reply) mine.old mine.new notices.old notices.new result }
     ensures answers { IfOk result (λ done. AnswersAsked V.answers call done.reply) }
 {
@@ -58,7 +59,7 @@ fn seek_at<K: CacheKey, V: Value<K>, S: ShardLedger, H: Ledger, R: Wait>(
     notices: &mut Notices<K, V>,
 ) -> Result<Done<Sought<K, V>>, Fault>
     requires asked { MayAsk V.answers K.word S.ShardLedger.place (call.Seek key now) notices.old }
-    ensures made { IsLockedCall K.eq K.word V.weight V.answers S.ShardLedger.place
+    ensures made { IsLockedCall (members_of K.CacheKey V.Value) S.ShardLedger.place
         (call.Seek key now) reply_of mine.old mine.new notices.old notices.new result }
     ensures answers { IfOk result (λ done. ReplyAnswers V.answers key (reply_of done.reply)) }
     ensures asked { IfOk result (λ done. IsOfKey key now done.reply) }
@@ -80,7 +81,7 @@ impl<K: CacheKey, V: Value<K>, B: Books> Shards<K, V, B> {
         requires within { home < self.now.shards }
         requires asked { MayAsk V.answers K.word (place_of home self.now) call notices.old }
         requires plain { is_seek call ≡ false }
-        ensures made { IsHomeCall K.eq K.word V.weight V.answers (place_of home self.now) call
+        ensures made { IsHomeCall (members_of K.CacheKey V.Value) (place_of home self.now) call
             (λ reply. reply) pass.old pass.new notices.old notices.new result }
         ensures answers { IfOk result (λ done. AnswersAsked V.answers call done.reply) }
     {
@@ -109,9 +110,8 @@ impl<K: CacheKey, V: Value<K>, B: Books> Shards<K, V, B> {
         notices: &mut Notices<K, V>,
     ) -> Result<Done<Reply<V>>, Fault>
         requires room { self.now.config.entries ≤ notices.old.room }
-        ensures made { IsHomeCall K.eq K.word V.weight V.answers (home_at K.word key self.now)
-            (call.Look key now)
-            (λ reply. reply) pass.old pass.new notices.old notices.new result }
+        ensures made { IsHomeCall (members_of K.CacheKey V.Value) (home_at K.word key self.now)
+            (call.Look key now) (λ reply. reply) pass.old pass.new notices.old notices.new result }
         ensures answers { IfOk result (λ done. ReplyAnswers V.answers key done.reply) }
     {
         let home = shard_of(key.word(), self.shards);
@@ -135,9 +135,8 @@ impl<K: CacheKey, V: Value<K>, B: Books> Shards<K, V, B> {
         notices: &mut Notices<K, V>,
     ) -> Result<Done<Sought<K, V>>, Fault>
         requires room { self.now.config.entries ≤ notices.old.room }
-        ensures made { IsHomeCall K.eq K.word V.weight V.answers (home_at K.word key self.now)
-            (call.Seek key now)
-            reply_of pass.old pass.new notices.old notices.new result }
+        ensures made { IsHomeCall (members_of K.CacheKey V.Value) (home_at K.word key self.now)
+            (call.Seek key now) reply_of pass.old pass.new notices.old notices.new result }
         ensures answers { IfOk result (λ done. ReplyAnswers V.answers key (reply_of done.reply)) }
         ensures asked { IfOk result (λ done. IsOfKey key now done.reply) }
     {
@@ -169,10 +168,9 @@ impl<K: CacheKey, V: Value<K>, B: Books> Shards<K, V, B> {
     ) -> Result<Done<Reply<V>>, Fault>
         requires answers { LandAnswers V.answers lead.now.key what }
         requires room { self.now.config.entries ≤ notices.old.room }
-        ensures made { IsHomeCall K.eq K.word V.weight V.answers
-            (home_at K.word lead.now.key self.now)
-            (call.Land lead.now.id lead.now.key what now) (λ reply. reply) pass.old pass.new
-            notices.old notices.new result }
+        ensures made { IsHomeCall (members_of K.CacheKey V.Value)
+            (home_at K.word lead.now.key self.now) (call.Land lead.now.id lead.now.key what now)
+            (λ reply. reply) pass.old pass.new notices.old notices.new result }
     {
         let key = lead.key();
         let home = shard_of(key.word(), self.shards);
@@ -203,7 +201,7 @@ impl<K: CacheKey, V: Value<K>, B: Books> Shards<K, V, B> {
     ) -> Result<Done<()>, Fault>
         requires answers { IsTrue (V.answers value key) }
         requires room { self.now.config.entries ≤ notices.old.room }
-        ensures made { IsHomeCall K.eq K.word V.weight V.answers (home_at K.word key self.now)
+        ensures made { IsHomeCall (members_of K.CacheKey V.Value) (home_at K.word key self.now)
             (call.Put key value now) (λ _. reply.Stored) pass.old pass.new notices.old notices.new
             result }
         ensures heavy { self.now.config.bound < V.weight value
@@ -235,9 +233,8 @@ impl<K: CacheKey, V: Value<K>, B: Books> Shards<K, V, B> {
         notices: &mut Notices<K, V>,
     ) -> Result<Done<bool>, Fault>
         requires room { self.now.config.entries ≤ notices.old.room }
-        ensures made { IsHomeCall K.eq K.word V.weight V.answers (home_at K.word key self.now)
-            (call.DropKey key now)
-            reply.Dropped pass.old pass.new notices.old notices.new result }
+        ensures made { IsHomeCall (members_of K.CacheKey V.Value) (home_at K.word key self.now)
+            (call.DropKey key now) reply.Dropped pass.old pass.new notices.old notices.new result }
     {
         let home = shard_of(key.word(), self.shards);
         let done = self.step(rt, pass, home, Call::DropKey(key, now), notices)?;
@@ -265,8 +262,8 @@ impl<K: CacheKey, V: Value<K>, B: Books> Shards<K, V, B> {
         notices: &mut Notices<K, V>,
     ) -> Result<(), Fault>
         requires room { self.now.shards * self.now.config.entries ≤ notices.old.room }
-        ensures made { IsSweepCall K.eq K.word V.weight V.answers self.now (call.Clear now) pass.old
-            pass.new notices.old notices.new result }
+        ensures made { IsSweepCall (members_of K.CacheKey V.Value) self.now (call.Clear now)
+            pass.old pass.new notices.old notices.new result }
     {
         self.sweep(rt, pass, Sweep::Clear, now, notices)
     }
@@ -286,9 +283,8 @@ impl<K: CacheKey, V: Value<K>, B: Books> Shards<K, V, B> {
         notices: &mut Notices<K, V>,
     ) -> Result<Done<bool>, Fault>
         requires room { self.now.config.entries ≤ notices.old.room }
-        ensures made { IsHomeCall K.eq K.word V.weight V.answers (home_at K.word key self.now)
-            (call.Forget key now)
-            reply.Forgot pass.old pass.new notices.old notices.new result }
+        ensures made { IsHomeCall (members_of K.CacheKey V.Value) (home_at K.word key self.now)
+            (call.Forget key now) reply.Forgot pass.old pass.new notices.old notices.new result }
     {
         let home = shard_of(key.word(), self.shards);
         let done = self.step(rt, pass, home, Call::Forget(key, now), notices)?;
@@ -314,8 +310,8 @@ impl<K: CacheKey, V: Value<K>, B: Books> Shards<K, V, B> {
         notices: &mut Notices<K, V>,
     ) -> Result<(), Fault>
         requires room { self.now.shards * self.now.config.entries ≤ notices.old.room }
-        ensures made { IsSweepCall K.eq K.word V.weight V.answers self.now (call.Clean now) pass.old
-            pass.new notices.old notices.new result }
+        ensures made { IsSweepCall (members_of K.CacheKey V.Value) self.now (call.Clean now)
+            pass.old pass.new notices.old notices.new result }
     {
         self.sweep(rt, pass, Sweep::Clean, now, notices)
     }

@@ -1,6 +1,7 @@
 // How the shards end.
 ghost use Rattle.std.specs.Prelude.{◌≡◌, ◌<◌, ◌≤◌, ◌^◌, ◌↔◌, ℕ, sum_by, IfOk, IfErr, OnOk, IfSome, IfNone, IsSome};
 ghost use Rattle.wt_keys.specs.declared.fault.Fault.TheVariants as fault;
+ghost use Rattle.wt_shards.specs.Members.{members_of};
 ghost use Rattle.wt_shards.specs.Place.{place_of};
 ghost use Rattle.wt_shards.specs.Passes.{steps_in, hits_in};
 ghost use Rattle.wt_shards.specs.Totals.{AddUp, IsTotal, IsMissing, AreTotals, AddUpBelow};
@@ -59,12 +60,12 @@ fn settle_at<K: CacheKey, V: Value<K>, S: ShardLedger, H: Ledger, B: Books>(
 ) -> Result<Option<Closed<S, H>>, Fault>
     requires number { IsSome shard → number ≡ S.ShardLedger.place.index }
     ensures there { IfOk result (λ closed. IsSome closed ↔ IsSome shard) }
-    ensures total { IfOk result (λ closed. IfSome closed (λ total.
-        IsTotal K.eq K.word V.weight V.answers S.ShardLedger.place passes.now.items total)) }
+    ensures total { IfOk result (λ closed. IfSome closed (λ total. IsTotal
+        (members_of K.CacheKey V.Value) S.ShardLedger.place passes.now.items total)) }
     ensures sums { OnOk result (IsSome shard
-        → AddUp K.eq K.word V.weight V.answers S.ShardLedger.place passes.now.items) }
+        → AddUp (members_of K.CacheKey V.Value) S.ShardLedger.place passes.now.items) }
     ensures missing { IfErr result (λ f. (f ≡ fault.PassMissing number) × IsSome shard
-        × IsMissing K.eq K.word V.weight V.answers S.ShardLedger.place passes.now.items) }
+        × IsMissing (members_of K.CacheKey V.Value) S.ShardLedger.place passes.now.items) }
 {
     let Some(shard) = shard else {
         return Ok(None);
@@ -98,12 +99,12 @@ impl<K: CacheKey, V: Value<K>, B: Books> Shards<K, V, B> {
         passes: Vec<Pass<K, V, B>>,
     ) -> Result<Totals<B>, Fault>
         ensures shards { IfOk result (λ totals. totals.shards ≡ self.shards) }
-        ensures totals { IfOk result (λ totals.
-            AreTotals K.eq K.word V.weight V.answers self passes.items totals) }
+        ensures totals { IfOk result (λ totals. AreTotals (members_of K.CacheKey V.Value) self
+            passes.items totals) }
         ensures missing { IfErr result (λ f. (least : ℕ) × (least < self.shards)
             × (f ≡ fault.PassMissing least)
-            × IsMissing K.eq K.word V.weight V.answers (place_of least self) passes.items
-            × AddUpBelow K.eq K.word V.weight V.answers self passes.items least) }
+            × IsMissing (members_of K.CacheKey V.Value) (place_of least self) passes.items
+            × AddUpBelow (members_of K.CacheKey V.Value) self passes.items least) }
     {
         let Shards {
             shards,

@@ -1,6 +1,7 @@
 // Steps at every shard, one after the other.
 ghost use Rattle.std.specs.Prelude.{◌*◌, ◌<◌, ◌≤◌};
 ghost use Rattle.wt_shards.specs.Contract.{IsHomeCall, IsSweepCall};
+ghost use Rattle.wt_shards.specs.Members.{members_of};
 ghost use Rattle.wt_shards.specs.Place.{place_of};
 ghost use Rattle.wt_shards.specs.Sweeps.{call_of};
 
@@ -27,7 +28,7 @@ impl<K: CacheKey, V: Value<K>, B: Books> Shards<K, V, B> {
     ) -> Result<Done<Reply<V>>, Fault>
         requires within { home < self.now.shards }
         requires room { self.now.config.entries ≤ notices.old.room }
-        ensures made { IsHomeCall K.eq K.word V.weight V.answers (place_of home self.now)
+        ensures made { IsHomeCall (members_of K.CacheKey V.Value) (place_of home self.now)
             (call_of sweep now) (λ reply. reply) pass.old pass.new notices.old notices.new result }
     {
         match sweep {
@@ -46,7 +47,7 @@ impl<K: CacheKey, V: Value<K>, B: Books> Shards<K, V, B> {
         notices: &mut Notices<K, V>,
     ) -> Result<(), Fault>
         requires room { self.now.shards * self.now.config.entries ≤ notices.old.room }
-        ensures made { IsSweepCall K.eq K.word V.weight V.answers self.now (call_of sweep now)
+        ensures made { IsSweepCall (members_of K.CacheKey V.Value) self.now (call_of sweep now)
             pass.old pass.new notices.old notices.new result }
     {
         for home in 0..self.shards {

@@ -1,6 +1,7 @@
 use Rattle.std.proofs.Common.{List, ap, sym, subst, ◌∙◌}
 use Rattle.wt_core.specs.declared.calls.Call.{Call}
 use Rattle.wt_core.specs.State.{State}
+use Rattle.wt_shards.specs.Members.{members_by}
 use Rattle.wt_shards.specs.StateAt.{IsStateAt}
 use Rattle.wt_shards.specs.Totals.{IsHistory}
 use Rattle.wt_shards.proofs.recorded.Recorded.close.Goals as goal
@@ -14,7 +15,7 @@ returns-clause-whole g c =
     let weight = g.V.Weighs.weight in
     let answers = g.V.Answers.answers in
     let place = g.S.ShardLedger.place in
-    subst (λ (calls : List (Call K V)). IsHistory eq word weight answers place calls) c.self.view_is (record {
-      lawful = subst (λ (s : State K V). IsStateAt eq word weight answers place s) c.self.invariant.0 c.close.ensures.lawful;
+    subst (λ (calls : List (Call K V)). IsHistory (members_by eq word weight answers) place calls) c.self.view_is (record {
+      lawful = subst (λ (s : State K V). IsStateAt (members_by eq word weight answers) place s) c.self.invariant.0 c.close.ensures.lawful;
       counted = ap (λ (s : State K V). s.step) (sym c.self.invariant.0) ∙ c.self.invariant.1;
     })

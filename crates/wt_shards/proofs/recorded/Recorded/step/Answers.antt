@@ -1,10 +1,11 @@
 use Rattle.std.proofs.Common.{rules, ◌≡◌, List, [], ◌∷◌, ◌++◌, length, ap, sym, subst, ◌∙◌, refl}
 use Rattle.wt_core.specs.declared.calls.Call.{Call}
+use Rattle.wt_core.specs.Step.{refusal_of}
 use Rattle.wt_shards.specs.Audited.{Audited}
 use mathlib.Core.List.{IsPrefix}
 use Rattle.wt_shards.specs.History.{state_after}
 use Rattle.wt_shards.specs.Passes.{Mine}
-use Rattle.wt_shards.proofs.Histories.{made-behind, recorded-after}
+use Rattle.wt_shards.proofs.Histories.{cause-of, made-behind, recorded-after, refused-behind}
 use Rattle.wt_shards.proofs.recorded.Recorded.step.Goals as goal
 
 pub invariant_of-self : goal.invariant_of-self
@@ -46,4 +47,27 @@ returns-in-Ok-clause-made g c =
       cause = tt;
       told = made.told;
       err = tt;
+    }
+
+pub returns-in-Err-clause-made : goal.returns-in-Err-clause-made
+returns-in-Err-clause-made g c =
+    let K = g.row.K.Denot in
+    let V = g.row.V.Denot in
+    let call : Call K V = c.args.call in
+    let calls : List (Call K V) = c.self.inside.history in
+    let made = c.in-Err.ensures.made in
+    let before = subst (λ (w : List (Call K V)). IsPrefix w calls) (ap (λ (m : Mine K V). m.front) c.mine.view_is) c.show.ensures.before in
+    record {
+      moved = tt;
+      later = tt;
+      step = tt;
+      faults = made.faults;
+      cause = refused-behind g.K.PartialEq.eq g.K.CacheKey.word g.V.Weighs.weight g.V.Answers.answers
+          g.S.ShardLedger.place call c.self.inside.shard.core calls _ _ c.in-Err.fault c.self.invariant.0
+          c.self.invariant.1 c.steps-step.ensures.lawful
+          before c.show.ensures.seen (cause-of _ _
+          (refusal_of g.K.PartialEq.eq g.K.CacheKey.word g.V.Weighs.weight c.self.inside.shard.core call)
+          c.in-Err.fault made.refusal);
+      told = made.told;
+      err = (made.err.1 ∙ ap (λ (m : Mine K V). m.counts) c.mine.view_is, made.err.2);
     }

@@ -6,6 +6,7 @@ use Rattle.wt_core.specs.declared.calls.Call.{Call}
 use Rattle.wt_core.specs.State.{State, Made}
 use Rattle.wt_core.specs.Lawful.{IsLawful}
 use Rattle.wt_core.specs.Step.{refusal_of, step}
+use Rattle.wt_shards.specs.Members.{members_by}
 use Rattle.wt_shards.specs.declared.shade.Shade.{Shade}
 use Rattle.wt_shards.specs.Asked.{AnswersAsked}
 use Rattle.wt_shards.specs.Audited.{Audited, IsAudited, load_at, load_of, moved, need, places, recorded, still_open}
@@ -31,7 +32,7 @@ make_room-requires-clause-rows g c κs within =
     let index = g.S.ShardLedger.place.index in
     let call = c.args.call in
     let now = c.args.self.now in
-    let whole : IsAudited eq word weight answers shards index now = c.steps-steps.ensures.audited in
+    let whole : IsAudited (members_by eq word weight answers) shards index now = c.steps-steps.ensures.audited in
     let same = (g.met.K.CacheKey g.world.𝓛 g.world.𝓜 g.world.𝓡 ((λ s x. x), (λ x. x), (λ x. x), λ x. x)).same in
     let fit = rows-fit eq same word weight answers shards index now call
     (c.steps_keep_counts.ensures now.core call) whole c.requires.allowed in
@@ -153,7 +154,7 @@ invariant_of-self-2 g c =
     let state = shard_state-step eq same word weight answers shards index s2.core call inv.0.state c.requires.asked.0 law in
     let limit = limit-step eq word weight s2.core call ∙ inv.0.limit in
     let caps = ap (λ (x : State K V). x.regions.caps) (sym made) ∙ c.in-Ok-take.ensures.same in (
-      subst (IsAudited eq word weight answers shards index) (sym whole)
+      subst (IsAudited (members_by eq word weight answers) shards index) (sym whole)
           (audited-recorded eq word weight answers shards index s2 call opened inv.0 allowed2 room state limit
           caps landed),
       ap (λ (x : Buffer (Call K Shade)). x.capacity) c.push_back-dropped.ensures.items ∙ inv.1,
@@ -268,7 +269,7 @@ returns-clause-place g c =
     let index = g.S.ShardLedger.place.index in
     let call = c.args.call in
     let now = c.args.self.now in
-    let whole : IsAudited eq word weight answers shards index now = c.steps-steps.ensures.audited in
+    let whole : IsAudited (members_by eq word weight answers) shards index now = c.steps-steps.ensures.audited in
     λ landing. landing-place eq word weight now.core call (length now.records)
     (places now) landing whole.state.lawful.flights.rising whole.room
 
@@ -282,7 +283,7 @@ returns-in_default-clause-place g c =
     let index = g.S.ShardLedger.place.index in
     let call = c.args.call in
     let now = c.args.self.now in
-    let whole : IsAudited eq word weight answers shards index now = c.steps-steps.ensures.audited in
+    let whole : IsAudited (members_by eq word weight answers) shards index now = c.steps-steps.ensures.audited in
     λ landing. landing-place eq word weight now.core call (length now.records)
     (places now) landing whole.state.lawful.flights.rising whole.room
 
@@ -296,7 +297,7 @@ returns-in_default-take-clause-place g c =
     let index = g.S.ShardLedger.place.index in
     let call = c.args.call in
     let now = c.args.self.now in
-    let whole : IsAudited eq word weight answers shards index now = c.steps-steps.ensures.audited in
+    let whole : IsAudited (members_by eq word weight answers) shards index now = c.steps-steps.ensures.audited in
     λ landing. landing-place eq word weight now.core call (length now.records)
     (places now) landing whole.state.lawful.flights.rising whole.room
 
@@ -310,7 +311,7 @@ returns-in_default-clause-empty_succeeds g c =
     let index = g.S.ShardLedger.place.index in
     let call = c.args.call in
     let now = c.args.self.now in
-    let whole : IsAudited eq word weight answers shards index now = c.steps-steps.ensures.audited in
+    let whole : IsAudited (members_by eq word weight answers) shards index now = c.steps-steps.ensures.audited in
     λ empty.
     let none = landing-place eq word weight now.core call (length now.records) (places now)
     (empty-landing eq word weight now.core call empty) whole.state.lawful.flights.rising whole.room in

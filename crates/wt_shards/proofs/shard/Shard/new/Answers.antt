@@ -4,6 +4,7 @@ use Rattle.wt_regions.specs.Notices.{NoticeList}
 use Rattle.wt_core.specs.declared.calls.Call.{Call}
 use Rattle.wt_core.specs.Lawful.{IsLawful}
 use Rattle.wt_core.specs.State.{State, config_fault}
+use Rattle.wt_shards.specs.Members.{members_by}
 use Rattle.wt_shards.specs.declared.shade.Shade.{Shade}
 use Rattle.wt_shards.specs.Audited.{IsAudited, new_shard}
 use Rattle.wt_shards.proofs.Audits.{audited-new, same_shard}
@@ -47,7 +48,7 @@ invariant_of-result g c =
       given = 0;
     })
     refl core lagging (ap (λ (b : Buffer (Call K Shade)). b.items) ring) c.in-Ok-lists.ensures.1 refl in (
-      subst (IsAudited eq word weight g.V.Answers.answers g.S.ShardLedger.place.shards
+      subst (IsAudited (members_by eq word weight g.V.Answers.answers) g.S.ShardLedger.place.shards
           g.S.ShardLedger.place.index) (sym is)
           (audited-new eq word weight g.V.Answers.answers g.S.ShardLedger.place.shards
           g.S.ShardLedger.place.index config c.in_default.ensures.within.ring_over
