@@ -1,6 +1,6 @@
-//! Two threads put into a cache for many threads, one reads what the other has put, and the passes
-//! show that nothing is missing; then one pass is left out, and that is told. A value is served for
-//! less than 1000 ms.
+//! Two threads put into a cache for many threads, and one reads what the other has put. A value is
+//! served for less than 1000 ms. At the end the passes show that no step is missing; the second time
+//! one pass is left out, and `settle` returns a fault.
 #![tactic(auto)]
 
 mod handing;
