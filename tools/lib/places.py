@@ -22,6 +22,11 @@ def not_built(path=PROGRAM, by="sh tools/replay --build"):
     return "%s isn't built yet; `%s` builds it" % (shown(path), by)
 
 
+def scenarios():
+    """The files of scenarios by their names. Each is a test."""
+    return {path.stem: path for path in (TOP / "scenarios").glob("*.txt")}
+
+
 def markdown_pages():
     return sorted({path for pattern in PAGES for path in TOP.glob(pattern) if not MADE & set(path.relative_to(TOP).parts)})
 

@@ -1,4 +1,4 @@
-"""Models with one mistake each, for `tools/gate/check_program --wrong`: the check has to find every one."""
+"""Models with one mistake each, for `--wrong` of `tools/gate/check_program` and `check_scenarios`: each check has to find every one."""
 import model
 from model.shard import Shard
 from model.sketch import Sketch
@@ -264,9 +264,18 @@ def with_shard(shard_type):
     return lambda options, trace: model.run(options, trace, shard_type)
 
 
+def wrong_shards():
+    return [shard_type for shard_type in Shard.__subclasses__() if shard_type.__module__ == __name__]
+
+
+def of_calls():
+    """Those that a call of the cache shows: all but those of a letter, and of what a trace makes of a key."""
+    return [shard_type for shard_type in wrong_shards() if shard_type not in (NewestLoadIsLanded, WeightOfTheKey, KeyZeroDoesNotFail)]
+
+
 def all_wrong():
     """The name and the run of each."""
-    for shard_type in Shard.__subclasses__():
+    for shard_type in wrong_shards():
         yield shard_type.__name__, with_shard(shard_type)
     yield "WriteForAccess", swapped("write", "access")
     yield "EntriesForWindow", swapped("entries", "window")

@@ -26,6 +26,8 @@ class Played(Shard):
     def __init__(self, s):
         super().__init__(s)
         self.steps, self.given = 0, None
+        # Each load that a seek opened, by its number and key.
+        self.sought = set()
 
     # What the rules of a trace would make of the key, a scenario says.
 
@@ -63,6 +65,7 @@ class Played(Shard):
         words, opened = self.look(moment, key, True)
         if opened is None:
             return words
+        self.sought.add((opened.number, key))
         return words.replace("hit", "hit-lead") + " %d" % opened.number if words else "lead %d" % opened.number
 
     def call_get(self, moment, key, given):
@@ -145,6 +148,9 @@ def told(shards, words, layer):
         return "- no-such-call"
     handed = arguments(words)
     at = [shards[shard_of(handed[0][1], len(shards))]] if handed else shards
+    # Shards land a load by its lead, and a core by any number.
+    if words[1] == "land" and layer == "shards" and handed[1::-1] not in at[0].sought:
+        return "- no-such-call"
     for shard in at:
         shard.left = []
         said = getattr(shard, "call_" + words[1])(int(words[0]), *handed)

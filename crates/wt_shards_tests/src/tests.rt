@@ -6,7 +6,6 @@ mod caller;
 mod compare;
 mod in_turn;
 mod loads;
-mod outer;
 mod plain;
 mod refusals;
 mod ring;

@@ -15,6 +15,6 @@ pub use acts::{Do, call_of, choose};
 pub use dice::Dice;
 pub use fussy::{Fussy, counter};
 pub use gated::{Gate, Gated};
-pub use lists::{Lists, Row, is_past};
+pub use lists::{Lists, Row};
 pub use loaded::{Loaded, light};
 pub use said::{Said, comparable};

@@ -8,7 +8,7 @@ use std::alloc::Global;
 use std::marker::Model;
 use std::process::Abort;
 use std::sync::Wait;
-use wt_core::{Land, Notice, Notices, Reply};
+use wt_core::{Land, Notices, Reply};
 use wt_flights::Lead;
 use wt_keys::Fault;
 use wt_shards::{Books, Pass, Shards, Sought};
@@ -85,11 +85,6 @@ impl<B: Books> Caller<B> {
             Some(lead) => Some((lead.id(), lead.key())),
             None => None,
         }
-    }
-
-    // What the latest step told.
-    pub fn told(&self) -> &[Notice<u64, Loaded>] {
-        self.notices.list()
     }
 
     // The steps and the hits at a shard.
