@@ -102,13 +102,6 @@ def library(given):
     return folder
 
 
-def compile_plain(source, target):
-    """Compiles a program in Rust that does the same as a harness, for the processors that the proved programs are built for."""
-    wants("rustc")
-    subprocess.run(["rustc", "-C", "opt-level=3", "-C", "target-cpu=x86-64-v2", "-o", target, source], check=True)
-    return target
-
-
 def peak_bytes(program, *words):
     """The most memory that a run of the program held."""
     child = os.posix_spawn(program, [program, *words], os.environ, file_actions=[(os.POSIX_SPAWN_OPEN, 1, os.devnull, os.O_WRONLY, 0)])

@@ -58,7 +58,7 @@ type Point struct {
 
 func ExampleOpenHashed() {
 	hash := func(seed maphash.Seed, p Point) uint64 {
-		return maphash.String(seed, p.Map) + uint64(p.X)<<32 + uint64(p.Y)
+		return maphash.String(seed, fmt.Sprint(p.X, p.Y, p.Map))
 	}
 	c, err := rookdresser.OpenHashed[Point, string](rookdresser.Setup{Entries: 1000}, hash)
 	if err != nil {

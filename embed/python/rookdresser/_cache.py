@@ -121,6 +121,8 @@ class Cache(Table[K, V]):
                  timeout: Optional[float] = None) -> Dict[K, V]:
         """Returns the values of the keys that there are, by key. load_many(list of keys) is called once, for all that have none.
 
+        If these are more than may be loading (`flights`), it raises Refused and calls nothing: ask for fewer keys at a time.
+
         A key that load_many leaves out isn't in what is returned, and nothing is stored for it. What load_many raises is raised here,
         and in all who share one of its loads. Loads that others make of these keys are waited for last, each for at most `timeout`
         seconds; if such a load ends by SystemExit or the like, load_many is called once more, for its key.
