@@ -22,9 +22,9 @@ def not_built(path=PROGRAM, by="sh tools/replay --build"):
     return "%s isn't built yet; `%s` builds it" % (shown(path), by)
 
 
-def scenarios():
-    """The files of scenarios by their names. Each is a test."""
-    return {path.stem: path for path in (TOP / "scenarios").glob("*.txt")}
+def tests_outside():
+    """The tests that aren't functions of Rattle, by their names: the scenarios, and the checks of tools/gate."""
+    return {**{path.stem: path for path in (TOP / "scenarios").glob("*.txt")}, **{path.name: path for path in (TOOLS / "gate").glob("check_*")}}
 
 
 def markdown_pages():

@@ -1,7 +1,7 @@
 """The rules of docs/PROMISES.md, and the tables of pages, as the checks and the book read them."""
 import re
 
-from places import TOP, scenarios
+from places import TOP, tests_outside
 
 PAGE = TOP / "docs" / "PROMISES.md"
 LINK = re.compile(r"\[`([^`]+)`\]\(([^)]+)\)((?:,? `[\w.]+`)*)")
@@ -42,7 +42,7 @@ def linked(text):
 
 def tests_by_call(crates, page=PAGE):
     """The tests of the rules, by the crates and calls that these link to."""
-    shown, every = {}, set(scenarios()).union(*(crate.tests for crate in crates.values()))
+    shown, every = {}, set(tests_outside()).union(*(crate.tests for crate in crates.values()))
     for _, _, _, text in rules_in(page):
         found = linked(text)
         tests = [name for name, _, _ in found if name in every]

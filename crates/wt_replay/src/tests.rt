@@ -1,5 +1,5 @@
 // What the program's tests share: options of a few entries.
-mod command_line;
+mod compare;
 mod threads;
 mod turns;
 

@@ -4,7 +4,7 @@ from urllib.parse import quote
 
 from contracts import PROMISE_NOTHING, all_crates
 from labels import labels_in
-from places import CRATES, TOP, scenarios, stands_on
+from places import CRATES, TOP, tests_outside, stands_on
 from rules import PAGE, linked, rules_in, tests_by_call
 from spec_words import Links
 
@@ -32,7 +32,7 @@ class Tree:
         self.labels = {label: meaning for _, label, meaning in labels_in()}
         self.rattle = dict(line.split(": ", 1) for line in RATTLE.read_text().split("\n")
                            if line and not line.startswith("#"))
-        self.tests, self.scenarios = tests_by_call(self.crates), scenarios()
+        self.tests, self.tests_outside = tests_by_call(self.crates), tests_outside()
         self.rules = self.rules_by_call()
         self.symbols = self.unique_symbols()
 
@@ -95,9 +95,9 @@ class Tree:
         return address if line is None else "%s#L%d" % (address, line + 1)
 
     def test(self, name):
-        """The address of a test or a scenario, or None."""
-        if name in self.scenarios:
-            return self.source(self.scenarios[name])
+        """The address of a test, or None."""
+        if name in self.tests_outside:
+            return self.source(self.tests_outside[name])
         for crate in self.crates.values():
             if name in crate.tests:
                 return self.source(crate.calls[name].path, crate.calls[name].line)

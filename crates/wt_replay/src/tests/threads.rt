@@ -1,11 +1,12 @@
 // Replays shard by shard on threads.
+use super::compare::{holds, same};
 use super::of_four;
 use std::alloc::Global;
 use std::sync::atomic::{AtomicU64, Ordering};
 use std::test::*;
 use std::thread;
 use std::thread::Threads;
-use wt_trace::{Gate, Open, Options, ReplayFault, Tallied, replay, replay_by_shard};
+use wt_trace::{Gate, Options, ReplayFault, Tallied, replay_by_shard};
 
 // What is written for an input on `threads` threads, 1 to 64, and how the run ends.
 fn by_shard<H: Threads + Sync + Alloc<A = Global>, G: Gate>(
@@ -21,49 +22,6 @@ fn by_shard<H: Threads + Sync + Alloc<A = Global>, G: Gate>(
     let threads = threads.min(64).max(1);
     let outcome = replay_by_shard(rt, alloc, &mut reader, &mut writer, options, threads, gate);
     (writer.into_inner(), outcome)
-}
-
-// What is written for an input on one thread, and how the run ends.
-fn alone(alloc: Global, input: &[u8], options: &Options) -> (Vec<u8>, Result<(), ReplayFault>) {
-    let mut reader = Tallied::new(input);
-    let mut writer = Tallied::new(Vec::new(alloc));
-    let outcome = replay(alloc, &mut reader, &mut writer, options);
-    (writer.into_inner(), outcome)
-}
-
-#[test]
-fn any_number_of_threads_writes_the_same(rt: HostRuntime) {
-    let rows: [(&[u8], &[u8]); 3] = [
-        (
-            b"0 G 1\n0 G 2\n0 G 3\n0 G 4\n0 G 1\n0 G 5\n0 G 4\n0 G 6\n",
-            b"1 load\n2 load\n3 load\n4 load\n5 hit 1\n6 load\n7 hit 4\n8 load\nlookups 8 hits 2 misses 6 loads 6 failed 0 evicted 0 entries 6 weight 6\n",
-        ),
-        (
-            b"0 P 1\n0 P 2\n0 P 3\n0 P 4\n0 X\n",
-            b"1 put\n2 put\n3 put\n4 put\n5 clear 4:4:explicit 3:3:explicit 2:2:explicit 1:1:explicit\nlookups 0 hits 0 misses 0 loads 0 failed 0 evicted 0 entries 0 weight 0\n",
-        ),
-        (
-            b"wt 2\n0 P foobar\n0 L foobar\n0 L a\n",
-            b"2 put\n3 hit 2\n4 absent\nlookups 2 hits 1 misses 1 loads 0 failed 0 evicted 0 entries 1 weight 1\n",
-        ),
-    ];
-    for (input, report) in rows {
-        let (text, outcome) = alone(rt.alloc(), input, &of_four(4));
-        assert_eq!(rt; text.as_slice(), report);
-        assert_eq!(rt; outcome, Ok(()));
-        for threads in [1, 2, 3, 8, 64] {
-            let (text, outcome) = by_shard(&rt, input, &of_four(4), threads, &Open);
-            assert_eq!(rt; text.as_slice(), report);
-            assert_eq!(rt; outcome, Ok(()));
-        }
-    }
-}
-
-#[test]
-fn a_bad_line_ends_the_report_on_threads_too(rt: HostRuntime) {
-    let (text, outcome) = by_shard(&rt, b"0 P 1\n0 L 1\n0 Q 1\n", &of_four(4), 2, &Open);
-    assert_eq!(rt; text.as_slice(), b"1 put\n2 hit 1\n".as_slice());
-    assert_eq!(rt; outcome, Err(ReplayFault::BadLine { n: 3 }));
 }
 
 // Lets nothing through but the lines before one.
@@ -86,11 +44,16 @@ fn a_shut_gate_is_told_and_nothing_is_written(rt: HostRuntime) {
     // Key 4 is of shard 0, key 3 of shard 1.
     for (threads, gate, n) in [(1, 3, 4), (2, 3, 4), (4, 3, 4), (4, 4, 4)] {
         let (text, outcome) = by_shard(&rt, input, &of_four(4), threads, &Before(gate));
-        assert!(rt; text.is_empty());
-        assert_eq!(rt; outcome, Err(ReplayFault::GateShut { n }));
+        holds(&rt, "nothing is written", text.is_empty());
+        same(
+            &rt,
+            "how the run ends",
+            outcome,
+            Err(ReplayFault::GateShut { n }),
+        );
     }
     let (_, outcome) = by_shard(&rt, input, &of_four(4), 4, &Before(5));
-    assert_eq!(rt; outcome, Ok(()));
+    same(&rt, "how the open run ends", outcome, Ok(()));
 }
 
 // Lets each line below 64 through once, and shuts where a line is asked for again.
@@ -120,9 +83,9 @@ fn a_gate_is_asked_once_for_each_line_and_for_none_behind_the_last(rt: HostRunti
     let input = b"0 P 1\n0 P 2\n0 G 3\n0 D 4\n";
     for threads in [1, 2, 4] {
         let (_, outcome) = by_shard(&rt, input, &of_four(4), threads, &Once::new());
-        assert_eq!(rt; outcome, Ok(()));
+        same(&rt, "no line is asked for twice", outcome, Ok(()));
         let (_, outcome) = by_shard(&rt, input, &of_four(4), threads, &Before(5));
-        assert_eq!(rt; outcome, Ok(()));
+        same(&rt, "no line behind the last", outcome, Ok(()));
     }
 }
 
@@ -168,9 +131,11 @@ impl Gate for Pair {
 #[test]
 fn shards_of_two_threads_run_beside_each_other(rt: HostRuntime) {
     let (text, outcome) = by_shard(&rt, b"0 P 4\n0 P 3\n", &of_four(4), 2, &Pair::new());
-    assert_eq!(rt;
+    same(
+        &rt,
+        "the report",
         text.as_slice(),
-        b"1 put\n2 put\nlookups 0 hits 0 misses 0 loads 0 failed 0 evicted 0 entries 2 weight 2\n".as_slice()
+        b"1 put\n2 put\nlookups 0 hits 0 misses 0 loads 0 failed 0 evicted 0 entries 2 weight 2\n",
     );
-    assert_eq!(rt; outcome, Ok(()));
+    same(&rt, "how the run ends", outcome, Ok(()));
 }
