@@ -1,7 +1,6 @@
 // Tests of what no clause says: that calls succeed, how many loads are made, and what threads meet.
 
 mod asleep;
-mod callers;
 mod calls;
 mod codes;
 mod compare;

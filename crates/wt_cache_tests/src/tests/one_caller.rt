@@ -3,7 +3,6 @@
 ghost use Rattle.std.specs.Prelude.{◌≡◌};
 ghost use Rattle.wt_shards.specs.Opening.{AreBlanksOf};
 
-use crate::tests::callers::{failures, refreshes, versions};
 use crate::tests::calls::{Led, led, settled};
 use crate::tests::compare::same;
 use crate::tests::leads::{dropped, forgets, given_up};
@@ -17,32 +16,15 @@ use wt_core::Config;
 use wt_keys::Fault;
 use wt_shards::{Blanks, Names, Of, Pass, Shards};
 
-/// What the caller does. In the last three a load of key 1 is open.
+/// What the caller does while a load of key 1 is open.
 #[derive(Clone, Copy, Debug, PartialEq, Eq)]
 pub enum Play {
-    Versions,
-    Failures,
-    Refreshes,
     Drops,
     GivesUp,
     Forgets,
 }
 
-// The load that is open when a play begins.
-fn led_for<N: Names, R: Wait>(
-    rt: &R,
-    alloc: Global,
-    shards: &Plain<N>,
-    pass: &mut Pass<u64, Version, Of<N>>,
-    play: Play,
-) -> Result<Led, Fault> {
-    match play {
-        Play::Drops | Play::GivesUp | Play::Forgets => led(rt, alloc, shards, pass, 1),
-        _ => Ok(None),
-    }
-}
-
-// Plays. The home is that of key 1.
+// Plays.
 fn act<N: Names, R: Wait + Abort>(
     rt: &R,
     alloc: Global,
@@ -50,12 +32,8 @@ fn act<N: Names, R: Wait + Abort>(
     pass: &mut Pass<u64, Version, Of<N>>,
     open: Led,
     play: Play,
-    home: usize,
 ) -> Result<(), Fault> {
     match play {
-        Play::Versions => versions(rt, alloc, cache, pass, home),
-        Play::Failures => failures(rt, alloc, cache, pass),
-        Play::Refreshes => refreshes(rt, alloc, cache, pass, home),
         Play::Drops => dropped(rt, alloc, cache, pass, open),
         Play::GivesUp => given_up(rt, alloc, cache, pass, open),
         Play::Forgets => {
@@ -77,18 +55,14 @@ fn played<N: Names, R: Wait + Abort>(
     requires layout { N.layout ≡ record { shards = count; config = config.now } }
     requires blanks { AreBlanksOf N.name N.book blanks }
 {
-    let way = if play == Play::Failures {
-        Way::FailsOne
-    } else {
-        Way::Plain
-    };
     let marks = new_marks(alloc)?;
     let shards: Plain<N> = Shards::new(rt, alloc, blanks, config, count)?;
     let mut pass = shards.pass(rt, alloc)?;
-    let open = led_for(rt, alloc, &shards, &mut pass, play)?;
+    let open = led(rt, alloc, &shards, &mut pass, 1)?;
+    let way = Way::Plain;
     let cache: Cache<N> = LoadingCache::new(shards, Rules { way, marks }, None);
     let home = count.saturating_sub(1);
-    let acted = act(rt, alloc, &cache, &mut pass, open, play, home);
+    let acted = act(rt, alloc, &cache, &mut pass, open, play);
     let shown = (pass.steps(home), pass.hits(home));
     same(
         rt,
