@@ -21,7 +21,7 @@ from edits import applied
 
 REFUSED, BY_OTHER, AT_LIMIT, BAD, UNCLEAR, PROVED = "refused", "refused, by another goal", "at a limit of the prover", "bad", "unclear", "NOT REFUSED"
 UNPROVED = re.compile(r"^fn (\S+): (?:not proved|no proof)(.*)$")
-BY_CALL = re.compile(r"it calls `[^`]*`, which is not proved")
+BY_CALL = re.compile(r"it calls `[^;]*, which (?:is|are) not proved")
 SEARCHED = re.compile(r"`search` did not prove (.*)$")
 GOAL = re.compile(r"^(?:\./)?proofs/(\S+)/(?:Answers|Invariants|Proof)\.antt:\d+:\d+: error: (?:`([^`]*)`)?")
 LIMIT = re.compile(r"^fn (\S+): could not tell", re.M)
