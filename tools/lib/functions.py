@@ -6,12 +6,15 @@ from dataclasses import dataclass, field
 FUNCTION = re.compile(r"^(\s*)(?:pub(?:\([a-z]+\))?\s+)?(?:const\s+)?(?:unsafe\s+)?(?:final\s+)?(?:extern\s+\"C\"\s+)?fn\s+(\w+)")
 CLAUSE = re.compile(r"^\s*(requires|ensures)\*?\s+(?:(\w+)\s+)?\{")
 IMPL = re.compile(r"^(\s*)impl\b(.*)$")
+# The impl of a type at one argument: `impl Cached<u64>`.
+AT_ONE = re.compile(r"^impl \w+<(\w+)> \{")
 TRAIT = re.compile(r"^(\s*)(?:pub(?:\([a-z]+\))?\s+)?trait\s+(\w+)")
 
 
 @dataclass(frozen=True)
 class Function:
-    """A function with its file, its first and last line, counted from 0, and the type and trait of the impl that it stands in."""
+    """A function with its file, its first and last line, counted from 0, and the type and trait of the impl that it stands in, and the type's
+    argument if the impl is for that one alone."""
 
     name: str
     file: str
@@ -21,13 +24,16 @@ class Function:
     of_type: str = ""
     of_trait: str = ""
     in_trait: bool = False
+    argument: str = ""
     has_body: bool = True
 
     def printed(self):
         """The end of the name by which the prover knows it. A method's name stands below its type, wherever the impl is."""
         if not self.of_type:
             return "::".join([*self.module, self.name])
-        return "%s::%s" % (self.of_type[:1].upper() + self.of_type[1:] + self.of_trait if self.of_trait else self.of_type, self.name)
+        if self.of_trait:
+            return "%s%s::%s" % (self.of_type[:1].upper() + self.of_type[1:], self.of_trait, self.name)
+        return "%s::%s" % ("+".join(filter(None, (self.of_type, self.argument))), self.name)
 
 
 def type_and_trait(head):
@@ -70,7 +76,7 @@ class Sources:
 
 
 def owners_of(lines):
-    """Of each line the `impl` or `trait` that it is in: the indentation, the type, the trait, and whether it is a trait."""
+    """Of each line the `impl` or `trait` that it is in: the indentation, the type, the trait, whether it is a trait, and the type's argument."""
     owner, owners = None, []
     for at, line in enumerate(lines):
         if owner and line.startswith(owner[0] + "}"):
@@ -78,9 +84,10 @@ def owners_of(lines):
         impl, trait = IMPL.match(line), TRAIT.match(line)
         if impl:
             head = " ".join(" ".join(lines[at:at + 8]).split("{")[0].split())
-            owner = (impl.group(1), *type_and_trait(IMPL.match(head).group(2)), False)
+            at_one = AT_ONE.match(line)
+            owner = (impl.group(1), *type_and_trait(IMPL.match(head).group(2)), False, at_one.group(1) if at_one else "")
         elif trait:
-            owner = (trait.group(1), trait.group(2), "", True)
+            owner = (trait.group(1), trait.group(2), "", True, "")
         owners.append(owner)
     return owners
 
@@ -94,7 +101,7 @@ def functions_of(path, crate):
         function = FUNCTION.match(line)
         if function:
             last, has_body = end_of(lines, at, function.group(1))
-            kind = owner[1:] if owner and len(function.group(1)) > len(owner[0]) else ("", "", False)
+            kind = owner[1:] if owner and len(function.group(1)) > len(owner[0]) else ("", "", False, "")
             found.append(Function(function.group(2), str(path.relative_to(crate)), at, last, module, *kind, has_body=has_body))
     return found
 
