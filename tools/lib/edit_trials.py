@@ -101,14 +101,18 @@ class Trial:
 
     def has_ended(self, limits):
         last = self.said.rstrip("\n").rsplit("\n", 1)[-1]
-        return self.status in (0, 1) and re.match(r"only=\d+ proved=\d+", last) or self.status == 3 and limits
+        # Without a function to ask for, the whole crate is checked.
+        end = r"only=\d+ proved=\d+" if any(edit.functions() for edit in self.edits) else r"logic="
+        return self.status in (0, 1) and re.match(end, last) or self.status == 3 and limits
 
     def verdicts(self):
         """Of each edit what it came to, and a word on why."""
         lines, limits = self.said.rstrip("\n").split("\n"), {name.split("::", 1)[-1] for name in LIMIT.findall(self.said)}
         if not self.has_ended(limits):
             first = next((line for line in lines if re.search(r"\berror(\[[\w-]+\]|:)", line)), lines[-1])
-            return {edit.name: (BAD if self.status in (1, 2) else UNCLEAR, first[:200]) for edit in self.edits}
+            # Another definition may leave a lemma without a proof, which no function names.
+            is_lemma = self.status == 1 and first.startswith("./proofs/") and all(edit.is_outside for edit in self.edits)
+            return {edit.name: (BY_OTHER if is_lemma else BAD if self.status in (1, 2) else UNCLEAR, first[:200]) for edit in self.edits}
         goals, by_call = own_goals(lines)
         of_ours = {name for name in by_call for edit in self.edits if belongs(name, edit)}
         strange = [name for name in by_call if name not in of_ours and (goals.get(name) or not by_call[name])]

@@ -91,11 +91,12 @@ class Edit(Guards):
         self.asked = self.calls(sources)
 
     def holder(self, file, old, sources):
-        """The function that has the changed line; none if that is a definition, a constant or a derive."""
+        """The function that has the changed line; none if that is a definition, a constant, a derive or a clause of a trait."""
         if not file.startswith("src/"):
             return None
         at = [number for number, line in enumerate((self.crate / file).read_text().split("\n")) if old in line]
-        return sources.holding(file, at[0]) if len(at) == 1 else None
+        found = sources.holding(file, at[0]) if len(at) == 1 else None
+        return found if found and found.has_body else None
 
     def calls(self, sources):
         """The functions that it guards. A trait's call is that of the impl whose body changes."""

@@ -42,7 +42,8 @@ def type_and_trait(head):
     for letter in head.split(" where ")[0].split("{")[0]:
         depth += {"<": 1, ">": -1}.get(letter, 0)
         plain += letter if depth == 0 and letter != ">" else ""
-    names = [word.split("::")[-1] for word in re.findall(r"[\w:]+|\(\)", plain)]
+    # An impl for a reference is named as if `Ref` were its type.
+    names = [word.split("::")[-1] for word in re.findall(r"[\w:]+|\(\)", re.sub(r" for &\w+", " for Ref", plain))]
     if "for" in names:
         at = names.index("for")
         return names[min(at + 1, len(names) - 1)], names[at - 1]
@@ -108,11 +109,13 @@ def functions_of(path, crate):
 
 def end_of(lines, at, indent):
     """The last line of the function that begins at a line, and whether it has a body."""
+    depth = 0
     for number in range(at, len(lines)):
-        line = lines[number].rstrip()
-        if line.startswith(indent + "}") or line.endswith(" {}"):
+        line = lines[number].split("//")[0].rstrip()
+        depth += line.count("{") - line.count("}")
+        if line.startswith(indent + "}") or line.endswith(" {}") or line == indent + "{}":
             return number, True
-        if line.endswith(";") and "{" not in " ".join(lines[at:number + 1]):
+        if line.endswith(";") and not depth:
             return number, False
     return at, False
 
