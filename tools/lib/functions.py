@@ -113,7 +113,7 @@ def end_of(lines, at, indent):
     for number in range(at, len(lines)):
         line = lines[number].split("//")[0].rstrip()
         depth += line.count("{") - line.count("}")
-        if line.startswith(indent + "}") or line.endswith(" {}") or line == indent + "{}":
+        if line.startswith(indent + "}") or not depth and (line.endswith(" {}") or line == indent + "{}"):
             return number, True
         if line.endswith(";") and not depth:
             return number, False
