@@ -4,7 +4,7 @@ from urllib.parse import quote
 
 from contracts import PROMISE_NOTHING, all_crates
 from labels import labels_in
-from places import CRATES, TOP, tests_outside, stands_on
+from places import CRATES, TOP, stands_on, tests_outside
 from rules import PAGE, linked, rules_in, tests_by_call
 from spec_words import Links
 
