@@ -120,6 +120,17 @@ def end_of(lines, at, indent):
     return at, False
 
 
+def body_at(lines, function):
+    """The line on which the body of a function begins: that of its brace, which ends the signature or follows the contract."""
+    depth = 0
+    for number in range(function.first, function.last):
+        plain = lines[number].split("//")[0].rstrip()
+        if not depth and plain.endswith(("{", "{}")) and not CLAUSE.match(plain):
+            return number
+        depth += plain.count("{") - plain.count("}")
+    return function.last
+
+
 def braced(lines, number):
     """The text from the first brace of a line to the one that closes it."""
     text, depth = "", 0
