@@ -3,7 +3,7 @@ ghost use Rattle.std.specs.Prelude.{◌≡◌, ◌+◌, ◌<◌, ◌↔◌, [], 
 ghost use Rattle.wt_keys.specs.declared.fault.Fault.TheVariants as fault;
 ghost use Rattle.wt_shards.specs.Counts.{IsBlankOf, no_steps};
 ghost use Rattle.wt_shards.specs.Opening.{AreBlanks, ArePlacesOf, layout_fault};
-ghost use Rattle.wt_shards.specs.Passes.{counts_of, front_of, new_pass};
+ghost use Rattle.wt_shards.specs.Passes.{counts_of, front_of, new_mine, new_pass};
 ghost use Rattle.wt_shards.specs.Place.{place_of};
 
 use crate::books::{Blanks, Books};
@@ -65,6 +65,17 @@ fn locked<K: CacheKey, V: Value<K>, S: ShardLedger, H: Ledger>(
     }
 }
 
+// A caller's part at one shard.
+fn mine_of<K: CacheKey, V: Value<K>, S: ShardLedger, H: Ledger, R: Wait>(
+    rt: &R,
+    shard: &Mutex<Recorded<K, V, S, H>>,
+) -> Result<Mine<K, V, S, H>, Fault>
+    ensures ok { IfOk result (λ mine. mine ≡ new_mine) }
+    ensures spent { IfErr result (λ f. f ≡ fault.PassesSpent) }
+{
+    hold(rt, shard).mine()
+}
+
 // A caller's part at one shard, if there is one.
 fn mine_at<K: CacheKey, V: Value<K>, S: ShardLedger, H: Ledger, R: Wait>(
     rt: &R,
@@ -78,10 +89,35 @@ fn mine_at<K: CacheKey, V: Value<K>, S: ShardLedger, H: Ledger, R: Wait>(
     let Some(shard) = shard else {
         return Ok(None);
     };
-    match hold(rt, shard).mine() {
-        Ok(mine) => Ok(Some(mine)),
-        Err(fault) => Err(fault),
-    }
+    let mine = mine_of(rt, shard)?;
+    Ok(Some(mine))
+}
+
+// A caller's parts at two shards. So `Shards::pass` has two exits and not four, and each of them drops
+// less.
+fn mine_at_two<
+    K: CacheKey,
+    V: Value<K>,
+    S: ShardLedger,
+    H: Ledger,
+    T: ShardLedger,
+    I: Ledger,
+    R: Wait,
+>(
+    rt: &R,
+    one: &Option<Mutex<Recorded<K, V, S, H>>>,
+    two: &Option<Mutex<Recorded<K, V, T, I>>>,
+) -> Result<(Option<Mine<K, V, S, H>>, Option<Mine<K, V, T, I>>), Fault>
+    ensures there { IfOk result (λ mine. (IsSome mine.0 ↔ IsSome one.now)
+        × (IsSome mine.1 ↔ IsSome two.now)) }
+    ensures counts { IfOk result (λ mine. (counts_of mine.0 ≡ no_steps)
+        × (counts_of mine.1 ≡ no_steps)) }
+    ensures front { IfOk result (λ mine. (front_of mine.0 ≡ []) × (front_of mine.1 ≡ [])) }
+    ensures spent { IfErr result (λ f. f ≡ fault.PassesSpent) }
+{
+    let one = mine_at(rt, one)?;
+    let two = mine_at(rt, two)?;
+    Ok((one, two))
 }
 
 impl<K: CacheKey, V: Value<K>, B: Books> Shards<K, V, B> {
@@ -150,10 +186,8 @@ impl<K: CacheKey, V: Value<K>, B: Books> Shards<K, V, B> {
         ensures ok { IfOk result (λ pass. pass ≡ new_pass self.now.shards) }
         ensures spent { IfErr result (λ f. f ≡ fault.PassesSpent) }
     {
-        let zero = mine_at(rt, &self.zero)?;
-        let one = mine_at(rt, &self.one)?;
-        let two = mine_at(rt, &self.two)?;
-        let three = mine_at(rt, &self.three)?;
+        let (zero, one) = mine_at_two(rt, &self.zero, &self.one)?;
+        let (two, three) = mine_at_two(rt, &self.two, &self.three)?;
         Ok(Pass {
             shards: self.shards,
             zero,
