@@ -1,7 +1,8 @@
 // One shard of a replay: does the lines of the trace, and makes what they add to the report.
-ghost use Rattle.std.specs.Prelude.{◌≡◌, IfOk, IfErr, OnOk, length, vec_len, None, true, false};
+ghost use Rattle.std.specs.Prelude.{◌≡◌, ◌++◌, [], ◌∷◌, IfOk, IfErr, OnOk, length, vec_len, None, true, false};
 ghost use Rattle.wt_trace.specs.Keys.{keys_of};
-ghost use Rattle.wt_trace.specs.Options.{option_fault};
+ghost use Rattle.wt_core.specs.State.{opening};
+ghost use Rattle.wt_trace.specs.Options.{config_of, option_fault};
 ghost use Rattle.wt_trace.specs.Answers as spec;
 ghost use Rattle.wt_trace.specs.Contract.{Adds, IsOfShard, IsReady};
 ghost use Rattle.wt_trace.specs.Stops.{IsStop};
@@ -223,6 +224,29 @@ impl<K: TraceKey> Shard<K> {
         self.act(n, line, out)?;
         Ok(())
     }
+
+    // The same, and notes where the text ends then.
+    fn add_line<G: Gate>(
+        &mut self,
+        gate: &G,
+        n: u64,
+        line: &Line<K>,
+        text: &mut Vec<u8>,
+        ends: &mut Vec<u32>,
+    ) -> Result<(), ReplayFault>
+        ensures made { Adds (spec.line_step (keys_of K.TraceKey) self.old.options self.old.shard n
+            line.now self.old.state) self.old self.new text.old.items text.new.items result }
+        ensures ends { OnOk result (ends.new.items
+            ≡ ends.old.items ++ length text.new.items ∷ []) }
+        ensures asked { OnOk result (spec.belongs (keys_of K.TraceKey) self.old.options
+            self.old.shard line.now.act ≡ true → G.answers gate.now n true) }
+        ensures err { IfErr result (IsStop (λ m. G.answers gate.now m false)) }
+    {
+        self.do_line(gate, n, line, text)?;
+        let end = end_of(text)?;
+        ends.push(end)?;
+        Ok(())
+    }
 }
 
 // Whether what a line asks for belongs to the shard: to that of its key, or to each.
@@ -246,6 +270,38 @@ fn end_of(text: &Vec<u8>) -> Result<u32, NoMemory>
     }
 }
 
+// Does the lines, the first of which is line `first`, at a new shard, with lists that are empty yet.
+#[tactic(auto, unfolding(crate::specs::Answers::answers))]
+fn answers_of<K: TraceKey, G: Gate>(
+    job: &Job<'_, G>,
+    number: usize,
+    first: u64,
+    lines: Walk<'_, K>,
+    mut shard: Shard<K>,
+    mut text: Vec<u8>,
+    mut ends: Vec<u32>,
+) -> Result<ShardAnswers, ReplayFault>
+    requires ready { IsReady job.now.options.now first (length lines) }
+    requires options { shard.options ≡ job.now.options.now }
+    requires number { shard.shard ≡ number }
+    requires state { shard.state ≡ opening (config_of job.now.options.now) }
+    requires none { (text.items ≡ []) × (ends.items ≡ []) }
+    ensures made { IsOfShard (keys_of K.TraceKey) job.now.options.now (G.answers job.now.gate.now)
+        first lines.entry number result }
+{
+    let mut rest = lines;
+    let mut n = first;
+    while let Some(line) = rest.next() {
+        shard.add_line(job.gate, n, line, &mut text, &mut ends)?;
+        n += 1;
+    }
+    Ok(ShardAnswers {
+        stats: shard.stats(),
+        text,
+        ends,
+    })
+}
+
 /// Does the lines, the first of which is line `first`, at a new shard of this number, and asks the
 /// job's gate before each that belongs to it.
 ///
@@ -253,7 +309,6 @@ fn end_of(text: &Vec<u8>) -> Result<u32, NoMemory>
 /// shard, for two lists of notices with room for its entries, and for the texts. Texts of 2^32 bytes
 /// or more count as refused memory. No trace makes them: a line stores at most one entry, so that a
 /// shard tells of at most 1,000,000 that left.
-#[tactic(auto, unfolding(crate::specs::Answers::answers))]
 pub fn shard_answers<K: TraceKey, G: Gate>(
     job: &Job<'_, G>,
     number: usize,
@@ -264,20 +319,8 @@ pub fn shard_answers<K: TraceKey, G: Gate>(
     ensures made { IsOfShard (keys_of K.TraceKey) job.now.options.now (G.answers job.now.gate.now)
         first lines.entry number result }
 {
-    let mut shard = Shard::new(job.alloc, job.options, number)?;
-    let mut text = Vec::with_capacity(job.alloc, lines.room().saturating_mul(TEXT_A_LINE))?;
-    let mut ends = Vec::with_capacity(job.alloc, lines.room())?;
-    let mut rest = lines;
-    let mut n = first;
-    while let Some(line) = rest.next() {
-        shard.do_line(job.gate, n, line, &mut text)?;
-        let end = end_of(&text)?;
-        ends.push(end)?;
-        n += 1;
-    }
-    Ok(ShardAnswers {
-        stats: shard.stats(),
-        text,
-        ends,
-    })
+    let shard = Shard::new(job.alloc, job.options, number)?;
+    let text = Vec::with_capacity(job.alloc, lines.room().saturating_mul(TEXT_A_LINE))?;
+    let ends = Vec::with_capacity(job.alloc, lines.room())?;
+    answers_of(job, number, first, lines, shard, text, ends)
 }
