@@ -1,7 +1,7 @@
 // What the tests share: regions that are run as a cache runs them.
 mod beside_lists;
 mod compare;
-mod examples;
+mod parts;
 mod refusals;
 
 use std::alloc::Global;

@@ -62,7 +62,8 @@ fn play_line<'s, B: Books, R: Print + Wait>(
     }
 }
 
-// A call at every shard. A caller isn't told how many steps it made.
+// A call at every shard. A caller isn't told how many steps it made, and lists only what left by its
+// other calls: nothing, as it was lent for this one.
 fn play_sweep<'s, B: Books, R: Print + Wait>(
     rt: &R,
     alloc: Global,
@@ -82,9 +83,10 @@ fn play_sweep<'s, B: Books, R: Print + Wait>(
     } else {
         (caller.clean_up(now, &mut left), Reply::Cleaned)
     };
-    caller.give_back();
     let (step, said) = sweep_told(outcome, reply, 0);
-    print_told(rt, step, &said, left.list(), &[])?;
+    let printed = print_told(rt, step, &said, left.list(), caller.left());
+    caller.give_back();
+    printed?;
     Ok(())
 }
 

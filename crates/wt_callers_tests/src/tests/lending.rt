@@ -12,8 +12,8 @@ use std::sync::Wait;
 use std::test::Fail;
 use std::thread;
 use std::thread::Threads;
-use wt_cache::{Caller, Callers, How, Keyed, Loader, LoadingCache};
-use wt_core::{Cause, Config, Notices, Reply};
+use wt_cache::{Caller, Callers, Keyed, Loader, LoadingCache};
+use wt_core::Config;
 use wt_keys::Fault;
 use wt_shards::{Blanks, Names, Of, Shards};
 
@@ -45,7 +45,6 @@ pub(super) enum Play {
     Scarce,
     // So many callers, each of another thread.
     AtOnce(usize),
-    Calls,
     Beside,
     Refused,
 }
@@ -94,99 +93,6 @@ fn scarce<N: Names, R: Wait + Abort>(
     caller.give_back();
     holds(rt, "no caller while the last pass is lent", none);
     holds(rt, "a caller once it is given back", !spent(rt, callers));
-    Ok(())
-}
-
-// The one entry that left in a caller's latest call, if it was one.
-fn left_of<N: Names, R: Wait>(caller: &Lent<'_, N, R>) -> Option<(u64, u64, Cause)> {
-    match caller.left() {
-        [one] => Some((one.key, one.value.value, one.cause)),
-        _ => None,
-    }
-}
-
-// Each call on a key, and what left in it.
-fn uses<N: Names, R: Wait + Abort>(rt: &R, caller: &mut Lent<'_, N, R>) -> Result<(), Fault> {
-    caller.put(1, Keyed { key: 1, value: 5 }, 0)?;
-    same(
-        rt,
-        "the first put drives nothing out",
-        caller.left().len(),
-        0,
-    );
-    caller.put(1, Keyed { key: 1, value: 6 }, 0)?;
-    same(
-        rt,
-        "what the second put drives out",
-        left_of(caller),
-        Some((1, 5, Cause::Replaced)),
-    );
-    let got = caller.get(1, 0)?;
-    same(
-        rt,
-        "a get of the second put",
-        (got.how, got.value.value),
-        (How::Hit, 6),
-    );
-    same(rt, "a hit drives nothing out", caller.left().len(), 0);
-    holds(
-        rt,
-        "key 2 is absent",
-        matches!(caller.get_if_present(2, 0)?.reply, Reply::Absent),
-    );
-    same(rt, "a get of key 2", caller.get(2, 0)?.how, How::Loaded);
-    holds(
-        rt,
-        "key 2 has no load to forget",
-        !caller.forget(2, 0)?.reply,
-    );
-    holds(rt, "key 1 is taken out", caller.invalidate(1, 0)?.reply);
-    same(
-        rt,
-        "what the removal takes out",
-        left_of(caller),
-        Some((1, 6, Cause::Explicit)),
-    );
-    Ok(())
-}
-
-// Two sweeps, by a caller whose pass and list another one had: how many entries leave.
-fn sweeps<N: Names, R: Wait>(
-    alloc: Global,
-    caller: &mut Lent<'_, N, R>,
-) -> Result<[usize; 3], Fault> {
-    let before = caller.left().len();
-    let shards = caller.cache().shards();
-    if shards > 4 {
-        return Err(Fault::Mixed);
-    }
-    let mut notices = Notices::new(alloc, shards * caller.cache().entries() as usize)?;
-    caller.clean_up(0, &mut notices)?;
-    let cleaned = notices.list().len();
-    notices.empty();
-    caller.invalidate_all(0, &mut notices)?;
-    Ok([before, cleaned, notices.list().len()])
-}
-
-// Each call of a caller.
-fn calls<N: Names, R: Wait + Abort>(
-    rt: &R,
-    alloc: Global,
-    callers: &Lender<N>,
-) -> Result<(), Fault> {
-    let mut caller = callers.lend(rt)?;
-    let used = uses(rt, &mut caller);
-    caller.give_back();
-    used?;
-    let mut caller = callers.lend(rt)?;
-    let swept = sweeps(alloc, &mut caller);
-    caller.give_back();
-    same(
-        rt,
-        "entries that left before, at the clean and at the clear",
-        swept?,
-        [0, 0, 1],
-    );
     Ok(())
 }
 
@@ -283,7 +189,6 @@ fn played<N: Names + Send + Sync, R: Threads + Wait + Abort + Sync>(
         Play::InARow => in_a_row(rt, &callers)?,
         Play::Scarce => scarce(rt, alloc, &callers)?,
         Play::AtOnce(threads) => all_at_once(rt, alloc, &callers, threads)?,
-        Play::Calls => calls(rt, alloc, &callers)?,
         Play::Beside => beside(rt, alloc, &callers)?,
         Play::Refused => refused(rt, &callers)?,
     }
@@ -331,20 +236,6 @@ fn more_callers_are_lent_in_a_row_than_there_are_passes(rt: HostRuntime) -> Resu
 fn callers_are_refused_while_all_passes_are_lent(rt: HostRuntime) -> Result<(), Fail> {
     let ends = plays(&rt, rt.alloc(), Play::Scarce)?;
     same(&rt, "passes, steps and hits", ends, [(1, 0, 0), (1, 0, 0)]);
-    Ok(())
-}
-
-// Two puts, a hit, a miss, a load of two steps, a forget and a removal; each sweep is a step at
-// each shard.
-#[test]
-fn a_caller_makes_each_call(rt: HostRuntime) -> Result<(), Fail> {
-    let ends = plays(&rt, rt.alloc(), Play::Calls)?;
-    same(
-        &rt,
-        "passes, steps and hits",
-        ends,
-        [(1, 10, 1), (1, 16, 1)],
-    );
     Ok(())
 }
 
