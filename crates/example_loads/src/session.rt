@@ -27,6 +27,27 @@ pub struct Seen {
     pub failed: Result<u64, Fault>,
 }
 
+// Lets eight readers ask for page 7 at once, one ask for page 8 while it is put, and one for a page
+// that there isn't.
+fn reads<N: Names + Send + Sync, R: Threads + Wait + Sync>(
+    rt: &R,
+    alloc: Global,
+    pages: &Pages<N>,
+    marks: &Marks,
+) -> Result<Seen, Fault> {
+    let answers = ask_eight(rt, alloc, pages, marks)?;
+    let eight = (answers, marks.loads.load(Ordering::SeqCst));
+    let (loaded, put) = thread::join(rt, || ask(rt, pages, 8), || put_later(rt, pages, marks, 2));
+    put?;
+    let beside = (loaded?, ask(rt, pages, 8)?);
+    let failed = ask(rt, pages, 404);
+    Ok(Seen {
+        eight,
+        beside,
+        failed,
+    })
+}
+
 /// Runs the readers on a cache of four shards.
 pub fn session<N: Names + Send + Sync, R: Threads + Wait + Sync>(
     rt: &R,
@@ -42,18 +63,6 @@ pub fn session<N: Names + Send + Sync, R: Threads + Wait + Sync>(
     let source = Source {
         marks: Arc::try_clone(&marks)?,
     };
-    let marks: &Marks = &marks;
     let callers: Pages<N> = Callers::new(alloc, LoadingCache::new(shards, source, None));
-    let pages = &callers;
-    let answers = ask_eight(rt, alloc, pages, marks)?;
-    let eight = (answers, marks.loads.load(Ordering::SeqCst));
-    let (loaded, put) = thread::join(rt, || ask(rt, pages, 8), || put_later(rt, pages, marks, 2));
-    put?;
-    let beside = (loaded?, ask(rt, pages, 8)?);
-    let failed = ask(rt, pages, 404);
-    Ok(Seen {
-        eight,
-        beside,
-        failed,
-    })
+    reads(rt, alloc, &callers, &marks)
 }

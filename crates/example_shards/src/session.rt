@@ -60,6 +60,45 @@ fn hands_over<B: Books, R: Wait>(
     ))
 }
 
+// Lets two threads put ten pages each, with a pass of its own each. Returns the passes.
+fn puts<N: Names + Send + Sync, R: Threads + Wait + Sync>(
+    rt: &R,
+    alloc: Global,
+    shards: &Shards<u64, Page, Of<N>>,
+) -> Result<(Pass<u64, Page, Of<N>>, Pass<u64, Page, Of<N>>), Fault> {
+    let a = shards.pass(rt, alloc)?;
+    let b = shards.pass(rt, alloc)?;
+    let (a, b) = thread::join(
+        rt,
+        || put_ten(rt, alloc, shards, a, 1),
+        || put_ten(rt, alloc, shards, b, 101),
+    );
+    Ok((a?, b?))
+}
+
+// Hands the passes back, or the first one alone. Returns how many steps the settled books hold.
+fn settles<N: Names, R: Wait>(
+    rt: &R,
+    alloc: Global,
+    shards: Shards<u64, Page, Of<N>>,
+    (a, b): (Pass<u64, Page, Of<N>>, Pass<u64, Page, Of<N>>),
+    all: bool,
+) -> Result<u64, Fault> {
+    let mut passes = Vec::with_capacity(alloc, 2)?;
+    passes.push_reserved(a);
+    if all {
+        passes.push_reserved(b);
+    } else {
+        drop(b);
+    }
+    let totals = shards.settle(rt, alloc, passes)?;
+    let mut steps: u64 = 0;
+    for shard in 0..4 {
+        steps = steps.saturating_add(totals.of(shard).map_or(0, |total| total.steps));
+    }
+    Ok(steps)
+}
+
 /// Lets two threads put ten pages each, and hands a page over from the first one to the second.
 ///
 /// Returns what the second one reads of it, then and later. If not all passes are handed back,
@@ -75,25 +114,9 @@ pub fn session<N: Names + Send + Sync, R: Threads + Wait + Sync>(
     requires blanks { AreBlanksOf N.name N.book blanks }
 {
     let shards: Shards<u64, Page, Of<N>> = Shards::new(rt, alloc, blanks, config, 4)?;
-    let (a, b) = (shards.pass(rt, alloc)?, shards.pass(rt, alloc)?);
-    let shared = &shards;
-    let (a, b) = thread::join(
-        rt,
-        || put_ten(rt, alloc, shared, a, 1),
-        || put_ten(rt, alloc, shared, b, 101),
-    );
-    let (mut a, mut b) = (a?, b?);
-    let (version, young, old) = hands_over(rt, alloc, shared, &mut a, &mut b)?;
-    let mut passes = Vec::with_capacity(alloc, 2)?;
-    passes.push_reserved(a);
-    if all {
-        passes.push_reserved(b);
-    }
-    let totals = shards.settle(rt, alloc, passes)?;
-    let mut steps: u64 = 0;
-    for shard in 0..4 {
-        steps = steps.saturating_add(totals.of(shard).map_or(0, |total| total.steps));
-    }
+    let (mut a, mut b) = puts(rt, alloc, &shards)?;
+    let (version, young, old) = hands_over(rt, alloc, &shards, &mut a, &mut b)?;
+    let steps = settles(rt, alloc, shards, (a, b), all)?;
     Ok(Seen {
         version,
         young,
