@@ -13,9 +13,11 @@ mod run;
 mod settling;
 mod soak;
 
+use std::alloc::Global;
+use std::sync::Wait;
 use wt_core::{Call, Config, Land, Reply};
 use wt_keys::Fault;
-use wt_shards::{Noted, Shade};
+use wt_shards::{Books, Noted, Pass, Shade, Shards, Value};
 use wt_tests::{Do, Loaded, Said, comparable};
 
 // A reply or a fault, which can be compared.
@@ -38,6 +40,19 @@ fn config(bound: u64) -> Config {
         flights: 1,
         ring: 2,
     }
+}
+
+type Passes<V, B> = (Pass<u64, V, B>, Pass<u64, V, B>);
+
+// Two passes, made here so that whoever makes them has one exit at which it drops neither.
+fn two_passes<V: Value<u64>, B: Books, R: Wait>(
+    rt: &R,
+    alloc: Global,
+    shards: &Shards<u64, V, B>,
+) -> Result<Passes<V, B>, Fault> {
+    let a = shards.pass(rt, alloc)?;
+    let b = shards.pass(rt, alloc)?;
+    Ok((a, b))
 }
 
 // The outline of a call: a shade in place of its value.

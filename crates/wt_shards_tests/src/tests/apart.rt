@@ -4,7 +4,7 @@ ghost use Rattle.std.specs.Prelude.{◌≡◌};
 ghost use Rattle.wt_shards.specs.Opening.{AreBlanksOf};
 
 use super::compare::same;
-use super::config;
+use super::{config, two_passes};
 use std::alloc::Global;
 use std::marker::Brand;
 use std::sync::{Arc, Wait};
@@ -181,6 +181,19 @@ fn looks_apart<N: Names + Send + Sync, R: Threads + Wait + Sync>(
     Ok((hit?, met?))
 }
 
+// With a gate and two passes of its own.
+fn looks_gated<N: Names + Send + Sync, R: Threads + Wait + Sync>(
+    rt: &R,
+    alloc: Global,
+    shards: &Shards<u64, Gated, Of<N>>,
+    held: u64,
+) -> Result<(bool, bool), Fault> {
+    let gate = Gate::new(alloc)?;
+    let gated = Gated::by(Arc::try_clone(&gate)?);
+    let (mut a, mut b) = two_passes(rt, alloc, shards)?;
+    looks_apart(rt, alloc, shards, (&mut a, &mut b), held, &gate, gated)
+}
+
 fn look_apart<N: Names + Send + Sync, R: Threads + Wait + Sync>(
     rt: &R,
     alloc: Global,
@@ -191,12 +204,8 @@ fn look_apart<N: Names + Send + Sync, R: Threads + Wait + Sync>(
     requires layout { N.layout ≡ record { shards = 4; config = limits.now } }
     requires blanks { AreBlanksOf N.name N.book blanks }
 {
-    let gate = Gate::new(alloc)?;
-    let gated = Gated::by(Arc::try_clone(&gate)?);
     let shards: Shards<u64, Gated, Of<N>> = Shards::new(rt, alloc, blanks, limits, 4)?;
-    let mut a = shards.pass(rt, alloc)?;
-    let mut b = shards.pass(rt, alloc)?;
-    looks_apart(rt, alloc, &shards, (&mut a, &mut b), held, &gate, gated)
+    looks_gated(rt, alloc, &shards, held)
 }
 
 // The one place that names the ledgers of these shards.
@@ -310,6 +319,19 @@ fn clears_apart<N: Names + Send + Sync, R: Threads + Wait + Sync>(
     Ok((held?, cleared? && gone?))
 }
 
+// With three passes of its own.
+fn clears_by_three<N: Names + Send + Sync, R: Threads + Wait + Sync>(
+    rt: &R,
+    alloc: Global,
+    shards: &Shards<u64, Gated, Of<N>>,
+    gate: &Gate,
+    gated: Gated,
+) -> Result<(bool, bool), Fault> {
+    let (mut a, mut b) = two_passes(rt, alloc, shards)?;
+    let mut c = shards.pass(rt, alloc)?;
+    clears_apart(rt, alloc, shards, (&mut a, &mut b, &mut c), gate, gated)
+}
+
 fn clear_apart<N: Names + Send + Sync, R: Threads + Wait + Sync>(
     rt: &R,
     alloc: Global,
@@ -322,10 +344,7 @@ fn clear_apart<N: Names + Send + Sync, R: Threads + Wait + Sync>(
     let gate = Gate::new(alloc)?;
     let gated = Gated::by(Arc::try_clone(&gate)?);
     let shards: Shards<u64, Gated, Of<N>> = Shards::new(rt, alloc, blanks, limits, 4)?;
-    let mut a = shards.pass(rt, alloc)?;
-    let mut b = shards.pass(rt, alloc)?;
-    let mut c = shards.pass(rt, alloc)?;
-    clears_apart(rt, alloc, &shards, (&mut a, &mut b, &mut c), &gate, gated)
+    clears_by_three(rt, alloc, &shards, &gate, gated)
 }
 
 #[test]

@@ -4,7 +4,7 @@ ghost use Rattle.wt_shards.specs.Opening.{AreBlanksOf};
 
 use super::apart::{KEYS, clear, is_hit, put};
 use super::compare::same;
-use super::config;
+use super::{config, two_passes};
 use std::alloc::Global;
 use std::marker::Brand;
 use std::sync::atomic::{AtomicBool, Ordering};
@@ -142,6 +142,21 @@ fn plays<N: Names + Send + Sync, R: Threads + Wait + Sync>(
     Ok((hit?, made?, looked?))
 }
 
+// With three passes of its own.
+fn plays_by_three<N: Names + Send + Sync, R: Threads + Wait + Sync>(
+    rt: &R,
+    alloc: Global,
+    shards: &Shards<u64, Gated, Of<N>>,
+    held: (u64, Round),
+    gate: &Gate,
+    gated: Gated,
+) -> Result<Seen, Fault> {
+    let (mut a, mut b) = two_passes(rt, alloc, shards)?;
+    let mut c = shards.pass(rt, alloc)?;
+    let passes = (&mut a, &mut b, &mut c);
+    plays(rt, alloc, shards, passes, held, gate, gated)
+}
+
 fn played<N: Names + Send + Sync, R: Threads + Wait + Sync>(
     rt: &R,
     alloc: Global,
@@ -156,11 +171,7 @@ fn played<N: Names + Send + Sync, R: Threads + Wait + Sync>(
     let gate = Gate::new(alloc)?;
     let gated = Gated::by(Arc::try_clone(&gate)?);
     let shards: Shards<u64, Gated, Of<N>> = Shards::new(rt, alloc, blanks, limits, 4)?;
-    let mut a = shards.pass(rt, alloc)?;
-    let mut b = shards.pass(rt, alloc)?;
-    let mut c = shards.pass(rt, alloc)?;
-    let passes = (&mut a, &mut b, &mut c);
-    plays(rt, alloc, &shards, passes, (held, round), &gate, gated)
+    plays_by_three(rt, alloc, &shards, (held, round), &gate, gated)
 }
 
 // The one place that names the ledgers of these shards.
