@@ -25,6 +25,7 @@ class Function:
     of_trait: str = ""
     in_trait: bool = False
     argument: str = ""
+    trait_arguments: str = ""
     has_body: bool = True
 
     def printed(self):
@@ -32,7 +33,7 @@ class Function:
         if not self.of_type:
             return "::".join([*self.module, self.name])
         if self.of_trait:
-            return "%s%s::%s" % (self.of_type[:1].upper() + self.of_type[1:], self.of_trait, self.name)
+            return "%s%s%s::%s" % (self.of_type[:1].upper() + self.of_type[1:], self.of_trait, self.trait_arguments, self.name)
         return "%s::%s" % ("+".join(filter(None, (self.of_type, self.argument))), self.name)
 
 
@@ -48,6 +49,29 @@ def type_and_trait(head):
         at = names.index("for")
         return names[min(at + 1, len(names) - 1)], names[at - 1]
     return names[0] if names else "", ""
+
+
+def parts_of(text):
+    """The text between the angle brackets that a text begins with, split at its commas, and what follows them."""
+    depth, parts = 0, [""]
+    for at, letter in enumerate(text):
+        depth += {"<": 1, ">": -1}.get(letter, 0)
+        if not depth:
+            return [part.strip() for part in parts if letter == ">"], text[at + (letter == ">"):]
+        if depth == 1 and letter == ",":
+            parts.append("")
+        elif depth > 1 or letter != "<":
+            parts[-1] += letter
+    return [], text
+
+
+def trait_arguments(head):
+    """The arguments of an impl's trait as the prover's names have them: `U64Page` of `Loader<u64, Page>`. The impl's own parameters are left out."""
+    parameters, rest = parts_of(head.strip())
+    trait, _, arguments = rest.partition(" for ")[0].partition("<")
+    own = [re.split(r"\W", parameter)[0] for parameter in parameters]
+    given = parts_of("<" + arguments)[0] if arguments and " for " in rest else []
+    return "".join(one[:1].upper() + one[1:] for one in given if one not in own and one.isidentifier())
 
 
 @dataclass
@@ -77,7 +101,8 @@ class Sources:
 
 
 def owners_of(lines):
-    """Of each line the `impl` or `trait` that it is in: the indentation, the type, the trait, whether it is a trait, and the type's argument."""
+    """Of each line the `impl` or `trait` that it is in: the indentation, the type, the trait, whether it is a trait, the type's argument, and those
+    of the trait."""
     owner, owners = None, []
     for at, line in enumerate(lines):
         if owner and line.startswith(owner[0] + "}"):
@@ -86,9 +111,10 @@ def owners_of(lines):
         if impl:
             head = " ".join(" ".join(lines[at:at + 8]).split("{")[0].split())
             at_one = AT_ONE.match(line)
-            owner = (impl.group(1), *type_and_trait(IMPL.match(head).group(2)), False, at_one.group(1) if at_one else "")
+            rest = IMPL.match(head).group(2)
+            owner = (impl.group(1), *type_and_trait(rest), False, at_one.group(1) if at_one else "", trait_arguments(rest))
         elif trait:
-            owner = (trait.group(1), trait.group(2), "", True, "")
+            owner = (trait.group(1), trait.group(2), "", True, "", "")
         owners.append(owner)
     return owners
 
@@ -102,7 +128,7 @@ def functions_of(path, crate):
         function = FUNCTION.match(line)
         if function:
             last, has_body = end_of(lines, at, function.group(1))
-            kind = owner[1:] if owner and len(function.group(1)) > len(owner[0]) else ("", "", False, "")
+            kind = owner[1:] if owner and len(function.group(1)) > len(owner[0]) else ("", "", False, "", "")
             found.append(Function(function.group(2), str(path.relative_to(crate)), at, last, module, *kind, has_body=has_body))
     return found
 
