@@ -66,11 +66,11 @@ def parts_of(text):
 
 
 def trait_arguments(head):
-    """The arguments of an impl's trait as the prover's names have them: `U64Page` of `Loader<u64, Page>`. The impl's own parameters are left out."""
+    """The arguments of an impl's trait as the prover's names have them: `U64Page` of `Loader<u64, Page<K>>`, without the impl's own parameters."""
     parameters, rest = parts_of(head.strip())
     trait, _, arguments = rest.partition(" for ")[0].partition("<")
     own = [re.split(r"\W", parameter)[0] for parameter in parameters]
-    given = parts_of("<" + arguments)[0] if arguments and " for " in rest else []
+    given = [one.partition("<")[0] for one in parts_of("<" + arguments)[0]] if arguments and " for " in rest else []
     return "".join(one[:1].upper() + one[1:] for one in given if one not in own and one.isidentifier())
 
 
