@@ -69,7 +69,7 @@ pub returns-in_err-add_line : goal.returns-in_err-add_line
 returns-in_err-add_line g c =
     let keys = keys_by g.K.PartialEq.eq g.K.CacheKey.word g.K.TraceKey.read g.K.TraceKey.shown in
     let job = c.args.job.now in
-    let passed_on = c.from_residual-in_err-add_line in
+    let passed_on = c.from_residual in
     record {
       made = stopped keys job.options.now (g.G.Gate.answers job.gate.now) c.args.first c.args.lines c.args.number
           passed_on.result c.in_err-add_line.field-0.0 passed_on.ensures.1 c.in_err-add_line.ensures.err;
