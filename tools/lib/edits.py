@@ -11,8 +11,8 @@ import re
 
 
 def paths_of(crate):
-    """The paths of a crate's edits. `rt ci` tries those of must-fail/ too."""
-    return sorted((path for place in ("edits", "must-fail") for path in (crate / place).glob("*.edit")), key=lambda path: path.stem)
+    """The paths of a crate's edits."""
+    return sorted((crate / "edits").glob("*.edit"))
 
 
 def changes_of(text):

@@ -123,7 +123,7 @@ file: src/store.rt
 def small_crate(folder):
     crate = Path(folder, "wt_small")
     for name, text in (("src/lib.rt", "mod store;\npub use store::{Store, Counted};\npub use wt_low::Deep;\n"), ("src/store.rt", SOURCE), ("specs/Lib.antt", SPECS),
-                       ("must-fail/stores_nothing.edit", EDIT_TEXT), ("edits/stores_twice.edit", "file: src/lib.rt\n")):
+                       ("edits/stores_nothing.edit", EDIT_TEXT), ("edits/stores_twice.edit", "file: src/lib.rt\n")):
         path = crate / name
         path.parent.mkdir(parents=True, exist_ok=True)
         path.write_text(text)
