@@ -40,7 +40,7 @@ class Told:
 
 def failed_text(outcome):
     """The last lines of what a part printed."""
-    log = LOGS / outcome.said.rsplit("/", 1)[-1]
+    log = outcome.part.log(LOGS)
     lines = log.read_text(errors="replace").splitlines() if log.is_file() else []
     return "".join("    %s\n" % line for line in lines[-40:])
 

@@ -1,4 +1,4 @@
-"""A part of tools/test, and how it ended."""
+"""A part of tools/test or of the gate, and how it ended."""
 import os
 import re
 import shutil
@@ -27,6 +27,10 @@ class Part:
 
     def lacks(self):
         return [tool for tool in self.needs if not shutil.which(tool)]
+
+    def log(self, logs):
+        """Where what it prints is kept, below a folder."""
+        return logs / (re.sub(r"[^\w.]+", "_", self.name) + ".log")
 
 
 @dataclass
@@ -70,7 +74,7 @@ AT_WORK = AtWork()
 
 def outcome_of(part, environment, logs):
     """Runs a part; what it prints is kept in its log."""
-    log = logs / (re.sub(r"[^\w.]+", "_", part.name) + ".log")
+    log = part.log(logs)
     with open(log, "wb") as out:
         status = AT_WORK.run([str(word) for word in part.command], cwd=part.folder, env={**environment, **part.environment}, stdout=out)
     text = log.read_text(errors="replace")
