@@ -3,19 +3,14 @@
 
 ghost use Rattle.std.specs.Prelude.{◌≡◌, IfOk, is_ok, if◌then◌else◌};
 
-mod by_turn;
-mod replay;
-#[cfg(test)]
-mod tests;
-
 use clap::{Arg, ArgAction, ArgMatches, Command, value_parser};
-use replay::replay_by_turn;
 use std::alloc::Global;
 use std::io;
 use std::process::ExitCode;
 use wt_trace::{
     MOST_THREADS, Open, Options, ReplayFault, Tallied, replay, replay_by_shard, status_and_line,
 };
+use wt_turns::replay_by_turn;
 
 // What `--version` prints.
 const VERSION: &str = "0.1.0";

@@ -13,7 +13,7 @@ OF_PROGRAM = {"check_program": ((), 40), "check_options --built": ((), 1), "refu
 LANGUAGES = {"c": (("gcc", "g++", "nm", "objdump", "pkg-config"), 90), "rust": (("cargo", "cargo-clippy"), 300),
              "python": (("mypy", "python3-dbg"), 300), "go": (("go",), 200)}
 # The slowest crates' tests, in seconds of a core.
-SLOW = {"wt_replay": 120, "wt_shards_tests": 120, "wt_cache_tests": 120, "wt_callers_tests": 120, "wt_core_tests": 90, "wt_trace_tests": 120,
+SLOW = {"wt_turns_tests": 60, "wt_shards_tests": 120, "wt_cache_tests": 120, "wt_callers_tests": 120, "wt_core_tests": 90, "wt_trace_tests": 120,
         "wt_keys_tests": 90}
 # The slowest pages.
 PAGES = {"CONTRIBUTING.md": 230, "embed/README.md": 60, "embed/python/README.md": 50}

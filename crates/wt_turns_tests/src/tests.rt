@@ -1,0 +1,17 @@
+// What the tests share: options of a few entries.
+mod compare;
+mod threads;
+mod turns;
+
+use wt_trace::Options;
+
+// Shards of four entries, one of them in window.
+fn of_four(shards: u64) -> Options {
+    Options {
+        shards,
+        entries: 4,
+        window: Some(1),
+        weight: 1000,
+        ..Options::default()
+    }
+}
