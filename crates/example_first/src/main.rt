@@ -1,6 +1,8 @@
 //! A first cache: pages of a site are put, looked up, and some leave.
 #![tactic(auto)]
 
+use std::alloc::Global;
+use std::io::Print;
 use wt_core::{Config, Core, Notices, Reply, Weighs};
 use wt_keys::{NoMemory, Share};
 
@@ -24,6 +26,45 @@ impl Weighs for Page {
     }
 }
 
+// Puts a page, and tells what left for it.
+fn put<R: Print>(
+    rt: &R,
+    alloc: Global,
+    cache: &mut Core<u64, Page>,
+    key: u64,
+    page: Page,
+) -> anyhow::Result<()> {
+    let mut left = Notices::new(alloc, cache.entries() as usize)?;
+    cache.put(key, page, 0, &mut left)?;
+    for notice in left.list() {
+        println!(rt; "page {} left: {:?}", notice.key, notice.cause)?;
+    }
+    Ok(())
+}
+
+// Looks a page up, and tells how often it was seen.
+fn look<R: Print>(
+    rt: &R,
+    alloc: Global,
+    cache: &mut Core<u64, Page>,
+    key: u64,
+) -> anyhow::Result<()> {
+    let mut left = Notices::new(alloc, cache.entries() as usize)?;
+    if let Reply::Hit(page) = cache.look(key, 5, &mut left)? {
+        println!(rt; "page {key} has {} views", page.views)?;
+    }
+    Ok(())
+}
+
+fn visit<R: Print>(rt: &R, alloc: Global, cache: &mut Core<u64, Page>) -> anyhow::Result<()> {
+    for key in [1, 2, 3, 4] {
+        put(rt, alloc, cache, key, Page { views: 10 * key })?;
+    }
+    look(rt, alloc, cache, 1)?;
+    println!(rt; "{:?}", cache.stats())?;
+    Ok(())
+}
+
 fn main(rt: HostRuntime) -> anyhow::Result<()> {
     let alloc = rt.alloc();
     let config = Config {
@@ -36,20 +77,6 @@ fn main(rt: HostRuntime) -> anyhow::Result<()> {
         flights: 16,
         ring: 64,
     };
-    // README begins
     let mut cache: Core<u64, Page> = Core::new(alloc, &config)?;
-    for key in [1, 2, 3, 4] {
-        let mut left = Notices::new(alloc, cache.entries() as usize)?;
-        cache.put(key, Page { views: 10 * key }, 0, &mut left)?;
-        for notice in left.list() {
-            println!(rt; "page {} left: {:?}", notice.key, notice.cause)?;
-        }
-    }
-    let mut left = Notices::new(alloc, cache.entries() as usize)?;
-    if let Reply::Hit(page) = cache.look(1, 5, &mut left)? {
-        println!(rt; "page 1 has {} views", page.views)?;
-    }
-    // README ends
-    println!(rt; "{:?}", cache.stats())?;
-    Ok(())
+    visit(&rt, alloc, &mut cache)
 }

@@ -1,6 +1,8 @@
 //! An entry that is due is served at once, and loaded again beside it.
 #![tactic(auto)]
 
+use std::alloc::Global;
+use std::io::Print;
 use wt_core::{Config, Core, Land, Notices, Reply, Weighs};
 use wt_keys::{NoMemory, Share};
 
@@ -24,6 +26,51 @@ impl Weighs for Rate {
     }
 }
 
+// Seeks the rate of currency 7, tells of it, and returns the load that the seek opened.
+fn seek<R: Print>(
+    rt: &R,
+    alloc: Global,
+    cache: &mut Core<u64, Rate>,
+    now: u64,
+) -> anyhow::Result<Option<u64>> {
+    let mut left = Notices::new(alloc, cache.entries() as usize)?;
+    match cache.seek(7, now, &mut left)? {
+        Reply::Hit(rate) => {
+            println!(rt; "{now}: the rate of {}", rate.asked)?;
+            Ok(None)
+        }
+        Reply::HitLead(rate, load) => {
+            println!(rt; "{now}: the rate of {}, and it is due", rate.asked)?;
+            Ok(Some(load))
+        }
+        Reply::Lead(load) => Ok(Some(load)),
+        _ => Ok(None),
+    }
+}
+
+// Lands a load with the rate of this moment.
+fn land<R: Print>(
+    rt: &R,
+    alloc: Global,
+    cache: &mut Core<u64, Rate>,
+    load: u64,
+    now: u64,
+) -> anyhow::Result<()> {
+    let mut left = Notices::new(alloc, cache.entries() as usize)?;
+    cache.land(load, 7, Land::Keep(Rate { asked: now }), now, &mut left)?;
+    println!(rt; "{now}: load {load} has landed")?;
+    Ok(())
+}
+
+fn ask<R: Print>(rt: &R, alloc: Global, cache: &mut Core<u64, Rate>) -> anyhow::Result<()> {
+    for now in [0, 10, 60, 61] {
+        if let Some(load) = seek(rt, alloc, cache, now)? {
+            land(rt, alloc, cache, load, now)?;
+        }
+    }
+    Ok(())
+}
+
 fn main(rt: HostRuntime) -> anyhow::Result<()> {
     let alloc = rt.alloc();
     let config = Config {
@@ -37,23 +84,5 @@ fn main(rt: HostRuntime) -> anyhow::Result<()> {
         ring: 64,
     };
     let mut cache: Core<u64, Rate> = Core::new(alloc, &config)?;
-    for now in [0, 10, 60, 61] {
-        let mut left = Notices::new(alloc, cache.entries() as usize)?;
-        let load = match cache.seek(7, now, &mut left)? {
-            Reply::Hit(rate) => {
-                println!(rt; "{now}: the rate of {}", rate.asked)?;
-                continue;
-            }
-            Reply::HitLead(rate, load) => {
-                println!(rt; "{now}: the rate of {}, and it is due", rate.asked)?;
-                load
-            }
-            Reply::Lead(load) => load,
-            _ => continue,
-        };
-        let mut left = Notices::new(alloc, cache.entries() as usize)?;
-        cache.land(load, 7, Land::Keep(Rate { asked: now }), now, &mut left)?;
-        println!(rt; "{now}: load {load} has landed")?;
-    }
-    Ok(())
+    ask(&rt, alloc, &mut cache)
 }

@@ -1,6 +1,8 @@
 //! Entries that weigh what they take, and what leaves for them.
 #![tactic(auto)]
 
+use std::alloc::Global;
+use std::io::Print;
 use wt_core::{Config, Core, Notices, Weighs};
 use wt_keys::{Fault, NoMemory, Share};
 
@@ -24,6 +26,38 @@ impl Weighs for Picture {
     }
 }
 
+// Puts a picture, and tells what came of it and what left for it.
+fn put<R: Print>(
+    rt: &R,
+    alloc: Global,
+    cache: &mut Core<u64, Picture>,
+    key: u64,
+    picture: Picture,
+) -> anyhow::Result<()> {
+    let mut left = Notices::new(alloc, cache.entries() as usize)?;
+    match cache.put(key, picture, 0, &mut left) {
+        Ok(()) => println!(rt; "{key} is stored, all weigh {}", cache.weight())?,
+        Err(Fault::TooHeavy { weight, bound }) => {
+            println!(rt; "{key} weighs {weight}, and {bound} is the bound: nothing changed")?
+        }
+        Err(other) => return Err(other.into()),
+    }
+    for notice in left.list() {
+        println!(rt;
+            "  {} left, {} kilobytes",
+            notice.key, notice.value.kilobytes
+        )?;
+    }
+    Ok(())
+}
+
+fn store<R: Print>(rt: &R, alloc: Global, cache: &mut Core<u64, Picture>) -> anyhow::Result<()> {
+    for (key, kilobytes) in [(1, 400), (2, 300), (3, 2000), (4, 250), (5, 500)] {
+        put(rt, alloc, cache, key, Picture { kilobytes })?;
+    }
+    Ok(())
+}
+
 fn main(rt: HostRuntime) -> anyhow::Result<()> {
     let alloc = rt.alloc();
     let config = Config {
@@ -37,21 +71,5 @@ fn main(rt: HostRuntime) -> anyhow::Result<()> {
         ring: 64,
     };
     let mut cache: Core<u64, Picture> = Core::new(alloc, &config)?;
-    for (key, kilobytes) in [(1, 400), (2, 300), (3, 2000), (4, 250), (5, 500)] {
-        let mut left = Notices::new(alloc, cache.entries() as usize)?;
-        match cache.put(key, Picture { kilobytes }, 0, &mut left) {
-            Ok(()) => println!(rt; "{key} is stored, all weigh {}", cache.weight())?,
-            Err(Fault::TooHeavy { weight, bound }) => {
-                println!(rt; "{key} weighs {weight}, and {bound} is the bound: nothing changed")?
-            }
-            Err(other) => return Err(other.into()),
-        }
-        for notice in left.list() {
-            println!(rt;
-                "  {} left, {} kilobytes",
-                notice.key, notice.value.kilobytes
-            )?;
-        }
-    }
-    Ok(())
+    store(&rt, alloc, &mut cache)
 }
