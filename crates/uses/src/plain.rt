@@ -1,6 +1,6 @@
 // A `Core`: the cache of one thread, or one behind a lock of your own. A call that changes it is
 // given a list for what it pushes out, with room for `Core::entries` notices. A program that makes
-// many calls keeps one list and empties it, as `example_shards` does.
+// many calls keeps one list and empties it, as `examples::shards` does.
 use crate::source::Page;
 use std::alloc::Global;
 use wt_core::{Call, Config, Core, Foreseen, Land, Notices, Region, Reply, Stats, run_calls};

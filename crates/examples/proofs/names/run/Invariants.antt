@@ -1,0 +1,5 @@
+use Rattle.wt_shards.specs.Opening.{books_of, names_of}
+use Rattle.examples.proofs.names.run.Given as goal
+
+abbrev pub ghosts-session : goal.ghosts-session
+ghosts-session g a = record { name = names_of a.blanks; book = books_of a.blanks; layout = record { shards = 1; config = a.config.now } }

@@ -1,0 +1,68 @@
+// What the readers see.
+ghost use Rattle.std.specs.Prelude.{◌≡◌};
+ghost use Rattle.wt_shards.specs.Opening.{AreBlanksOf};
+
+use crate::loads::page::Page;
+use crate::loads::readers::{Pages, ask, ask_eight};
+use crate::loads::source::{Marks, Source};
+use crate::loads::writer::put_later;
+use std::alloc::Global;
+use std::sync::atomic::Ordering;
+use std::sync::{Arc, Wait};
+use std::thread;
+use std::thread::Threads;
+use wt_cache::{Callers, LoadingCache};
+use wt_core::Config;
+use wt_keys::Fault;
+use wt_shards::{Blanks, Names, Of, Shards};
+
+/// What the readers saw.
+#[derive(Drop)]
+pub struct Seen {
+    /// How many of eight were answered, and by how many loads.
+    pub eight: (u64, u64),
+    /// The words that were loaded while others were put, and those that are there then.
+    pub beside: (u64, u64),
+    /// What came of a load that fails.
+    pub failed: Result<u64, Fault>,
+}
+
+// Lets eight readers ask for page 7 at once, one ask for page 8 while it is put, and one for a page
+// that there isn't.
+fn reads<N: Names + Send + Sync, R: Threads + Wait + Sync>(
+    rt: &R,
+    alloc: Global,
+    pages: &Pages<N>,
+    marks: &Marks,
+) -> Result<Seen, Fault> {
+    let answers = ask_eight(rt, alloc, pages, marks)?;
+    let eight = (answers, marks.loads.load(Ordering::SeqCst));
+    let (loaded, put) = thread::join(rt, || ask(rt, pages, 8), || put_later(rt, pages, marks, 2));
+    put?;
+    let beside = (loaded?, ask(rt, pages, 8)?);
+    let failed = ask(rt, pages, 404);
+    Ok(Seen {
+        eight,
+        beside,
+        failed,
+    })
+}
+
+/// Runs the readers on a cache of four shards.
+pub fn session<N: Names + Send + Sync, R: Threads + Wait + Sync>(
+    rt: &R,
+    alloc: Global,
+    blanks: Blanks<u64, Page>,
+    config: &Config,
+) -> Result<Seen, Fault>
+    requires layout { N.layout ≡ record { shards = 4; config = config.now } }
+    requires blanks { AreBlanksOf N.name N.book blanks }
+{
+    let shards: Shards<u64, Page, Of<N>> = Shards::new(rt, alloc, blanks, config, 4)?;
+    let marks = Arc::new(alloc, Marks::new())?;
+    let source = Source {
+        marks: Arc::try_clone(&marks)?,
+    };
+    let callers: Pages<N> = Callers::new(alloc, LoadingCache::new(shards, source, None));
+    reads(rt, alloc, &callers, &marks)
+}

@@ -1,0 +1,56 @@
+// A cache before a function: whatever `get` returns is the function of its key.
+ghost use Rattle.std.specs.Prelude.{◌≡◌, IfOk};
+ghost use Rattle.examples.specs.Check.{check_of};
+
+mod check;
+
+use crate::pure::check::{Check, Checks};
+use std::alloc::Global;
+use std::io::Print;
+use std::sync::Wait;
+use std::thread::Threads;
+use wt_cache::{Caller, Service, serve};
+use wt_core::Config;
+use wt_keys::Fault;
+use wt_shards::Books;
+
+/// Returns the check number of an account, by the cache: in every schedule, whether the number was
+/// there, loaded, shared with another caller's load or due for a refresh, and whatever memory was
+/// refused before.
+fn check_number<B: Books, R: Wait>(
+    caller: &mut Caller<u64, Check, &Checks, B, R>,
+    account: u64,
+    now: u64,
+) -> Result<u64, Fault>
+    ensures { IfOk result (λ number. number ≡ check_of account) }
+{
+    let got = caller.get(account, now)?;
+    Ok(got.value.number)
+}
+
+impl Service<u64, Check> for Checks {
+    ghost use Rattle.std.specs.Prelude.{◌≡◌, IfOk};
+    ghost use Rattle.examples.specs.Check.{check_of};
+
+    type Answer = u64;
+
+    // Each thread asks for the account of its own number.
+    ghost gives = { λ _ thread result. IfOk result (λ number. number ≡ check_of thread) };
+
+    fn work<B: Books, R: Wait>(
+        &self,
+        thread: usize,
+        caller: &mut Caller<u64, Check, &Checks, B, R>,
+    ) -> Result<u64, Fault> {
+        check_number(caller, thread as u64, 0)
+    }
+}
+
+/// Prints the check numbers that three threads get.
+pub fn show<R: Print + Threads + Wait + Sync>(rt: &R, alloc: Global) -> anyhow::Result<()> {
+    let config = Config::of(64).with_refresh(1000);
+    for number in serve(rt, alloc, &config, 4, 3, &Checks {})? {
+        println!(rt; "check number {}", number?)?;
+    }
+    Ok(())
+}
