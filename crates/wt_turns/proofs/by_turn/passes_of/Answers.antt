@@ -17,4 +17,4 @@ returns-in-Ok-clause-asked g c =
     → IsOk (get_or c.in-Ok-Ok.ran.items t unmade) =
     λ t within. c.stop_of.ensures.none none t (search rules) in
     done_asked keys options c.args.cache.now answers deal.first deal.lines.now deal.threads
-        c.in-Ok-Ok.ran.items deal.ready.some_line deal.ready.some done ok
+    c.in-Ok-Ok.ran.items deal.ready.some_line deal.ready.some done ok
