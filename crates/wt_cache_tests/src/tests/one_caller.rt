@@ -43,6 +43,19 @@ fn act<N: Names, R: Wait + Abort>(
     }
 }
 
+// A pass, and the load of key 1 that it led.
+fn begun<N: Names, R: Wait>(
+    rt: &R,
+    alloc: Global,
+    shards: &Plain<N>,
+) -> Result<(Pass<u64, Version, Of<N>>, Led), Fault> {
+    let mut pass = shards.pass(rt, alloc)?;
+    match led(rt, alloc, shards, &mut pass, 1) {
+        Ok(open) => Ok((pass, open)),
+        Err(fault) => Err(fault),
+    }
+}
+
 // Plays on a cache of `count` shards. Key 1 is of the last one.
 fn played<N: Names, R: Wait + Abort>(
     rt: &R,
@@ -57,8 +70,7 @@ fn played<N: Names, R: Wait + Abort>(
 {
     let marks = new_marks(alloc)?;
     let shards: Plain<N> = Shards::new(rt, alloc, blanks, config, count)?;
-    let mut pass = shards.pass(rt, alloc)?;
-    let open = led(rt, alloc, &shards, &mut pass, 1)?;
+    let (mut pass, open) = begun(rt, alloc, &shards)?;
     let way = Way::Plain;
     let cache: Cache<N> = LoadingCache::new(shards, Rules { way, marks }, None);
     let home = count.saturating_sub(1);

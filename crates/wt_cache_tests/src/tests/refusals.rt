@@ -6,14 +6,14 @@ ghost use Rattle.wt_shards.specs.Opening.{AreBlanksOf};
 use crate::tests::calls::{Led, forget, get, invalidate, led, present, put};
 use crate::tests::compare::{holds, same};
 use crate::tests::stage::{Cache, Plain, Rules, Version, Way, config, new_marks};
-use crate::tests::workers::{close, posts};
+use crate::tests::workers::{close, posts, works_by};
 use std::alloc::Global;
 use std::marker::Brand;
 use std::process::Abort;
 use std::sync::Wait;
 use std::test::Fail;
 use wt_cache::{How, JobLine, LoadingCache};
-use wt_core::{Config, Notices, Stats};
+use wt_core::{Config, Stats};
 use wt_flights::{Outcome, Publish};
 use wt_keys::Fault;
 use wt_shards::{Blanks, Names, Of, Pass, Shards};
@@ -189,22 +189,6 @@ fn shares<N: Names, R: Wait + Abort>(
     );
 }
 
-// A worker's jobs, failures and removals; NoMemory where its own list of notices was refused.
-fn work<N: Names, R: Wait>(
-    rt: &R,
-    alloc: Global,
-    cache: &Cache<N>,
-    pass: &mut Pass<u64, Version, Of<N>>,
-) -> Result<(u64, u64, u64), Fault> {
-    let Some(line) = cache.line() else {
-        return Err(Fault::LineClosed);
-    };
-    let mut notices = Notices::new(alloc, cache.entries() as usize)?;
-    let mut hand = line.pass(rt)?;
-    let report = cache.run_worker(rt, pass, &mut hand, &mut notices);
-    Ok((report.jobs, report.failed, report.removed))
-}
-
 // A worker loads: its value is told, and loaded once more where it wasn't stored.
 fn works<N: Names, R: Wait + Abort>(
     rt: &R,
@@ -224,9 +208,9 @@ fn works<N: Names, R: Wait + Abort>(
         Ok(true),
     );
     close(rt, cache);
-    let mut report = work(rt, alloc, cache, pass);
+    let mut report = works_by(rt, alloc, cache, pass);
     if report == Err(Fault::NoMemory) {
-        report = work(rt, alloc, cache, pass);
+        report = works_by(rt, alloc, cache, pass);
     }
     same(
         rt,
@@ -291,6 +275,31 @@ fn plays_on<N: Names, R: Wait + Abort>(
     loads_itself(rt, alloc, cache, pass);
 }
 
+// The loads of keys 1 and 2.
+fn leads<N: Names, R: Wait>(
+    rt: &R,
+    alloc: Global,
+    shards: &Plain<N>,
+    pass: &mut Pass<u64, Version, Of<N>>,
+) -> Result<(Led, Led), Fault> {
+    let one = led(rt, alloc, shards, pass, 1)?;
+    let two = led(rt, alloc, shards, pass, 2)?;
+    Ok((one, two))
+}
+
+// A pass, and the loads of keys 1 and 2 that it led.
+fn led_two<N: Names, R: Wait>(
+    rt: &R,
+    alloc: Global,
+    shards: &Plain<N>,
+) -> Result<(Pass<u64, Version, Of<N>>, (Led, Led)), Fault> {
+    let mut pass = shards.pass(rt, alloc)?;
+    match leads(rt, alloc, shards, &mut pass) {
+        Ok(both) => Ok((pass, both)),
+        Err(fault) => Err(fault),
+    }
+}
+
 // Plays on a cache of one shard, with a line that is closed before the caller loads, or without.
 fn played<N: Names, R: Wait + Abort>(
     rt: &R,
@@ -306,11 +315,9 @@ fn played<N: Names, R: Wait + Abort>(
     let marks = new_marks(alloc)?;
     let line = line_if(rt, alloc, lined)?;
     let shards: Plain<N> = Shards::new(rt, alloc, blanks, config, 1)?;
-    let mut pass = shards.pass(rt, alloc)?;
-    let posted = led(rt, alloc, &shards, &mut pass, 1)?;
-    let told = led(rt, alloc, &shards, &mut pass, 2)?;
+    let (mut pass, both) = led_two(rt, alloc, &shards)?;
     let cache: Cache<N> = LoadingCache::new(shards, Rules { way, marks }, line);
-    plays_on(rt, alloc, &cache, &mut pass, (posted, told));
+    plays_on(rt, alloc, &cache, &mut pass, both);
     let shown = Some((pass.steps(0), pass.hits(0)));
     same(
         rt,

@@ -5,6 +5,7 @@ ghost use Rattle.wt_shards.specs.Opening.{AreBlanksOf};
 use crate::tests::calls::{forget, get, invalidate, led, put};
 use crate::tests::compare::same;
 use crate::tests::stage::{Cache, Plain, Rules, Version, Way, config, new_marks};
+use crate::tests::workers::works_by;
 use std::alloc::Global;
 use std::marker::Brand;
 use std::process::Abort;
@@ -14,7 +15,7 @@ use std::test::Fail;
 use std::thread;
 use std::thread::Threads;
 use wt_cache::{How, JobLine, LoadingCache};
-use wt_core::{Config, Notices};
+use wt_core::Config;
 use wt_keys::Fault;
 use wt_shards::{Blanks, Names, Of, Pass, Shards};
 
@@ -117,13 +118,10 @@ fn call_all<N: Names + Send + Sync, R: Threads + Wait + Sync>(
 // A worker with passes of its own.
 fn worker<N: Names, R: Wait>(rt: &R, alloc: Global, cache: &Cache<N>) -> Ran<N> {
     let mut pass = cache.pass(rt, alloc)?;
-    let Some(line) = cache.line() else {
-        return Ok((pass, 0));
-    };
-    let mut hand = line.pass(rt)?;
-    let mut notices = Notices::new(alloc, cache.entries() as usize)?;
-    let _report = cache.run_worker(rt, &mut pass, &mut hand, &mut notices);
-    Ok((pass, 0))
+    match works_by(rt, alloc, cache, &mut pass) {
+        Ok(_report) => Ok((pass, 0)),
+        Err(fault) => Err(fault),
+    }
 }
 
 // Two workers.

@@ -13,21 +13,32 @@ use wt_cache::{How, Posted};
 use wt_core::Notices;
 use wt_flights::{Lead, Outcome};
 use wt_keys::Fault;
-use wt_shards::Names;
+use wt_shards::{Names, Of, Pass};
 
 /// What a worker reports: its jobs, the failed ones, and what left.
 pub type Report = Result<(u64, u64, u64), Fault>;
 
-/// A worker with passes of its own runs until the line is closed and empty.
-pub fn works<N: Names, R: Wait>(rt: &R, alloc: Global, cache: &Cache<N>) -> Report {
-    let mut pass = cache.pass(rt, alloc)?;
-    let mut notices = Notices::new(alloc, cache.entries() as usize)?;
+/// A worker with this pass runs until the line is closed and empty. `NoMemory` if its list of notices
+/// was refused.
+pub fn works_by<N: Names, R: Wait>(
+    rt: &R,
+    alloc: Global,
+    cache: &Cache<N>,
+    pass: &mut Pass<u64, Version, Of<N>>,
+) -> Report {
     let Some(line) = cache.line() else {
         return Err(Fault::LineClosed);
     };
+    let mut notices = Notices::new(alloc, cache.entries() as usize)?;
     let mut hand = line.pass(rt)?;
-    let report = cache.run_worker(rt, &mut pass, &mut hand, &mut notices);
+    let report = cache.run_worker(rt, pass, &mut hand, &mut notices);
     Ok((report.jobs, report.failed, report.removed))
+}
+
+/// The same with a pass of its own.
+pub fn works<N: Names, R: Wait>(rt: &R, alloc: Global, cache: &Cache<N>) -> Report {
+    let mut pass = cache.pass(rt, alloc)?;
+    works_by(rt, alloc, cache, &mut pass)
 }
 
 /// Closes the cache's line.

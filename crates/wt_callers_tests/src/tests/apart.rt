@@ -138,6 +138,29 @@ fn looks_apart<N: Names + Send + Sync, R: Threads + Wait + Sync>(
     Ok((present?, met?))
 }
 
+// Two passes, made here so that whoever makes them has one exit at which it drops neither.
+fn two_passes<N: Names, R: Wait>(
+    rt: &R,
+    alloc: Global,
+    cache: &GatedCache<N>,
+) -> Result<(Pass<u64, Gated, Of<N>>, Pass<u64, Gated, Of<N>>), Fault> {
+    let a = cache.pass(rt, alloc)?;
+    let b = cache.pass(rt, alloc)?;
+    Ok((a, b))
+}
+
+// With two passes of its own.
+fn looks_by_two<N: Names + Send + Sync, R: Threads + Wait + Sync>(
+    rt: &R,
+    alloc: Global,
+    cache: &GatedCache<N>,
+    gate: &Gate,
+    gated: Gated,
+) -> Result<(bool, bool), Fault> {
+    let (mut a, mut b) = two_passes(rt, alloc, cache)?;
+    looks_apart(rt, alloc, cache, (&mut a, &mut b), gate, gated)
+}
+
 fn look_apart<N: Names + Send + Sync, R: Threads + Wait + Sync>(
     rt: &R,
     alloc: Global,
@@ -151,9 +174,7 @@ fn look_apart<N: Names + Send + Sync, R: Threads + Wait + Sync>(
     let gated = Gated::by(Arc::try_clone(&gate)?);
     let shards: Shards<u64, Gated, Of<N>> = Shards::new(rt, alloc, blanks, limits, 4)?;
     let cache: GatedCache<N> = LoadingCache::new(shards, Freely {}, None);
-    let mut a = cache.pass(rt, alloc)?;
-    let mut b = cache.pass(rt, alloc)?;
-    looks_apart(rt, alloc, &cache, (&mut a, &mut b), &gate, gated)
+    looks_by_two(rt, alloc, &cache, &gate, gated)
 }
 
 #[test]

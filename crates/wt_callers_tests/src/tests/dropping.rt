@@ -112,6 +112,21 @@ fn lends_beside<N: Names, R: Wait>(
 // whether the drop ended by that.
 type Seen = (usize, bool, bool);
 
+// One thread puts twice, and so drops a value; another is lent a caller meanwhile.
+fn drops_beside<N: Names + Send + Sync, R: Threads + Wait + Sync>(
+    rt: &R,
+    callers: &Lender<N>,
+    gate: &Gate,
+    theirs: Arc<Gate, Global>,
+) -> Result<Seen, Fault> {
+    let (left, begun) = thread::join(
+        rt,
+        || puts_twice(rt, callers, theirs),
+        || lends_beside(rt, callers, gate),
+    );
+    Ok((left?, begun?, !gate.given_up()))
+}
+
 fn drop_beside<N: Names + Send + Sync, R: Threads + Wait + Sync>(
     rt: &R,
     alloc: Global,
@@ -123,16 +138,9 @@ fn drop_beside<N: Names + Send + Sync, R: Threads + Wait + Sync>(
 {
     let held = Gate::new(alloc)?;
     let theirs = Arc::try_clone(&held)?;
-    let gate: &Gate = &held;
     let shards: Shards<u64, Slow, Of<N>> = Shards::new(rt, alloc, blanks, limits, 1)?;
     let callers: Lender<N> = Callers::new(alloc, LoadingCache::new(shards, Swiftly {}, None));
-    let shared = &callers;
-    let (left, begun) = thread::join(
-        rt,
-        || puts_twice(rt, shared, theirs),
-        || lends_beside(rt, shared, gate),
-    );
-    Ok((left?, begun?, !gate.given_up()))
+    drops_beside(rt, &callers, &held, theirs)
 }
 
 #[test]

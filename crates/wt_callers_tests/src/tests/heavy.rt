@@ -74,6 +74,50 @@ fn filled<N: Names, R: Wait>(
     led(rt, alloc, shards, pass, 9)
 }
 
+// A pass, and the load that it led over a full shard.
+fn full<N: Names, R: Wait>(
+    rt: &R,
+    alloc: Global,
+    shards: &Shards<u64, Loaded, Of<N>>,
+    entries: u32,
+) -> Result<(Pass<u64, Loaded, Of<N>>, Lead<u64, Loaded>), Fault> {
+    let mut pass = shards.pass(rt, alloc)?;
+    match filled(rt, alloc, shards, &mut pass, entries) {
+        Ok(lead) => Ok((pass, lead)),
+        Err(fault) => Err(fault),
+    }
+}
+
+// Posts a load to the line, and closes the line.
+fn post<R: Wait>(
+    rt: &R,
+    line: &JobLine<u64, Loaded>,
+    lead: Lead<u64, Loaded>,
+) -> Result<(), Fault> {
+    let mut hand = line.pass(rt)?;
+    let posted = line.post(rt, &mut hand, lead);
+    line.close(rt);
+    if posted.is_err() {
+        return Err(Fault::LineFull);
+    }
+    Ok(())
+}
+
+// A worker runs what the line has.
+fn works<N: Names, R: Wait>(
+    rt: &R,
+    alloc: Global,
+    cache: &LoadingCache<u64, Loaded, Heavily, Of<N>>,
+    pass: &mut Pass<u64, Loaded, Of<N>>,
+) -> Result<WorkerReport, Fault> {
+    let Some(line) = cache.line() else {
+        return Err(Fault::LineClosed);
+    };
+    let mut notices = Notices::new(alloc, cache.entries() as usize)?;
+    let mut hand = line.pass(rt)?;
+    Ok(cache.run_worker(rt, pass, &mut hand, &mut notices))
+}
+
 // As many entries weigh 2 each and, together, all that they may, until a load brings as much.
 fn drives_out<N: Names, R: Wait>(
     rt: &R,
@@ -85,20 +129,13 @@ fn drives_out<N: Names, R: Wait>(
     requires layout { N.layout ≡ record { shards = 1; config = limits.now } }
     requires blanks { AreBlanksOf N.name N.book blanks }
 {
-    let mut notices = Notices::new(alloc, limits.entries as usize)?;
     let line = JobLine::new(rt, alloc, 1)?;
-    let mut hand = line.pass(rt)?;
     let shards: Shards<u64, Loaded, Of<N>> = Shards::new(rt, alloc, blanks, limits, 1)?;
-    let mut pass = shards.pass(rt, alloc)?;
-    let lead = filled(rt, alloc, &shards, &mut pass, entries)?;
-    let posted = line.post(rt, &mut hand, lead);
-    line.close(rt);
-    if posted.is_err() {
-        return Err(Fault::LineFull);
-    }
+    let (mut pass, lead) = full(rt, alloc, &shards, entries)?;
+    post(rt, &line, lead)?;
     let weight = entries.wrapping_mul(2);
     let cache = LoadingCache::new(shards, Heavily { weight }, Some(line));
-    Ok(cache.run_worker(rt, &mut pass, &mut hand, &mut notices))
+    works(rt, alloc, &cache, &mut pass)
 }
 
 // The one place that names the ledgers of these caches.

@@ -69,6 +69,28 @@ fn gives_back<N: Names, R: Wait>(
 // back meanwhile.
 type Seen = (bool, bool, bool);
 
+// One caller holds the shard, another is lent meanwhile, and a third gives its pass back.
+fn lends_apart<N: Names + Send + Sync, R: Threads + Wait + Sync>(
+    rt: &R,
+    callers: &Lender<N>,
+    lent: &Gate,
+    held: &Gate,
+    gated: Gated,
+) -> Result<Seen, Fault> {
+    let (hit, (third, back)) = thread::join(
+        rt,
+        || holds_shard(rt, callers, lent, gated),
+        || {
+            thread::join(
+                rt,
+                || lends_third(rt, callers, lent, held),
+                || gives_back(rt, callers, lent, held),
+            )
+        },
+    );
+    Ok((hit?, third?, back?))
+}
+
 fn lend_apart<N: Names + Send + Sync, R: Threads + Wait + Sync>(
     rt: &R,
     alloc: Global,
@@ -80,23 +102,9 @@ fn lend_apart<N: Names + Send + Sync, R: Threads + Wait + Sync>(
 {
     let shut = (Gate::new(alloc)?, Gate::new(alloc)?);
     let gated = Gated::by(Arc::try_clone(&shut.0)?);
-    let held: &Gate = &shut.0;
-    let lent: &Gate = &shut.1;
     let shards: Shards<u64, Gated, Of<N>> = Shards::new(rt, alloc, blanks, limits, 1)?;
     let callers: Lender<N> = Callers::new(alloc, LoadingCache::new(shards, Freely {}, None));
-    let shared = &callers;
-    let (hit, (third, back)) = thread::join(
-        rt,
-        || holds_shard(rt, shared, lent, gated),
-        || {
-            thread::join(
-                rt,
-                || lends_third(rt, shared, lent, held),
-                || gives_back(rt, shared, lent, held),
-            )
-        },
-    );
-    Ok((hit?, third?, back?))
+    lends_apart(rt, &callers, &shut.1, &shut.0, gated)
 }
 
 #[test]

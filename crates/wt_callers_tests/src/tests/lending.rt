@@ -171,6 +171,22 @@ fn ended<N: Names, R: Wait + Abort>(
     Ok((made, steps, hits))
 }
 
+// Does with the callers what is to be done.
+fn act<N: Names + Send + Sync, R: Threads + Wait + Abort + Sync>(
+    rt: &R,
+    alloc: Global,
+    callers: &Lender<N>,
+    play: Play,
+) -> Result<(), Fault> {
+    match play {
+        Play::InARow => in_a_row(rt, callers),
+        Play::Scarce => scarce(rt, alloc, callers),
+        Play::AtOnce(threads) => all_at_once(rt, alloc, callers, threads),
+        Play::Beside => beside(rt, alloc, callers),
+        Play::Refused => refused(rt, callers),
+    }
+}
+
 // Plays on a cache of `count` shards.
 fn played<N: Names + Send + Sync, R: Threads + Wait + Abort + Sync>(
     rt: &R,
@@ -185,13 +201,7 @@ fn played<N: Names + Send + Sync, R: Threads + Wait + Abort + Sync>(
 {
     let shards: Shards<u64, Number, Of<N>> = Shards::new(rt, alloc, blanks, config, count)?;
     let callers: Lender<N> = Callers::new(alloc, LoadingCache::new(shards, Zeros {}, None));
-    match play {
-        Play::InARow => in_a_row(rt, &callers)?,
-        Play::Scarce => scarce(rt, alloc, &callers)?,
-        Play::AtOnce(threads) => all_at_once(rt, alloc, &callers, threads)?,
-        Play::Beside => beside(rt, alloc, &callers)?,
-        Play::Refused => refused(rt, &callers)?,
-    }
+    act(rt, alloc, &callers, play)?;
     ended(rt, alloc, callers, count)
 }
 

@@ -338,6 +338,21 @@ fn line_for<R: Wait>(
     }
 }
 
+// A pass, and what it began with.
+fn begun<N: Names, R: Wait>(
+    rt: &R,
+    alloc: Global,
+    shards: &Shards<u64, Scarce, Of<N>>,
+    who: Who,
+    left: &Left,
+) -> Result<(Pass<u64, Scarce, Of<N>>, Open), Fault> {
+    let mut pass = shards.pass(rt, alloc)?;
+    match begin(rt, alloc, shards, &mut pass, who, left) {
+        Ok(open) => Ok((pass, open)),
+        Err(fault) => Err(fault),
+    }
+}
+
 // Plays a row on a cache of `count` shards. Keys 1 and 5 are of the last one.
 fn played<N: Names, R: Wait + Abort>(
     rt: &R,
@@ -354,8 +369,7 @@ fn played<N: Names, R: Wait + Abort>(
     let theirs = Arc::try_clone(&left)?;
     let line = line_for(rt, alloc, row.0)?;
     let shards: Shards<u64, Scarce, Of<N>> = Shards::new(rt, alloc, blanks, config, count)?;
-    let mut pass = shards.pass(rt, alloc)?;
-    let open = begin(rt, alloc, &shards, &mut pass, row.0, &left)?;
+    let (mut pass, open) = begun(rt, alloc, &shards, row.0, &left)?;
     let cache: Scarcity<N> = LoadingCache::new(shards, Scarcely { left: theirs }, line);
     asked(rt, alloc, &cache, &mut pass, open, &left, row);
     Ok(())

@@ -181,7 +181,20 @@ fn looks_apart<N: Names + Send + Sync, R: Threads + Wait + Sync>(
     Ok((hit?, met?))
 }
 
-// With a gate and two passes of its own.
+// With two passes of its own.
+fn looks_by_two<N: Names + Send + Sync, R: Threads + Wait + Sync>(
+    rt: &R,
+    alloc: Global,
+    shards: &Shards<u64, Gated, Of<N>>,
+    held: u64,
+    gate: &Gate,
+    gated: Gated,
+) -> Result<(bool, bool), Fault> {
+    let (mut a, mut b) = two_passes(rt, alloc, shards)?;
+    looks_apart(rt, alloc, shards, (&mut a, &mut b), held, gate, gated)
+}
+
+// With a gate too.
 fn looks_gated<N: Names + Send + Sync, R: Threads + Wait + Sync>(
     rt: &R,
     alloc: Global,
@@ -190,8 +203,7 @@ fn looks_gated<N: Names + Send + Sync, R: Threads + Wait + Sync>(
 ) -> Result<(bool, bool), Fault> {
     let gate = Gate::new(alloc)?;
     let gated = Gated::by(Arc::try_clone(&gate)?);
-    let (mut a, mut b) = two_passes(rt, alloc, shards)?;
-    looks_apart(rt, alloc, shards, (&mut a, &mut b), held, &gate, gated)
+    looks_by_two(rt, alloc, shards, held, &gate, gated)
 }
 
 fn look_apart<N: Names + Send + Sync, R: Threads + Wait + Sync>(
@@ -319,7 +331,20 @@ fn clears_apart<N: Names + Send + Sync, R: Threads + Wait + Sync>(
     Ok((held?, cleared? && gone?))
 }
 
-// With three passes of its own.
+// With two passes of its own.
+fn clears_by_two<N: Names + Send + Sync, R: Threads + Wait + Sync>(
+    rt: &R,
+    alloc: Global,
+    shards: &Shards<u64, Gated, Of<N>>,
+    c: &mut Pass<u64, Gated, Of<N>>,
+    gate: &Gate,
+    gated: Gated,
+) -> Result<(bool, bool), Fault> {
+    let (mut a, mut b) = two_passes(rt, alloc, shards)?;
+    clears_apart(rt, alloc, shards, (&mut a, &mut b, c), gate, gated)
+}
+
+// With the third one too.
 fn clears_by_three<N: Names + Send + Sync, R: Threads + Wait + Sync>(
     rt: &R,
     alloc: Global,
@@ -327,9 +352,8 @@ fn clears_by_three<N: Names + Send + Sync, R: Threads + Wait + Sync>(
     gate: &Gate,
     gated: Gated,
 ) -> Result<(bool, bool), Fault> {
-    let (mut a, mut b) = two_passes(rt, alloc, shards)?;
     let mut c = shards.pass(rt, alloc)?;
-    clears_apart(rt, alloc, shards, (&mut a, &mut b, &mut c), gate, gated)
+    clears_by_two(rt, alloc, shards, &mut c, gate, gated)
 }
 
 fn clear_apart<N: Names + Send + Sync, R: Threads + Wait + Sync>(
