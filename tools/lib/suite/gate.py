@@ -26,7 +26,8 @@ NUMBERS = re.compile(r"^(\d+) passed, (\d+) failed", re.M)
 
 def parts_of(library):
     gate = TOP / "tools" / "gate"
-    yield Part(EDITS, [gate / "try_edits", "--empty"], TOP, 400)
+    # The edits stand on the libraries in out/rlib, which `tools/embed` builds anew if they aren't those that `rt ci` left.
+    yield Part(EDITS, [gate / "try_edits", "--empty"], TOP, 400, after=(LIBRARY,))
     yield Part("refused memory, on the proved tests and the program", python(gate / "refuse_memory"), TOP, 60)
     yield Part("the program beside the model", python(gate / "check_program"), TOP, 40)
     yield Part("the scenarios beside the model", python(gate / "check_scenarios"), TOP, 10)
