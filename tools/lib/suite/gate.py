@@ -14,7 +14,7 @@ from pathlib import Path
 LIB = Path(__file__).resolve().parent.parent
 sys.path.insert(0, str(LIB))
 
-from places import TOP
+from places import CRATES, TOP
 from suite.all_parts import LANGUAGES, python
 from suite.lanes import Lanes
 from suite.part import AT_WORK, FAILED, Part
@@ -26,8 +26,9 @@ NUMBERS = re.compile(r"^(\d+) passed, (\d+) failed", re.M)
 
 def parts_of(library):
     gate = TOP / "tools" / "gate"
-    # The edits stand on the libraries in out/rlib, which `tools/embed` builds anew if they aren't those that `rt ci` left.
-    yield Part(EDITS, [gate / "try_edits", "--empty"], TOP, 400, after=(LIBRARY,))
+    # Libraries with a stamp are a session's own, which `rt ci` put back. `tools/embed` may build them anew, and edits stand on them.
+    is_own = any(CRATES.glob("*/out/rlib/stamp"))
+    yield Part(EDITS, [gate / "try_edits", "--empty"], TOP, 400, after=(LIBRARY,) if is_own else ())
     yield Part("refused memory, on the proved tests and the program", python(gate / "refuse_memory"), TOP, 60)
     yield Part("the program beside the model", python(gate / "check_program"), TOP, 40)
     yield Part("the scenarios beside the model", python(gate / "check_scenarios"), TOP, 10)
