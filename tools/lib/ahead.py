@@ -38,6 +38,17 @@ def started(command, into):
         child.wait()
 
 
+def status_of(command):
+    """Runs a command in this program's own group. If this program is ended, so is the command, which ends what it began."""
+    child = subprocess.Popen(command)
+    try:
+        return child.wait()
+    except SystemExit:
+        child.terminate()
+        child.wait()
+        raise
+
+
 def follow(child, said, is_met):
     """Keeps a run's lines, up to the first that is met."""
     for line in child.stdout:
@@ -54,7 +65,7 @@ def behind_two(command):
         follow(first, said, lambda line: line.startswith(IS_BEGUN))
         both.enter_context(started(SECOND, log))
         follow(first, said, lambda line: False)
-        status = subprocess.call(command)
+        status = status_of(command)
         both.close()
         log.seek(0)
         return status, "".join(said) + log.read()
@@ -69,7 +80,7 @@ def main():
         print("ahead.py: it takes COMMAND..; `ahead.py --help` tells more", file=sys.stderr)
         return 2
     if len(os.sched_getaffinity(0)) < 4 or os.environ.get("CI") == "true":
-        return subprocess.call(command)
+        os.execvp(command[0], command)
     for number in (signal.SIGTERM, signal.SIGHUP, signal.SIGINT):
         signal.signal(number, stop)
     status, said = behind_two(command)
