@@ -224,8 +224,8 @@ pub(crate) fn run_thread<K: TraceKey, B: Books, G: Gate, R: Wait>(
 
 // Runs loads until the line of loads is closed and empty.
 //
-// All that can be refused comes before the line is told to be manned, so that a manned line is
-// served to its end.
+// It makes everything that can be refused before it sets `manned`, so that a manned line is served
+// to its end.
 fn man<K: TraceKey, B: Books, R: Wait>(
     rt: &R,
     alloc: Global,
