@@ -4,20 +4,19 @@ mod beside_core;
 mod books;
 mod caller;
 mod compare;
-mod in_turn;
 mod loads;
 mod plain;
 mod refusals;
 mod ring;
 mod run;
+mod scene;
 mod settling;
 mod soak;
 
-use std::alloc::Global;
-use std::sync::Wait;
+use caller::Answer;
 use wt_core::{Call, Config, Land, Reply};
 use wt_keys::Fault;
-use wt_shards::{Books, Noted, Pass, Shade, Shards, Value};
+use wt_shards::{Noted, Shade};
 use wt_tests::{Do, Loaded, Said, comparable};
 
 // A reply or a fault, which can be compared.
@@ -42,17 +41,12 @@ fn config(bound: u64) -> Config {
     }
 }
 
-type Passes<V, B> = (Pass<u64, V, B>, Pass<u64, V, B>);
-
-// Two passes, made here so that whoever makes them has one exit at which it drops neither.
-fn two_passes<V: Value<u64>, B: Books, R: Wait>(
-    rt: &R,
-    alloc: Global,
-    shards: &Shards<u64, V, B>,
-) -> Result<Passes<V, B>, Fault> {
-    let a = shards.pass(rt, alloc)?;
-    let b = shards.pass(rt, alloc)?;
-    Ok((a, b))
+// A caller's answer, which can be compared, and its number, or 0.
+fn said(answer: Answer<Loaded>) -> (Said, u64) {
+    match answer {
+        Ok((reply, step)) => (comparable(reply), step),
+        Err(fault) => (Said::Refused(fault), 0),
+    }
 }
 
 // The outline of a call: a shade in place of its value.

@@ -1,384 +1,293 @@
-// Shards have locks of their own: while a look holds one of four shards, each call at each other one
-// goes on, and a clear that waits for it holds no other.
+// Shards have locks of their own: while a look holds one of four shards, and a call that takes each
+// shard's lock in turn waits for it, each call at each other shard goes on.
 ghost use Rattle.std.specs.Prelude.{◌≡◌};
 ghost use Rattle.wt_shards.specs.Opening.{AreBlanksOf};
 
+use super::caller::Caller;
 use super::compare::same;
-use super::{config, two_passes};
+use super::config;
 use std::alloc::Global;
 use std::marker::Brand;
+use std::process::Abort;
+use std::sync::atomic::{AtomicBool, AtomicU64, Ordering};
 use std::sync::{Arc, Wait};
 use std::test::Fail;
 use std::thread;
 use std::thread::Threads;
-use wt_core::{Config, Land, Notices, Reply};
-use wt_flights::Lead;
+use wt_core::{Call, Config, Land, Reply};
 use wt_keys::Fault;
-use wt_shards::{Blanks, Books, Names, Of, Pass, Shards, Sought};
+use wt_shards::{Blanks, Names, Of, Shards};
 use wt_tests::{Gate, Gated};
 
 // The key of each of four shards, from the first to the last.
-pub(super) const KEYS: [u64; 4] = [4, 3, 2, 1];
+const KEYS: [u64; 4] = [4, 3, 2, 1];
 
-pub(super) fn is_hit<B: Books, R: Wait>(
-    rt: &R,
-    alloc: Global,
-    shards: &Shards<u64, Gated, B>,
-    pass: &mut Pass<u64, Gated, B>,
-    key: u64,
-) -> Result<bool, Fault> {
-    let mut notices = Notices::new(alloc, shards.entries() as usize)?;
-    match shards.look(rt, pass, key, 0, &mut notices) {
-        Ok(done) => match done.reply {
-            Reply::Hit(_) => Ok(true),
-            _ => Ok(false),
-        },
-        Err(fault) => Err(fault),
+// The calls that take each shard's lock.
+#[derive(Clone, Copy, Debug, PartialEq, Eq)]
+enum Round {
+    Clear,
+    Clean,
+    Pass,
+    Stats,
+}
+
+// The calls on a key.
+#[derive(Clone, Copy)]
+enum Act {
+    Put,
+    Look,
+    Drop,
+    Seek,
+    Forget,
+    Land,
+}
+
+const ACTS: [Act; 6] = [
+    Act::Put,
+    Act::Look,
+    Act::Drop,
+    Act::Seek,
+    Act::Forget,
+    Act::Land,
+];
+
+// The call on a key, whose load has this number.
+fn call_of(act: Act, key: u64, id: u64) -> Call<u64, Gated> {
+    match act {
+        Act::Put => Call::Put(key, Gated::free(), 0),
+        Act::Look => Call::Look(key, 0),
+        Act::Drop => Call::DropKey(key, 0),
+        Act::Seek => Call::Seek(key, 0),
+        Act::Forget => Call::Forget(key, 0),
+        Act::Land => Call::Land(id, key, Land::Failed, 0),
     }
 }
 
-pub(super) fn put<B: Books, R: Wait>(
-    rt: &R,
-    alloc: Global,
-    shards: &Shards<u64, Gated, B>,
-    pass: &mut Pass<u64, Gated, B>,
-    key: u64,
-    value: Gated,
-) -> Result<(), Fault> {
-    let mut notices = Notices::new(alloc, shards.entries() as usize)?;
-    match shards.put(rt, pass, key, value, 0, &mut notices) {
-        Ok(_) => Ok(()),
-        Err(fault) => Err(fault),
-    }
-}
+// The shards, and a caller of them.
+type Gates<N> = Shards<u64, Gated, Of<N>>;
 
-fn drops<B: Books, R: Wait>(
-    rt: &R,
-    alloc: Global,
-    shards: &Shards<u64, Gated, B>,
-    pass: &mut Pass<u64, Gated, B>,
-    key: u64,
-) -> Result<bool, Fault> {
-    let mut notices = Notices::new(alloc, shards.entries() as usize)?;
-    let done = shards.drop_key(rt, pass, key, 0, &mut notices)?;
-    Ok(done.reply)
-}
+type Guest<N> = Caller<Gated, Of<N>>;
 
-fn seek<B: Books, R: Wait>(
-    rt: &R,
-    alloc: Global,
-    shards: &Shards<u64, Gated, B>,
-    pass: &mut Pass<u64, Gated, B>,
-    key: u64,
-) -> Result<Sought<u64, Gated>, Fault> {
-    let mut notices = Notices::new(alloc, shards.entries() as usize)?;
-    let done = shards.seek(rt, pass, key, 0, &mut notices)?;
-    Ok(done.reply)
-}
-
-fn joins<B: Books, R: Wait>(
-    rt: &R,
-    alloc: Global,
-    shards: &Shards<u64, Gated, B>,
-    pass: &mut Pass<u64, Gated, B>,
-    key: u64,
-) -> Result<bool, Fault> {
-    Ok(matches!(seek(rt, alloc, shards, pass, key)?, Sought::Join(_)))
-}
-
-fn forgets<B: Books, R: Wait>(
-    rt: &R,
-    alloc: Global,
-    shards: &Shards<u64, Gated, B>,
-    pass: &mut Pass<u64, Gated, B>,
-    key: u64,
-) -> Result<bool, Fault> {
-    let mut notices = Notices::new(alloc, shards.entries() as usize)?;
-    let done = shards.forget(rt, pass, key, 0, &mut notices)?;
-    Ok(done.reply)
-}
-
-// Whether the load fails for two.
-fn fails<B: Books, R: Wait>(
-    rt: &R,
-    alloc: Global,
-    shards: &Shards<u64, Gated, B>,
-    pass: &mut Pass<u64, Gated, B>,
-    lead: &Lead<u64, Gated>,
-) -> Result<bool, Fault> {
-    let mut notices = Notices::new(alloc, shards.entries() as usize)?;
-    let done = shards.land(rt, pass, lead, Land::Failed, 0, &mut notices)?;
-    Ok(matches!(done.reply, Reply::Failed(2)))
-}
-
-// Whether each call on a key that isn't there meets what it is to meet.
-fn calls_meet<B: Books, R: Wait>(
-    rt: &R,
-    alloc: Global,
-    shards: &Shards<u64, Gated, B>,
-    pass: &mut Pass<u64, Gated, B>,
-    key: u64,
-) -> Result<bool, Fault> {
-    put(rt, alloc, shards, pass, key, Gated::free())?;
-    let hit = is_hit(rt, alloc, shards, pass, key)?;
-    let dropped = drops(rt, alloc, shards, pass, key)?;
-    let Sought::Lead(lead, _ticket) = seek(rt, alloc, shards, pass, key)? else {
-        return Ok(false);
-    };
-    let joined = joins(rt, alloc, shards, pass, key)?;
-    let forgot = forgets(rt, alloc, shards, pass, key)?;
-    let failed = fails(rt, alloc, shards, pass, &lead)?;
-    Ok(hit && dropped && joined && forgot && failed)
-}
-
-// Whether each call at each shard but that of the held key meets what it is to meet.
-fn others_meet<B: Books, R: Wait>(
-    rt: &R,
-    alloc: Global,
-    shards: &Shards<u64, Gated, B>,
-    pass: &mut Pass<u64, Gated, B>,
+// Which shard is held, by its key, and the call that goes from shard to shard; and what the threads
+// tell each other.
+#[derive(Drop)]
+struct Scene {
     held: u64,
+    round: Round,
+    gate: Arc<Gate, Global>,
+    // How many callers were made beside the one that holds the shard.
+    made: AtomicU64,
+    // Whether the call that goes from shard to shard was begun.
+    begun: AtomicBool,
+}
+
+// Returns whether both other callers are made within 10,000,000 turns.
+fn are_made(scene: &Scene) -> bool {
+    for _ in 0..10_000_000u32 {
+        if scene.made.load(Ordering::SeqCst) == 2 {
+            return true;
+        }
+        thread::yield_now();
+    }
+    false
+}
+
+// Puts a gated value, and looks it up. Whether it is there.
+fn looks<N: Names, R: Wait + Abort>(
+    rt: &R,
+    shards: &Gates<N>,
+    caller: &mut Guest<N>,
+    scene: &Scene,
+    gated: Gated,
 ) -> Result<bool, Fault> {
-    for key in KEYS {
-        if key != held && !calls_meet(rt, alloc, shards, pass, key)? {
-            return Ok(false);
+    caller.make(rt, shards, Call::Put(scene.held, gated, 0))?;
+    let made = are_made(scene);
+    let (reply, _step) = caller.make(rt, shards, Call::Look(scene.held, 0))?;
+    Ok(made && matches!(reply, Reply::Hit(_)))
+}
+
+// The first thread: holds the shard of the held key until the gate opens.
+fn holds_one<N: Names, R: Wait + Abort>(
+    rt: &R,
+    alloc: Global,
+    shards: &Gates<N>,
+    scene: &Scene,
+) -> Result<bool, Fault> {
+    let gated = Gated::by(Arc::try_clone(&scene.gate)?);
+    let mut caller = Caller::new(rt, alloc, shards)?;
+    looks(rt, shards, &mut caller, scene, gated)
+}
+
+// Makes the call that goes from shard to shard once the shard is held. Whether it was.
+fn goes<N: Names, R: Wait + Abort>(
+    rt: &R,
+    alloc: Global,
+    shards: &Gates<N>,
+    caller: &mut Guest<N>,
+    scene: &Scene,
+) -> Result<bool, Fault> {
+    let held = scene.gate.begins();
+    scene.begun.store(true, Ordering::SeqCst);
+    match scene.round {
+        Round::Clear => {
+            let _answer = caller.make(rt, shards, Call::Clear(0))?;
+        }
+        Round::Clean => {
+            let _answer = caller.make(rt, shards, Call::Clean(0))?;
+        }
+        Round::Pass => {
+            let _pass = shards.pass(rt, alloc)?;
+        }
+        Round::Stats => {
+            let _stats = shards.stats(rt);
         }
     }
-    Ok(true)
+    Ok(held)
 }
 
-// Makes each call at the other shards once the gate is reached, and then opens it.
-fn calls_beside<B: Books, R: Wait>(
+// The second thread: makes that call.
+fn goes_round<N: Names, R: Wait + Abort>(
     rt: &R,
     alloc: Global,
-    shards: &Shards<u64, Gated, B>,
-    pass: &mut Pass<u64, Gated, B>,
-    held: u64,
-    gate: &Gate,
+    shards: &Gates<N>,
+    scene: &Scene,
 ) -> Result<bool, Fault> {
-    let begun = gate.begins();
-    let met = others_meet(rt, alloc, shards, pass, held);
-    gate.open();
-    Ok(begun && met?)
+    let mut caller = Caller::new(rt, alloc, shards)?;
+    scene.made.fetch_add(1, Ordering::SeqCst);
+    goes(rt, alloc, shards, &mut caller, scene)
 }
 
-// A look holds the shard of its key beside the calls at the others.
-fn looks_apart<N: Names + Send + Sync, R: Threads + Wait + Sync>(
+// Makes each call on a key. Their replies are dropped: a clear may be beside them.
+fn calls_all<N: Names, R: Wait + Abort>(
     rt: &R,
-    alloc: Global,
-    shards: &Shards<u64, Gated, Of<N>>,
-    (a, b): (&mut Pass<u64, Gated, Of<N>>, &mut Pass<u64, Gated, Of<N>>),
-    held: u64,
-    gate: &Gate,
-    gated: Gated,
-) -> Result<(bool, bool), Fault> {
-    put(rt, alloc, shards, a, held, gated)?;
-    let (hit, met) = thread::join(
-        rt,
-        || is_hit(rt, alloc, shards, a, held),
-        || calls_beside(rt, alloc, shards, b, held, gate),
-    );
-    Ok((hit?, met?))
-}
-
-// With two passes of its own.
-fn looks_by_two<N: Names + Send + Sync, R: Threads + Wait + Sync>(
-    rt: &R,
-    alloc: Global,
-    shards: &Shards<u64, Gated, Of<N>>,
-    held: u64,
-    gate: &Gate,
-    gated: Gated,
-) -> Result<(bool, bool), Fault> {
-    let (mut a, mut b) = two_passes(rt, alloc, shards)?;
-    looks_apart(rt, alloc, shards, (&mut a, &mut b), held, gate, gated)
-}
-
-// With a gate too.
-fn looks_gated<N: Names + Send + Sync, R: Threads + Wait + Sync>(
-    rt: &R,
-    alloc: Global,
-    shards: &Shards<u64, Gated, Of<N>>,
-    held: u64,
-) -> Result<(bool, bool), Fault> {
-    let gate = Gate::new(alloc)?;
-    let gated = Gated::by(Arc::try_clone(&gate)?);
-    looks_by_two(rt, alloc, shards, held, &gate, gated)
-}
-
-fn look_apart<N: Names + Send + Sync, R: Threads + Wait + Sync>(
-    rt: &R,
-    alloc: Global,
-    blanks: Blanks<u64, Gated>,
-    limits: &Config,
-    held: u64,
-) -> Result<(bool, bool), Fault>
-    requires layout { N.layout ≡ record { shards = 4; config = limits.now } }
-    requires blanks { AreBlanksOf N.name N.book blanks }
-{
-    let shards: Shards<u64, Gated, Of<N>> = Shards::new(rt, alloc, blanks, limits, 4)?;
-    looks_gated(rt, alloc, &shards, held)
-}
-
-// The one place that names the ledgers of these shards.
-fn look_apart_at<R: Threads + Wait + Sync>(
-    rt: &R,
-    alloc: Global,
-    limits: &Config,
-    held: u64,
-) -> Result<(bool, bool), Fault> {
-    look_apart::<Brand, R>(rt, alloc, Blanks::new(), limits, held)
-}
-
-#[test]
-fn shards_have_locks_of_their_own(rt: HostRuntime) -> Result<(), Fail> {
-    for held in KEYS {
-        let seen = look_apart_at(&rt, rt.alloc(), &config(1000), held);
-        same(
-            &rt,
-            "the key at the held shard, the hit there, and the calls at the others",
-            (held, seen),
-            (held, Ok((true, true))),
-        );
+    shards: &Gates<N>,
+    caller: &mut Guest<N>,
+    key: u64,
+) -> Result<(), Fault> {
+    for act in ACTS {
+        let id = caller.led(key).unwrap_or(0);
+        let _answer = caller.make(rt, shards, call_of(act, key, id))?;
     }
     Ok(())
 }
 
-// Takes out all that is in the four shards.
-pub(super) fn clear<B: Books, R: Wait>(
+// Makes each call at each shard but that of the held key.
+fn calls_round<N: Names, R: Wait + Abort>(
     rt: &R,
-    alloc: Global,
-    shards: &Shards<u64, Gated, B>,
-    pass: &mut Pass<u64, Gated, B>,
+    shards: &Gates<N>,
+    caller: &mut Guest<N>,
+    held: u64,
 ) -> Result<(), Fault> {
-    let count = shards.shards();
-    if count > 4 {
-        return Err(Fault::Mixed);
+    for key in KEYS {
+        if key != held {
+            calls_all(rt, shards, caller, key)?;
+        }
     }
-    let mut notices = Notices::new(alloc, count * shards.entries() as usize)?;
-    shards.clear(rt, pass, 0, &mut notices)
+    Ok(())
 }
 
-// Returns whether the key's entry leaves within 10,000,000 turns.
-fn leaves<B: Books, R: Wait>(
+// The same 1,000 times, from when the call that goes from shard to shard was begun.
+fn calls_beside<N: Names, R: Wait + Abort>(
     rt: &R,
-    alloc: Global,
-    shards: &Shards<u64, Gated, B>,
-    pass: &mut Pass<u64, Gated, B>,
-    key: u64,
+    shards: &Gates<N>,
+    caller: &mut Guest<N>,
+    scene: &Scene,
 ) -> Result<bool, Fault> {
+    let mut turns = 0u32;
     for _ in 0..10_000_000u32 {
-        if !is_hit(rt, alloc, shards, pass, key)? {
+        if turns == 1_000 {
             return Ok(true);
+        }
+        if scene.begun.load(Ordering::SeqCst) {
+            calls_round(rt, shards, caller, scene.held)?;
+            turns = turns.wrapping_add(1);
         }
         thread::yield_now();
     }
     Ok(false)
 }
 
-// Clears once the gate is reached. Whether it was.
-fn clears<B: Books, R: Wait>(
+// The third thread: opens the gate once the calls at the other shards are made. Whether they were.
+fn opens_after<N: Names, R: Wait + Abort>(
     rt: &R,
     alloc: Global,
-    shards: &Shards<u64, Gated, B>,
-    pass: &mut Pass<u64, Gated, B>,
-    gate: &Gate,
+    shards: &Gates<N>,
+    scene: &Scene,
 ) -> Result<bool, Fault> {
-    let begun = gate.begins();
-    clear(rt, alloc, shards, pass)?;
-    Ok(begun)
+    let mut caller = Caller::new(rt, alloc, shards)?;
+    scene.made.fetch_add(1, Ordering::SeqCst);
+    let called = calls_beside(rt, shards, &mut caller, scene);
+    scene.gate.open();
+    called
 }
 
-// Opens the gate once key 2 has left. Whether it did.
-fn opens<B: Books, R: Wait>(
-    rt: &R,
-    alloc: Global,
-    shards: &Shards<u64, Gated, B>,
-    pass: &mut Pass<u64, Gated, B>,
-    gate: &Gate,
-) -> Result<bool, Fault> {
-    let gone = leaves(rt, alloc, shards, pass, 2);
-    gate.open();
-    gone
-}
+// Whether the look that holds a shard hits, the call beside it is made, and so are the calls at the
+// other shards.
+type Seen = (bool, bool, bool);
 
-// Of four shards key 1 is of the last, and key 2 of the one before it.
-fn clears_apart<N: Names + Send + Sync, R: Threads + Wait + Sync>(
+fn plays<N: Names + Send + Sync, R: Threads + Wait + Abort + Sync>(
     rt: &R,
     alloc: Global,
-    shards: &Shards<u64, Gated, Of<N>>,
-    (a, b, c): (
-        &mut Pass<u64, Gated, Of<N>>,
-        &mut Pass<u64, Gated, Of<N>>,
-        &mut Pass<u64, Gated, Of<N>>,
-    ),
-    gate: &Gate,
-    gated: Gated,
-) -> Result<(bool, bool), Fault> {
-    put(rt, alloc, shards, a, 1, gated)?;
-    put(rt, alloc, shards, a, 2, Gated::free())?;
-    let (held, (cleared, gone)) = thread::join(
+    shards: &Gates<N>,
+    scene: &Scene,
+) -> Result<Seen, Fault> {
+    let (hit, (made, called)) = thread::join(
         rt,
-        || is_hit(rt, alloc, shards, a, 1),
+        || holds_one(rt, alloc, shards, scene),
         || {
             thread::join(
                 rt,
-                || clears(rt, alloc, shards, b, gate),
-                || opens(rt, alloc, shards, c, gate),
+                || goes_round(rt, alloc, shards, scene),
+                || opens_after(rt, alloc, shards, scene),
             )
         },
     );
-    Ok((held?, cleared? && gone?))
+    Ok((hit?, made?, called?))
 }
 
-// With two passes of its own.
-fn clears_by_two<N: Names + Send + Sync, R: Threads + Wait + Sync>(
-    rt: &R,
-    alloc: Global,
-    shards: &Shards<u64, Gated, Of<N>>,
-    c: &mut Pass<u64, Gated, Of<N>>,
-    gate: &Gate,
-    gated: Gated,
-) -> Result<(bool, bool), Fault> {
-    let (mut a, mut b) = two_passes(rt, alloc, shards)?;
-    clears_apart(rt, alloc, shards, (&mut a, &mut b, c), gate, gated)
-}
-
-// With the third one too.
-fn clears_by_three<N: Names + Send + Sync, R: Threads + Wait + Sync>(
-    rt: &R,
-    alloc: Global,
-    shards: &Shards<u64, Gated, Of<N>>,
-    gate: &Gate,
-    gated: Gated,
-) -> Result<(bool, bool), Fault> {
-    let mut c = shards.pass(rt, alloc)?;
-    clears_by_two(rt, alloc, shards, &mut c, gate, gated)
-}
-
-fn clear_apart<N: Names + Send + Sync, R: Threads + Wait + Sync>(
+fn played<N: Names + Send + Sync, R: Threads + Wait + Abort + Sync>(
     rt: &R,
     alloc: Global,
     blanks: Blanks<u64, Gated>,
     limits: &Config,
-) -> Result<(bool, bool), Fault>
+    scene: &Scene,
+) -> Result<Seen, Fault>
     requires layout { N.layout ≡ record { shards = 4; config = limits.now } }
     requires blanks { AreBlanksOf N.name N.book blanks }
 {
-    let gate = Gate::new(alloc)?;
-    let gated = Gated::by(Arc::try_clone(&gate)?);
-    let shards: Shards<u64, Gated, Of<N>> = Shards::new(rt, alloc, blanks, limits, 4)?;
-    clears_by_three(rt, alloc, &shards, &gate, gated)
+    let shards: Gates<N> = Shards::new(rt, alloc, blanks, limits, 4)?;
+    plays(rt, alloc, &shards, scene)
+}
+
+// The one place that names the ledgers of these shards.
+fn plays_at<R: Threads + Wait + Abort + Sync>(
+    rt: &R,
+    alloc: Global,
+    limits: &Config,
+    scene: &Scene,
+) -> Result<Seen, Fault> {
+    played::<Brand, R>(rt, alloc, Blanks::new(), limits, scene)
 }
 
 #[test]
-fn a_clear_holds_one_lock_at_a_time(rt: HostRuntime) -> Result<(), Fail> {
-    let seen = clear_apart::<Brand, HostRuntime>(&rt, rt.alloc(), Blanks::new(), &config(1000));
-    same(
-        &rt,
-        "the hit at one shard, and the clear beside it",
-        seen,
-        Ok((true, true)),
-    );
+fn a_call_that_waits_for_a_shard_holds_no_other(rt: HostRuntime) -> Result<(), Fail> {
+    for round in [Round::Clear, Round::Clean, Round::Pass, Round::Stats] {
+        for held in KEYS {
+            let scene = Scene {
+                held,
+                round,
+                gate: Gate::new(rt.alloc())?,
+                made: AtomicU64::new(0),
+                begun: AtomicBool::new(false),
+            };
+            let seen = plays_at(&rt, rt.alloc(), &config(1000), &scene);
+            same(
+                &rt,
+                "the call, the key at the held shard; the hit, the call and those at the others",
+                (round, held, seen),
+                (round, held, Ok((true, true, true))),
+            );
+        }
+    }
     Ok(())
 }

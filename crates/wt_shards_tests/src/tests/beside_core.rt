@@ -1,19 +1,16 @@
 // The shard beside a cache that isn't audited, run on the same calls; and at the end its records,
 // run on a cache of shades that made the steps before them.
-ghost use Rattle.std.specs.Prelude.{◌≡◌};
-ghost use Rattle.wt_shards.specs.Opening.{AreBlanksOf};
-
 use super::compare::{holds, same};
 use super::plain::Plain;
 use super::run::{Run, keys_of};
+use super::scene::{Scene, plays};
 use super::{answered, shaded};
 use std::alloc::Global;
-use std::marker::Brand;
 use std::process::Abort;
 use std::test::Fail;
 use wt_core::Config;
 use wt_keys::{Fault, NoMemory};
-use wt_shards::{Blanks, Names, Noted, Shade};
+use wt_shards::{Names, Noted, Shade};
 use wt_tests::{Dice, Loaded, call_of, choose};
 
 // The shard may answer the fault alone where the cache answers `Refused`. A step is added to those
@@ -179,31 +176,24 @@ fn make_all<N: Names>(
     made
 }
 
-// Plays the calls on the shard and on a plain cache beside it.
-fn play_beside<N: Names>(
-    rt: &impl Abort,
-    alloc: Global,
-    limits: &Config,
-    run: &mut Run<Loaded, N>,
+// Calls on so many keys, on the shard and on a plain cache beside it.
+#[derive(Drop)]
+struct Beside {
     keys: u64,
-) -> Result<(), Fault> {
-    let mut plain = Plain::new(alloc, limits)?;
-    let made = make_all(rt, alloc, run, &mut plain, keys);
-    expect_outline(rt, alloc, limits, run, &plain, made)
 }
 
-fn play<N: Names>(
-    rt: &impl Abort,
-    alloc: Global,
-    blanks: Blanks<u64, Loaded>,
-    limits: &Config,
-    keys: u64,
-) -> Result<(), Fault>
-    requires layout { N.layout ≡ record { shards = 1; config = limits.now } }
-    requires blanks { AreBlanksOf N.name N.book blanks }
-{
-    let mut run: Run<Loaded, N> = Run::new(alloc, limits, blanks)?;
-    play_beside(rt, alloc, limits, &mut run, keys)
+impl Scene<Loaded> for Beside {
+    fn play<N: Names, R: Abort>(
+        &self,
+        rt: &R,
+        alloc: Global,
+        limits: &Config,
+        run: &mut Run<Loaded, N>,
+    ) -> Result<(), Fault> {
+        let mut plain = Plain::new(alloc, limits)?;
+        let made = make_all(rt, alloc, run, &mut plain, self.keys);
+        expect_outline(rt, alloc, limits, run, &plain, made)
+    }
 }
 
 #[test]
@@ -214,7 +204,7 @@ fn the_shard_does_as_its_cache_does(rt: HostRuntime) -> Result<(), Fail> {
         (limits(8, 1000, 4, 40), 12),
     ];
     for (limits, keys) in tables {
-        play::<Brand>(&rt, rt.alloc(), Blanks::new(), &limits, keys)?;
+        plays(&rt, rt.alloc(), &limits, &Beside { keys })?;
     }
     Ok(())
 }

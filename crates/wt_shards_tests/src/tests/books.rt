@@ -5,6 +5,7 @@ ghost use Rattle.wt_shards.specs.Opening.{AreBlanksOf};
 use super::compare::{holds, same};
 use super::config;
 use super::run::Run;
+use super::scene::{Scene, plays};
 use std::alloc::Global;
 use std::marker::Brand;
 use std::process::Abort;
@@ -42,24 +43,35 @@ fn spend_shares<N: Names>(rt: &impl Abort, run: &mut Run<Loaded, N>) {
     );
 }
 
-fn take_all<N: Names>(
-    rt: &impl Abort,
-    alloc: Global,
-    blanks: Blanks<u64, Loaded>,
-    limits: &Config,
-) -> Result<(), Fault>
-    requires layout { N.layout ≡ record { shards = 1; config = limits.now } }
-    requires blanks { AreBlanksOf N.name N.book blanks }
-{
-    let mut run: Run<Loaded, N> = Run::new(alloc, limits, blanks)?;
-    spend_shares(rt, &mut run);
-    Ok(())
+#[derive(Drop)]
+struct Spent {}
+
+impl Scene<Loaded> for Spent {
+    fn play<N: Names, R: Abort>(
+        &self,
+        rt: &R,
+        _alloc: Global,
+        _limits: &Config,
+        run: &mut Run<Loaded, N>,
+    ) -> Result<(), Fault> {
+        spend_shares(rt, run);
+        Ok(())
+    }
 }
 
 #[test]
 fn shares_are_spent_after_65535(rt: HostRuntime) -> Result<(), Fail> {
-    take_all::<Brand>(&rt, rt.alloc(), Blanks::new(), &config(1000))?;
+    plays(&rt, rt.alloc(), &config(1000), &Spent {})?;
     Ok(())
+}
+
+// The fault by which a further pass is refused.
+fn refused<N: Names, R: Wait>(
+    rt: &R,
+    alloc: Global,
+    shards: &Shards<u64, Loaded, Of<N>>,
+) -> Option<Fault> {
+    shards.pass(rt, alloc).err()
 }
 
 fn spend_passes<N: Names, R: Wait + Abort>(
@@ -68,12 +80,12 @@ fn spend_passes<N: Names, R: Wait + Abort>(
     shards: &Shards<u64, Loaded, Of<N>>,
 ) {
     for _ in 0..65_535 {
-        holds(rt, "a pass is given", shards.pass(rt, alloc).is_ok());
+        same(rt, "a pass is given", refused(rt, alloc, shards), None);
     }
     same(
         rt,
         "the fault once all passes are given",
-        shards.pass(rt, alloc).err(),
+        refused(rt, alloc, shards),
         Some(Fault::PassesSpent),
     );
 }

@@ -1,20 +1,18 @@
 // What becomes of a load: all that share it read its outcome, which goes with the last of them.
-ghost use Rattle.std.specs.Prelude.{◌≡◌};
-ghost use Rattle.wt_shards.specs.Opening.{AreBlanksOf};
-
 use super::compare::same;
 use super::run::Run;
+use super::scene::{Scene, plays};
 use super::{answered, config};
 use std::alloc::Global;
 use std::cell::Cell;
-use std::marker::{Brand, Model};
+use std::marker::Model;
 use std::process::Abort;
 use std::rc::Rc;
 use std::test::Fail;
 use wt_core::{Config, Land};
 use wt_flights::{Lead, Outcome, Publish, Ticket};
 use wt_keys::Fault;
-use wt_shards::{Blanks, Names, Sought};
+use wt_shards::{Names, Sought};
 use wt_tests::{Do, Fussy, Loaded, Said, call_of, counter, light};
 
 // The leads and tickets that seeks answered, in this order.
@@ -137,65 +135,52 @@ fn publish(rt: &impl Abort, lead: Lead<u64, Loaded>, value: Loaded) -> Ticket<u6
     }
 }
 
-fn tell_all<N: Names>(
-    rt: &impl Abort,
-    run: &mut Run<Loaded, N>,
-    loads: &mut Loads,
-    rows: &[(Act, u64, u64, Told)],
-) {
-    for (act, key, now, told) in rows {
-        let heard = tell(rt, run, loads, (*act, *key, *now));
-        same(rt, "what a row tells", heard, Ok(*told));
-    }
+// What is done to key 7 at a moment, and what is told of it.
+fn rows() -> [(Act, u64, Told); 13] {
+    let value = light(5);
+    let (keep, drop_key) = (Act::Step(Do::Keep(1, value)), Act::Step(Do::DropKey));
+    [
+        (Act::Seek, 3, Told::Lead(1, 7, 3)),
+        (Act::Seek, 4, Told::Join(1, 7)),
+        (Act::Poll(1), 4, Told::Nothing),
+        (keep, 3, Told::Step(Said::Kept(2))),
+        // The landing is no publish.
+        (Act::Poll(1), 4, Told::Nothing),
+        (Act::Publish(value), 4, Told::Published),
+        (Act::Poll(0), 4, Told::Value(value)),
+        (Act::Poll(1), 4, Told::Value(value)),
+        (Act::Poll(2), 4, Told::Value(value)),
+        // A later load has an outcome of its own.
+        (drop_key, 5, Told::Step(Said::Dropped(true))),
+        (Act::Seek, 6, Told::Lead(2, 7, 6)),
+        (Act::Poll(3), 6, Told::Nothing),
+        (Act::Poll(1), 6, Told::Value(value)),
+    ]
 }
 
-fn share_a_load<N: Names>(
-    rt: &impl Abort,
-    alloc: Global,
-    blanks: Blanks<u64, Loaded>,
-    limits: &Config,
-    rows: &[(Act, u64, u64, Told)],
-) -> Result<(), Fault>
-    requires layout { N.layout ≡ record { shards = 1; config = limits.now } }
-    requires blanks { AreBlanksOf N.name N.book blanks }
-{
-    let mut loads = Loads::new(alloc);
-    let mut run: Run<Loaded, N> = Run::new(alloc, limits, blanks)?;
-    tell_all(rt, &mut run, &mut loads, rows);
-    Ok(())
+#[derive(Drop)]
+struct Shared {}
+
+impl Scene<Loaded> for Shared {
+    fn play<N: Names, R: Abort>(
+        &self,
+        rt: &R,
+        alloc: Global,
+        _limits: &Config,
+        run: &mut Run<Loaded, N>,
+    ) -> Result<(), Fault> {
+        let mut loads = Loads::new(alloc);
+        for (act, now, told) in rows() {
+            let heard = tell(rt, run, &mut loads, (act, 7, now));
+            same(rt, "what a row tells", heard, Ok(told));
+        }
+        Ok(())
+    }
 }
 
 #[test]
 fn a_join_reads_what_the_lead_publishes(rt: HostRuntime) -> Result<(), Fail> {
-    let value = light(5);
-    let rows = [
-        (Act::Seek, 7, 3, Told::Lead(1, 7, 3)),
-        (Act::Seek, 7, 4, Told::Join(1, 7)),
-        (Act::Poll(1), 7, 4, Told::Nothing),
-        (
-            Act::Step(Do::Keep(1, value)),
-            7,
-            3,
-            Told::Step(Said::Kept(2)),
-        ),
-        // The landing is no publish.
-        (Act::Poll(1), 7, 4, Told::Nothing),
-        (Act::Publish(value), 7, 4, Told::Published),
-        (Act::Poll(0), 7, 4, Told::Value(value)),
-        (Act::Poll(1), 7, 4, Told::Value(value)),
-        (Act::Poll(2), 7, 4, Told::Value(value)),
-        // A later load has an outcome of its own.
-        (
-            Act::Step(Do::DropKey),
-            7,
-            5,
-            Told::Step(Said::Dropped(true)),
-        ),
-        (Act::Seek, 7, 6, Told::Lead(2, 7, 6)),
-        (Act::Poll(3), 7, 6, Told::Nothing),
-        (Act::Poll(1), 7, 6, Told::Value(value)),
-    ];
-    share_a_load::<Brand>(&rt, rt.alloc(), Blanks::new(), &config(1000), &rows)?;
+    plays(&rt, rt.alloc(), &config(1000), &Shared {})?;
     Ok(())
 }
 
@@ -220,23 +205,24 @@ fn join_many<N: Names>(
     Ok(())
 }
 
-fn share_with_many<N: Names>(
-    rt: &impl Abort,
-    alloc: Global,
-    blanks: Blanks<u64, Loaded>,
-    limits: &Config,
-) -> Result<(), Fault>
-    requires layout { N.layout ≡ record { shards = 1; config = limits.now } }
-    requires blanks { AreBlanksOf N.name N.book blanks }
-{
-    let mut loads = Loads::new(alloc);
-    let mut run: Run<Loaded, N> = Run::new(alloc, limits, blanks)?;
-    join_many(rt, &mut run, &mut loads)
+#[derive(Drop)]
+struct ByMany {}
+
+impl Scene<Loaded> for ByMany {
+    fn play<N: Names, R: Abort>(
+        &self,
+        rt: &R,
+        alloc: Global,
+        _limits: &Config,
+        run: &mut Run<Loaded, N>,
+    ) -> Result<(), Fault> {
+        join_many(rt, run, &mut Loads::new(alloc))
+    }
 }
 
 #[test]
 fn a_load_may_have_many_sharers_at_once(rt: HostRuntime) -> Result<(), Fail> {
-    share_with_many::<Brand>(&rt, rt.alloc(), Blanks::new(), &config(1000))?;
+    plays(&rt, rt.alloc(), &config(1000), &ByMany {})?;
     Ok(())
 }
 
@@ -274,27 +260,30 @@ fn owners<N: Names>(
     Ok((joined && published, before, Rc::strong_count(owned)))
 }
 
-fn share_and_drop<N: Names>(
-    alloc: Global,
-    blanks: Blanks<u64, Fussy>,
-    limits: &Config,
-) -> Result<(bool, usize, usize), Fault>
-    requires layout { N.layout ≡ record { shards = 1; config = limits.now } }
-    requires blanks { AreBlanksOf N.name N.book blanks }
-{
-    let owned = counter(alloc)?;
-    let mut run: Run<Fussy, N> = Run::new(alloc, limits, blanks)?;
-    owners(&mut run, &owned)
+#[derive(Drop)]
+struct Dropped {}
+
+impl Scene<Fussy> for Dropped {
+    fn play<N: Names, R: Abort>(
+        &self,
+        rt: &R,
+        alloc: Global,
+        _limits: &Config,
+        run: &mut Run<Fussy, N>,
+    ) -> Result<(), Fault> {
+        let owned = counter(alloc)?;
+        same(
+            rt,
+            "owners before the landing and after it",
+            owners(run, &owned),
+            Ok((true, 2, 1)),
+        );
+        Ok(())
+    }
 }
 
 #[test]
 fn a_value_goes_with_the_last_who_shares_its_load(rt: HostRuntime) -> Result<(), Fail> {
-    let owners = share_and_drop::<Brand>(rt.alloc(), Blanks::new(), &config(1000));
-    same(
-        &rt,
-        "owners before the landing and after it",
-        owners,
-        Ok((true, 2, 1)),
-    );
+    plays(&rt, rt.alloc(), &config(1000), &Dropped {})?;
     Ok(())
 }

@@ -1,21 +1,20 @@
 // Refused memory and refused shares: what is refused is no step, and goes well when it is tried
 // again.
-ghost use Rattle.std.specs.Prelude.{◌≡◌};
-ghost use Rattle.wt_shards.specs.Opening.{AreBlanksOf};
+ghost use Rattle.std.specs.Prelude.{ℕ, IsTrue};
 
 use super::compare::{holds, same};
 use super::plain::Plain;
 use super::run::Run;
+use super::scene::{Scene, plays};
 use super::{answered, config, shaded};
 use std::alloc::Global;
 use std::cell::Cell;
-use std::marker::Brand;
 use std::process::Abort;
 use std::rc::Rc;
 use std::test::Fail;
 use wt_core::{Call, Config, Land, Stats, Weighs};
 use wt_keys::{Answers, Fault, Share};
-use wt_shards::{Blanks, Names, Shade};
+use wt_shards::{Names, Shade};
 use wt_tests::{Do, Fussy, Loaded, Said, call_of, counter, light};
 
 #[derive(Clone, Copy)]
@@ -126,21 +125,36 @@ fn insist_on_all<N: Names>(rt: &impl Abort, run: &mut Run<Fussy, N>, left: &Rc<C
     same(rt, "the steps at the end", run.steps(), 12);
 }
 
-fn refuse_shares<N: Names>(
-    rt: &impl Abort,
-    alloc: Global,
-    blanks: Blanks<u64, Fussy>,
-    limits: &Config,
-) -> Result<(), Fault>
-    requires layout { N.layout ≡ record { shards = 1; config = limits.now } }
-    requires blanks { AreBlanksOf N.name N.book blanks }
-{
-    let left = counter(alloc)?;
-    // With no memory for the shard there is nothing to see.
-    if let Ok(mut run) = Run::<Fussy, N>::new(alloc, limits, blanks) {
-        insist_on_all(rt, &mut run, &left);
+#[derive(Drop)]
+struct Shares {}
+
+impl Scene<Fussy> for Shares {
+    fn play<N: Names, R: Abort>(
+        &self,
+        rt: &R,
+        alloc: Global,
+        _limits: &Config,
+        run: &mut Run<Fussy, N>,
+    ) -> Result<(), Fault> {
+        let left = counter(alloc)?;
+        insist_on_all(rt, run, &left);
+        Ok(())
     }
-    Ok(())
+}
+
+// Plays. With no memory for the shard there is nothing to see.
+fn plays_if<V: Share + Weighs + Answers<u64>, R: Abort, S: Scene<V>>(
+    rt: &R,
+    alloc: Global,
+    limits: &Config,
+    scene: &S,
+) -> Result<(), Fault>
+    requires answers { (v : V) (k : ℕ) → IsTrue (V.answers v k) }
+{
+    match plays(rt, alloc, limits, scene) {
+        Err(Fault::NoMemory) => Ok(()),
+        played => played,
+    }
 }
 
 #[test]
@@ -153,7 +167,7 @@ fn a_refused_share_is_no_step(rt: HostRuntime) -> Result<(), Fail> {
         ring: 4,
         ..config(1000)
     };
-    refuse_shares::<Brand>(&rt, rt.alloc(), Blanks::new(), &limits)?;
+    plays_if(&rt, rt.alloc(), &limits, &Shares {})?;
     Ok(())
 }
 
@@ -215,17 +229,23 @@ fn catches_up<N: Names>(copy: &mut Plain<Shade>, run: &Run<Loaded, N>, kept: usi
     well
 }
 
-// Whether the lagging copy is what the first calls leave, and the shard what the records leave
-// after that; None where memory is refused to the test itself.
-fn is_explained<N: Names>(alloc: Global, limits: &Config, run: &Run<Loaded, N>) -> Option<bool> {
+// Whether the copy, on which the first calls are made, is the lagging copy, and after the records
+// the shard. None where memory is refused to the test itself.
+fn explains<N: Names>(copy: &mut Plain<Shade>, run: &Run<Loaded, N>) -> Option<bool> {
     let (dropped, kept) = run.records();
-    let mut copy = Plain::<Shade>::new(alloc, limits).ok()?;
-    let followed = follows(&mut copy, dropped);
+    let followed = follows(copy, dropped);
     let lags = run.lagging() == copy.core.stats();
-    if followed && catches_up(&mut copy, run, kept) {
+    if followed && catches_up(copy, run, kept) {
         Some(lags && run.stats() == copy.core.stats())
     } else {
         None
+    }
+}
+
+fn is_explained<N: Names>(alloc: Global, limits: &Config, run: &Run<Loaded, N>) -> Option<bool> {
+    match Plain::<Shade>::new(alloc, limits) {
+        Ok(mut copy) => explains(&mut copy, run),
+        Err(_) => None,
     }
 }
 
@@ -271,30 +291,27 @@ fn ask<N: Names>(
     expect_explained(rt, alloc, limits, run);
 }
 
-fn ask_all<N: Names>(rt: &impl Abort, alloc: Global, limits: &Config, run: &mut Run<Loaded, N>) {
-    for call in calls() {
-        ask(rt, alloc, limits, run, call);
-    }
-    same(rt, "the steps at the end", run.steps(), 17);
-}
+#[derive(Drop)]
+struct Memory {}
 
-fn refuse_memory<N: Names>(
-    rt: &impl Abort,
-    alloc: Global,
-    blanks: Blanks<u64, Loaded>,
-    limits: &Config,
-) -> Result<(), Fault>
-    requires layout { N.layout ≡ record { shards = 1; config = limits.now } }
-    requires blanks { AreBlanksOf N.name N.book blanks }
-{
-    if let Ok(mut run) = Run::<Loaded, N>::new(alloc, limits, blanks) {
-        ask_all(rt, alloc, limits, &mut run);
+impl Scene<Loaded> for Memory {
+    fn play<N: Names, R: Abort>(
+        &self,
+        rt: &R,
+        alloc: Global,
+        limits: &Config,
+        run: &mut Run<Loaded, N>,
+    ) -> Result<(), Fault> {
+        for call in calls() {
+            ask(rt, alloc, limits, run, call);
+        }
+        same(rt, "the steps at the end", run.steps(), 17);
+        Ok(())
     }
-    Ok(())
 }
 
 #[test]
 fn what_is_refused_for_memory_is_no_step(rt: HostRuntime) -> Result<(), Fail> {
-    refuse_memory::<Brand>(&rt, rt.alloc(), Blanks::new(), &config(1000))?;
+    plays_if(&rt, rt.alloc(), &config(1000), &Memory {})?;
     Ok(())
 }

@@ -30,16 +30,34 @@ impl<V: Share + Weighs + Answers<u64>, N: Names> Model for Run<V, N> {
         × (N.layout.config.entries ≤ r.notices.room + length r.notices.list) };
 }
 
+// A shard, and its caller's shares.
+type Opened<V, N> = (
+    Shard<u64, V, Steps<N, 0>, Hits<N, 0>>,
+    Shares<Steps<N, 0>, Hits<N, 0>>,
+);
+
+fn opened<V: Share + Weighs + Answers<u64>, N: Names>(
+    alloc: Global,
+    config: &Config,
+    blanks: Blanks<u64, V>,
+) -> Result<Opened<V, N>, Fault>
+    requires layout { N.layout ≡ record { shards = 1; config = config.now } }
+    requires blanks { AreBlanksOf N.name N.book blanks }
+{
+    let Blanks { s0, h0, .. } = blanks;
+    let mut shard = Shard::new(alloc, config, 0, 1, s0, h0)?;
+    let mine = shard.shares()?;
+    Ok((shard, mine))
+}
+
 impl<V: Share + Weighs + Answers<u64>, N: Names> Run<V, N> {
     pub fn new(alloc: Global, config: &Config, blanks: Blanks<u64, V>) -> Result<Run<V, N>, Fault>
         requires layout { N.layout ≡ record { shards = 1; config = config.now } }
         requires blanks { AreBlanksOf N.name N.book blanks }
         requires answers { (v : V) (k : ℕ) → IsTrue (V.answers v k) }
     {
-        let Blanks { s0, h0, .. } = blanks;
         let notices = Notices::new(alloc, config.entries as usize)?;
-        let mut shard = Shard::new(alloc, config, 0, 1, s0, h0)?;
-        let mine = shard.shares()?;
+        let (shard, mine) = opened(alloc, config, blanks)?;
         Ok(Run {
             shard,
             mine,

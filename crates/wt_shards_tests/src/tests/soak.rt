@@ -4,7 +4,7 @@ ghost use Rattle.wt_shards.specs.Opening.{AreBlanksOf};
 
 use super::caller::Caller;
 use super::compare::{holds, same};
-use super::config;
+use super::{config, said};
 use std::alloc::Global;
 use std::marker::Brand;
 use std::process::Abort;
@@ -15,7 +15,7 @@ use std::thread::Threads;
 use wt_core::Config;
 use wt_keys::Fault;
 use wt_shards::{Blanks, Names, Of, Pass, Shards, Total};
-use wt_tests::{Dice, Do, Loaded, Said, choose};
+use wt_tests::{Dice, Do, Loaded, Said, call_of, choose};
 
 // How many threads call, and the turns of each.
 const CALLERS: usize = 4;
@@ -24,7 +24,7 @@ const TURNS: u64 = 5_000;
 
 // What is done next to some key: what the dice say, and half the time a load that the caller leads
 // lands.
-fn next<N: Names>(dice: &mut Dice, caller: &Caller<Of<N>>, version: u64) -> (Do, u64) {
+fn next<N: Names>(dice: &mut Dice, caller: &Caller<Loaded, Of<N>>, version: u64) -> (Do, u64) {
     if let Some((id, key)) = caller.any_led()
         && dice.roll(2) == 0
     {
@@ -49,15 +49,15 @@ fn steps_of((said, number): (Said, u64), act: Do, shards: u64) -> u64 {
 fn take_turns<N: Names, R: Wait + Abort>(
     rt: &R,
     shards: &Shards<u64, Loaded, Of<N>>,
-    caller: &mut Caller<Of<N>>,
+    caller: &mut Caller<Loaded, Of<N>>,
     seed: u64,
 ) -> u64 {
     let mut dice = Dice(seed);
     let mut steps: u64 = 0;
     for turn in 0..TURNS {
         let (act, key) = next(&mut dice, caller, turn);
-        let answer = caller.make(rt, shards, (act, key, turn));
-        steps = steps.wrapping_add(steps_of(answer, act, shards.shards() as u64));
+        let answer = caller.make(rt, shards, call_of(act, key, turn));
+        steps = steps.wrapping_add(steps_of(said(answer), act, shards.shards() as u64));
     }
     steps
 }

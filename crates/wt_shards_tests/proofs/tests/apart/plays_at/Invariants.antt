@@ -1,5 +1,5 @@
 use Rattle.wt_shards.specs.Opening.{books_of, names_of}
-use Rattle.wt_shards_tests.proofs.tests.in_turn.plays_at.Given as goal
+use Rattle.wt_shards_tests.proofs.tests.apart.plays_at.Given as goal
 
 abbrev pub ghosts-played : goal.ghosts-played
 ghosts-played g a = record { name = names_of a.blanks; book = books_of a.blanks; layout = record { shards = 4; config = a.limits.now } }

@@ -1,5 +1,0 @@
-use Rattle.wt_shards.specs.Opening.{books_of, names_of}
-use Rattle.wt_shards_tests.proofs.tests.apart.look_apart_at.Given as goal
-
-abbrev pub ghosts-look_apart : goal.ghosts-look_apart
-ghosts-look_apart g a = record { name = names_of a.blanks; book = books_of a.blanks; layout = record { shards = 4; config = a.limits.now } }

@@ -1,5 +1,0 @@
-use Rattle.wt_shards.specs.Opening.{books_of, names_of}
-use Rattle.wt_shards_tests.proofs.tests.ring.expect_rows.Given as goal
-
-abbrev pub ghosts-play : goal.ghosts-play
-ghosts-play g a = record { name = names_of a.blanks; book = books_of a.blanks; layout = record { shards = 1; config = a.limits.now } }

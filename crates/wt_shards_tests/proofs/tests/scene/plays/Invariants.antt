@@ -1,0 +1,10 @@
+use Rattle.wt_shards.specs.Opening.{books_of, names_of}
+use Rattle.wt_shards_tests.proofs.tests.scene.plays.Given as goal
+
+abbrev pub ghosts-played : goal.ghosts-played
+ghosts-played g a = record {
+  name = names_of a.blanks;
+  book = books_of a.blanks;
+  layout =
+      record { shards = 1; config = a.limits.now };
+}
