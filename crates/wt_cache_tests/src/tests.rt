@@ -5,7 +5,6 @@ mod calls;
 mod codes;
 mod compare;
 mod leads;
-mod one_caller;
 mod refusals;
 mod soak;
 mod stage;

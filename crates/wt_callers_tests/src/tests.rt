@@ -5,7 +5,6 @@ mod apart;
 mod at_once;
 mod compare;
 mod dropping;
-mod heavy;
 mod late;
 mod lender;
 mod lending;

@@ -81,7 +81,21 @@ pub fn abandon<N: Names, R: Wait>(
     cache.abandon(rt, pass, lead, &mut notices)
 }
 
-/// Gets a key: how, the line of the version, and the step.
+/// The same with a pass of its own.
+pub fn abandons<N: Names, R: Wait>(
+    rt: &R,
+    alloc: Global,
+    cache: &Cache<N>,
+    lead: Lead<u64, Version>,
+) -> Result<(), Fault> {
+    let mut pass = cache.pass(rt, alloc)?;
+    abandon(rt, alloc, cache, &mut pass, lead)
+}
+
+/// How a key is got, and the line of the version.
+pub type Answer = Result<(How, u64), Fault>;
+
+/// Gets a key.
 pub fn get<N: Names, R: Wait>(
     rt: &R,
     alloc: Global,
@@ -89,10 +103,10 @@ pub fn get<N: Names, R: Wait>(
     pass: &mut Pass<u64, Version, Of<N>>,
     key: u64,
     now: u64,
-) -> Result<(How, u64, u64), Fault> {
+) -> Answer {
     let mut notices = Notices::new(alloc, 2 * cache.entries() as usize)?;
     let got = cache.get(rt, pass, key, now, &mut notices)?;
-    Ok((got.how, got.value.line, got.step))
+    Ok((got.how, got.value.line))
 }
 
 /// Puts a version under its key: the step.
@@ -107,24 +121,6 @@ pub fn put<N: Names, R: Wait>(
     let mut notices = Notices::new(alloc, cache.entries() as usize)?;
     let done = cache.put(rt, pass, version.key, version, now, &mut notices)?;
     Ok(done.step)
-}
-
-/// Ends the cache with one pass: the steps and the hits that the settled books hold of a shard.
-pub fn settled<N: Names, R: Wait>(
-    rt: &R,
-    alloc: Global,
-    cache: Cache<N>,
-    pass: Pass<u64, Version, Of<N>>,
-    home: usize,
-) -> Result<(u64, u64), Fault> {
-    let mut passes = Vec::with_capacity(alloc, 1)?;
-    passes.push_reserved(pass);
-    let totals = cache.finish().settle(rt, alloc, passes)?;
-    Ok(
-        totals
-            .of(home)
-            .map_or((0, 0), |total| (total.steps, total.hits)),
-    )
 }
 
 /// What a call told: how many notices, and the key and the cause of the first.

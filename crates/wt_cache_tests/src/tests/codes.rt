@@ -1,8 +1,9 @@
 // The codes of failed loads, as callers are told them: who loads, who joins, and who posts.
+use crate::tests::calls::Answer;
 use crate::tests::compare::same;
 use crate::tests::stage::{Cache, Marks, config};
 use crate::tests::threads::shares;
-use crate::tests::together::{Answer, Scene, gets, plays};
+use crate::tests::together::{Scene, gets, plays};
 use crate::tests::workers::{close, works};
 use std::alloc::Global;
 use std::process::Abort;

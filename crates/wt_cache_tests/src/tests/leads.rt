@@ -1,8 +1,8 @@
 // Loads that nobody runs: dropped, given up, and forgotten. Each shard has room for few.
 use crate::tests::calls::{Led, abandon, forget, get, put, sweep};
 use crate::tests::compare::{holds, same};
-use crate::tests::one_caller::{Play, plays};
-use crate::tests::stage::{Cache, Version, config};
+use crate::tests::stage::{Cache, Version, config, light};
+use crate::tests::together::{Scene, plays};
 use std::alloc::Global;
 use std::process::Abort;
 use std::sync::Wait;
@@ -29,8 +29,8 @@ fn expect_full<N: Names, R: Wait + Abort>(
     );
 }
 
-/// The lead of the one load of a shard is dropped.
-pub fn dropped<N: Names, R: Wait + Abort>(
+// The lead of the one load of a shard is dropped.
+fn dropped<N: Names, R: Wait + Abort>(
     rt: &R,
     alloc: Global,
     cache: &Cache<N>,
@@ -51,8 +51,8 @@ pub fn dropped<N: Names, R: Wait + Abort>(
     Ok(())
 }
 
-/// The one load of a shard is given up; then key 5 of that shard is got.
-pub fn given_up<N: Names, R: Wait + Abort>(
+// The one load of a shard is given up; then key 5 of that shard is got.
+fn abandoned<N: Names, R: Wait + Abort>(
     rt: &R,
     alloc: Global,
     cache: &Cache<N>,
@@ -80,25 +80,27 @@ pub fn given_up<N: Names, R: Wait + Abort>(
         rt,
         "a get once the load is given up",
         got,
-        Ok((How::Loaded, 0, 3)),
+        Ok((How::Loaded, 0)),
     );
+    let home = cache.shards().saturating_sub(1);
+    same(rt, "the steps of the pass", pass.steps(home), 3);
     Ok(())
 }
 
 #[test]
 fn a_dropped_lead_keeps_its_load_open(rt: HostRuntime) -> Result<(), Fail> {
-    plays(&rt, rt.alloc(), &config(4, 1, None), Play::Drops)?;
+    plays(&rt, rt.alloc(), &config(4, 1, None), Scene::Dropped)?;
     Ok(())
 }
 
 #[test]
 fn a_load_that_is_given_up_is_told_so(rt: HostRuntime) -> Result<(), Fail> {
-    plays(&rt, rt.alloc(), &config(4, 1, None), Play::GivesUp)?;
+    plays(&rt, rt.alloc(), &config(4, 1, None), Scene::Abandoned)?;
     Ok(())
 }
 
-/// An open load is forgotten; entries expire, and the others are taken out.
-pub fn forgets<N: Names, R: Wait + Abort>(
+// An open load is forgotten; entries expire, and the others are taken out.
+fn forgotten<N: Names, R: Wait + Abort>(
     rt: &R,
     alloc: Global,
     cache: &Cache<N>,
@@ -132,7 +134,7 @@ pub fn forgets<N: Names, R: Wait + Abort>(
     holds(
         rt,
         "the forgotten key is loaded anew",
-        matches!(got, Ok((How::Loaded, _, _))),
+        matches!(got, Ok((How::Loaded, _))),
     );
 }
 
@@ -143,13 +145,13 @@ fn puts_two<N: Names, R: Wait + Abort>(
     cache: &Cache<N>,
     pass: &mut Pass<u64, Version, Of<N>>,
 ) {
-    let two = Version { key: 2, line: 5 };
+    let two = light(2, 5);
     holds(
         rt,
         "the first put",
         put(rt, alloc, cache, pass, two, 0).is_ok(),
     );
-    let three = Version { key: 3, line: 6 };
+    let three = light(3, 6);
     holds(
         rt,
         "the second put",
@@ -157,8 +159,39 @@ fn puts_two<N: Names, R: Wait + Abort>(
     );
 }
 
+// What a caller does by itself while a load of key 1 is open.
+fn alone_by<N: Names, R: Wait + Abort>(
+    rt: &R,
+    alloc: Global,
+    cache: &Cache<N>,
+    pass: &mut Pass<u64, Version, Of<N>>,
+    open: Led,
+    scene: Scene,
+) -> Result<(), Fault> {
+    match scene {
+        Scene::Dropped => dropped(rt, alloc, cache, pass, open),
+        Scene::Abandoned => abandoned(rt, alloc, cache, pass, open),
+        _ => {
+            forgotten(rt, alloc, cache, pass, &open);
+            Ok(())
+        }
+    }
+}
+
+/// The same with a pass of its own.
+pub fn alone<N: Names, R: Wait + Abort>(
+    rt: &R,
+    alloc: Global,
+    cache: &Cache<N>,
+    open: Led,
+    scene: Scene,
+) -> Result<(), Fault> {
+    let mut pass = cache.pass(rt, alloc)?;
+    alone_by(rt, alloc, cache, &mut pass, open, scene)
+}
+
 #[test]
 fn a_forgotten_load_is_made_anew(rt: HostRuntime) -> Result<(), Fail> {
-    plays(&rt, rt.alloc(), &config(4, 8, Some(10)), Play::Forgets)?;
+    plays(&rt, rt.alloc(), &config(4, 8, Some(10)), Scene::Forgotten)?;
     Ok(())
 }

@@ -3,9 +3,9 @@
 ghost use Rattle.std.specs.Prelude.{◌≡◌};
 ghost use Rattle.wt_shards.specs.Opening.{AreBlanksOf};
 
-use crate::tests::calls::{Led, forget, get, invalidate, led, present, put};
+use crate::tests::calls::{Answer, Led, forget, get, invalidate, led, present, put};
 use crate::tests::compare::{holds, same};
-use crate::tests::stage::{Cache, Plain, Rules, Version, Way, config, new_marks};
+use crate::tests::stage::{Cache, Plain, Rules, Version, Way, config, light, new_marks};
 use crate::tests::workers::{close, posts, works_by};
 use std::alloc::Global;
 use std::marker::Brand;
@@ -32,7 +32,7 @@ fn insist<N: Names, R: Wait + Abort>(
     cache: &Cache<N>,
     pass: &mut Pass<u64, Version, Of<N>>,
     key: u64,
-) -> Result<(How, u64), Fault> {
+) -> Answer {
     let before = seen(rt, cache, pass);
     let mut got = get(rt, alloc, cache, pass, key, 0);
     if got == Err(Fault::NoMemory) {
@@ -44,10 +44,7 @@ fn insist<N: Names, R: Wait + Abort>(
         );
         got = get(rt, alloc, cache, pass, key, 0);
     }
-    match got {
-        Ok((how, line, _step)) => Ok((how, line)),
-        Err(fault) => Err(fault),
-    }
+    got
 }
 
 // A call that loads nothing.
@@ -70,7 +67,7 @@ fn make<N: Names, R: Wait>(
 ) -> Result<bool, Fault> {
     match call {
         Call::Put => {
-            let _step = put(rt, alloc, cache, pass, Version { key, line: 7 }, 0)?;
+            let _step = put(rt, alloc, cache, pass, light(key, 7), 0)?;
             Ok(true)
         }
         Call::Look => {
@@ -175,7 +172,7 @@ fn shares<N: Names, R: Wait + Abort>(
         return;
     };
     let key = lead.key();
-    let told = lead.publish(Outcome::Value(Version { key, line: 5 }));
+    let told = lead.publish(Outcome::Value(light(key, 5)));
     holds(
         rt,
         "the first outcome is published",
@@ -231,6 +228,19 @@ fn works<N: Names, R: Wait + Abort>(
     );
 }
 
+// The pass by itself, in a list whose memory may be refused once.
+fn lone<N: Names>(
+    alloc: Global,
+    pass: Pass<u64, Version, Of<N>>,
+) -> Result<Vec<Pass<u64, Version, Of<N>>>, Fault> {
+    let mut passes = match Vec::with_capacity(alloc, 1) {
+        Ok(passes) => passes,
+        Err(_) => Vec::with_capacity(alloc, 1)?,
+    };
+    passes.push_reserved(pass);
+    Ok(passes)
+}
+
 // Ends the cache: the steps and hits of the settled books. Settling takes no memory.
 fn settled<N: Names, R: Wait>(
     rt: &R,
@@ -238,13 +248,11 @@ fn settled<N: Names, R: Wait>(
     cache: Cache<N>,
     pass: Pass<u64, Version, Of<N>>,
 ) -> Result<Option<(u64, u64)>, Fault> {
-    let mut passes = match Vec::with_capacity(alloc, 1) {
-        Ok(passes) => passes,
-        Err(_) => Vec::with_capacity(alloc, 1)?,
-    };
-    passes.push(pass)?;
-    let totals = cache.finish().settle(rt, alloc, passes)?;
-    Ok(totals.of(0).map(|total| (total.steps, total.hits)))
+    let passes = lone(alloc, pass)?;
+    match cache.finish().settle(rt, alloc, passes) {
+        Ok(totals) => Ok(totals.of(0).map(|total| (total.steps, total.hits))),
+        Err(fault) => Err(fault),
+    }
 }
 
 fn line_if<R: Wait>(

@@ -2,9 +2,9 @@
 ghost use Rattle.std.specs.Prelude.{◌≡◌};
 ghost use Rattle.wt_shards.specs.Opening.{AreBlanksOf};
 
-use crate::tests::calls::{forget, get, invalidate, led, put};
+use crate::tests::calls::{Answer, forget, get, invalidate, led, put};
 use crate::tests::compare::same;
-use crate::tests::stage::{Cache, Plain, Rules, Version, Way, config, new_marks};
+use crate::tests::stage::{Cache, Plain, Rules, Version, Way, config, light, new_marks};
 use crate::tests::workers::works_by;
 use std::alloc::Global;
 use std::marker::Brand;
@@ -14,7 +14,7 @@ use std::sync::{Arc, Wait};
 use std::test::Fail;
 use std::thread;
 use std::thread::Threads;
-use wt_cache::{How, JobLine, LoadingCache};
+use wt_cache::{JobLine, LoadingCache};
 use wt_core::Config;
 use wt_keys::Fault;
 use wt_shards::{Blanks, Names, Of, Pass, Shards};
@@ -30,9 +30,9 @@ fn is_put(key: u64, line: u64) -> bool {
 }
 
 // 1 where a get answers a value that was never loaded or put for its key, else 0.
-fn strange(got: Result<(How, u64, u64), Fault>, key: u64) -> Result<u64, Fault> {
+fn strange(got: Answer, key: u64) -> Result<u64, Fault> {
     match got {
-        Ok((_how, line, _step)) => Ok(if line == 0 || is_put(key, line) { 0 } else { 1 }),
+        Ok((_how, line)) => Ok(if line == 0 || is_put(key, line) { 0 } else { 1 }),
         Err(Fault::LoadFailed { code: u32::MAX }) => Ok(0),
         Err(Fault::TooManyFlights { .. }) => Ok(0),
         Err(fault) => Err(fault),
@@ -52,7 +52,7 @@ fn call<N: Names, R: Wait>(
     let key = (draw >> 33) % 50;
     match (draw >> 20) % 10 {
         0 if is_put(key, line) => {
-            put(rt, alloc, cache, pass, Version { key, line }, now)?;
+            put(rt, alloc, cache, pass, light(key, line), now)?;
             Ok(0)
         }
         1 => {
@@ -199,16 +199,17 @@ fn opens_all<N: Names, R: Wait>(
     Ok(opened)
 }
 
-// Settles the shards with all passes: how many loads could be opened still.
+// Settles the shards with all passes: how many loads could be opened still, by the first.
 fn end<N: Names, R: Wait>(
     rt: &R,
     alloc: Global,
     shards: Plain<N>,
     mut passes: Vec<Pass<u64, Version, Of<N>>>,
 ) -> Result<u64, Fault> {
-    let mut pass = shards.pass(rt, alloc)?;
-    let opened = opens_all(rt, alloc, &shards, &mut pass);
-    passes.push(pass)?;
+    let opened = match passes.first_mut() {
+        Some(pass) => opens_all(rt, alloc, &shards, pass),
+        None => Err(Fault::Mixed),
+    };
     match shards.settle(rt, alloc, passes) {
         Ok(_totals) => opened,
         Err(fault) => Err(fault),

@@ -1,4 +1,6 @@
 // What the tests share: values, and a loader of several ways.
+ghost use Rattle.std.specs.Prelude.{◌≡◌};
+
 use std::alloc::Global;
 use std::sync::Arc;
 use std::sync::atomic::{AtomicU64, Ordering};
@@ -13,6 +15,15 @@ use wt_shards::{Of, Shards};
 pub struct Version {
     pub key: u64,
     pub line: u64,
+    pub weight: u32,
+}
+
+/// A version that weighs 1.
+pub fn light(key: u64, line: u64) -> Version
+    ensures { result.key ≡ key }
+{
+    let weight = 1;
+    Version { key, line, weight }
 }
 
 impl Share for Version {
@@ -22,10 +33,10 @@ impl Share for Version {
 }
 
 impl Weighs for Version {
-    ghost weight = { λ v. 1 };
+    ghost weight = { λ v. v.weight };
 
     fn weight(&self) -> u32 {
-        1
+        self.weight
     }
 }
 
@@ -63,6 +74,8 @@ pub enum Way {
     FailsByKey,
     /// Every fifth load by an error of the greatest code, the others at once.
     FailsFifth,
+    /// Each key at once, by a value of this weight.
+    Weighs(u32),
 }
 
 /// A loader of versions.
@@ -101,8 +114,12 @@ impl Loader<u64, Version> for Rules {
         if !ends {
             return Err(99);
         }
-        let key = *key;
-        Ok(Version { key, line: 0 })
+        let (key, line) = (*key, 0);
+        let weight = match self.way {
+            Way::Weighs(weight) => weight,
+            _ => 1,
+        };
+        Ok(Version { key, line, weight })
     }
 }
 

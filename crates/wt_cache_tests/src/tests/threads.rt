@@ -1,9 +1,9 @@
 // Several callers: one load for all of them, and a put while it lasts.
 use crate::tests::asleep::pause;
-use crate::tests::calls::{Led, abandon, get, put};
+use crate::tests::calls::{Answer, Led, abandons};
 use crate::tests::compare::{holds, same};
 use crate::tests::stage::{Cache, Marks, Version, config, rises};
-use crate::tests::together::{Answer, Scene, gets, gets_at, plays};
+use crate::tests::together::{Scene, gets, gets_at, plays, puts_and_gets};
 use std::alloc::Global;
 use std::process::Abort;
 use std::sync::Wait;
@@ -111,21 +111,27 @@ fn two_callers_share_one_load(rt: HostRuntime) -> Result<(), Fail> {
     Ok(())
 }
 
-// Gives a load up once a second look-up has missed, within 10,000,000 turns.
+// Returns whether a second look-up misses within 10,000,000 turns.
+fn misses_two<N: Names, R: Wait>(rt: &R, cache: &Cache<N>) -> bool {
+    for _ in 0..10_000_000u64 {
+        if cache.stats(rt).misses == 2 {
+            return true;
+        }
+        thread::yield_now();
+    }
+    false
+}
+
+// Gives a load up once a second look-up has missed. Whether it did.
 fn gives_up<N: Names, R: Wait>(
     rt: &R,
     alloc: Global,
     cache: &Cache<N>,
     lead: Lead<u64, Version>,
-) -> Result<(), Fault> {
-    let mut pass = cache.pass(rt, alloc)?;
-    for _ in 0..10_000_000u64 {
-        if cache.stats(rt).misses == 2 {
-            return abandon(rt, alloc, cache, &mut pass, lead);
-        }
-        thread::yield_now();
-    }
-    Err(Fault::Mixed)
+) -> Result<bool, Fault> {
+    let missed = misses_two(rt, cache);
+    abandons(rt, alloc, cache, lead)?;
+    Ok(missed)
 }
 
 /// A caller waits for a load that is given up.
@@ -144,7 +150,7 @@ pub fn given_up<N: Names + Send + Sync, R: Threads + Wait + Abort + Sync>(
         || gives_up(rt, alloc, cache, lead),
     );
     same(rt, "the caller that waits", joined, Err(Fault::Abandoned));
-    same(rt, "the load is given up", ended, Ok(()));
+    same(rt, "the load is given up", ended, Ok(true));
     Ok(())
 }
 
@@ -154,15 +160,7 @@ fn who_waits_for_a_load_that_is_given_up_is_told(rt: HostRuntime) -> Result<(), 
     Ok(())
 }
 
-// Puts key 1 and gets it.
-fn puts_and_gets<N: Names, R: Wait>(rt: &R, alloc: Global, cache: &Cache<N>) -> Answer {
-    let mut pass = cache.pass(rt, alloc)?;
-    put(rt, alloc, cache, &mut pass, Version { key: 1, line: 5 }, 0)?;
-    let (how, line, _step) = get(rt, alloc, cache, &mut pass, 1, 0)?;
-    Ok((how, line))
-}
-
-// The same while the load of key 1 is held, which is released then.
+// Puts key 1 and gets it while its load is held, which is released then.
 fn puts_meanwhile<N: Names, R: Wait>(
     rt: &R,
     alloc: Global,
@@ -170,7 +168,7 @@ fn puts_meanwhile<N: Names, R: Wait>(
     marks: &Marks,
 ) -> Answer {
     let begun = rises(&marks.begun, 1);
-    let answer = puts_and_gets(rt, alloc, cache);
+    let answer = puts_and_gets(rt, alloc, cache, 0);
     marks.released.store(1, Ordering::SeqCst);
     if begun { answer } else { Err(Fault::Mixed) }
 }

@@ -1,26 +1,35 @@
-// What several threads do to one cache of one shard, and to one of four.
+// What one caller or several threads do to one cache of one shard, of two and of four.
 ghost use Rattle.std.specs.Prelude.{◌≡◌};
 ghost use Rattle.wt_shards.specs.Opening.{AreBlanksOf};
 
 use crate::tests::asleep::sleepers;
-use crate::tests::calls::{Led, get, led};
+use crate::tests::calls::{Answer, Led, get, led, put};
 use crate::tests::codes::{failed_jobs, failed_shares};
-use crate::tests::stage::{Cache, Marks, Plain, Rules, Version, Way, new_marks};
+use crate::tests::leads::alone;
+use crate::tests::stage::{Cache, Marks, Plain, Rules, Version, Way, light, new_marks};
 use crate::tests::threads::{given_up, one_load, put_beside_load};
-use crate::tests::workers::{full_line, many_loads, one_worker, refresh, two_workers};
+use crate::tests::workers::{full_line, heavy_load, many_loads, one_worker, refresh, two_workers};
 use std::alloc::Global;
 use std::marker::Brand;
 use std::process::Abort;
 use std::sync::{Arc, Wait};
 use std::thread::Threads;
-use wt_cache::{How, JobLine, LoadingCache};
+use wt_cache::{JobLine, LoadingCache};
 use wt_core::Config;
 use wt_keys::Fault;
-use wt_shards::{Blanks, Names, Shards};
+use wt_shards::{Blanks, Names, Of, Pass, Shards};
 
-/// What the threads do.
+/// What is done.
 #[derive(Clone, Copy, Debug, PartialEq, Eq)]
 pub enum Scene {
+    /// The lead of an open load is dropped.
+    Dropped,
+    /// An open load is given up.
+    Abandoned,
+    /// An open load is forgotten.
+    Forgotten,
+    /// As many entries that weigh 2 leave as one value enters, by a worker.
+    Heavy(u32),
     /// Two callers ask for a key while its load is held.
     OneLoad,
     /// A value is put while its key is loaded.
@@ -50,11 +59,15 @@ impl Scene {
     fn way(self) -> Way {
         match self {
             Scene::OneLoad | Scene::PutBesideLoad => Way::HoldsOne,
-            Scene::FullLine
+            Scene::Dropped
+            | Scene::Abandoned
+            | Scene::Forgotten
+            | Scene::FullLine
             | Scene::ManyLoads
             | Scene::Refresh
             | Scene::GivenUp
             | Scene::Sleepers => Way::Plain,
+            Scene::Heavy(entries) => Way::Weighs(entries.wrapping_mul(2)),
             Scene::OneWorker => Way::FailsOne,
             Scene::TwoWorkers => Way::InPairs,
             Scene::FailedShares | Scene::FailedJobs => Way::FailsByKey,
@@ -64,8 +77,15 @@ impl Scene {
     // The places of the line, 0 for none.
     fn places(self) -> u32 {
         match self {
-            Scene::OneLoad | Scene::PutBesideLoad | Scene::GivenUp | Scene::FailedShares => 0,
-            Scene::FullLine
+            Scene::Dropped
+            | Scene::Abandoned
+            | Scene::Forgotten
+            | Scene::OneLoad
+            | Scene::PutBesideLoad
+            | Scene::GivenUp
+            | Scene::FailedShares => 0,
+            Scene::Heavy(_)
+            | Scene::FullLine
             | Scene::OneWorker
             | Scene::ManyLoads
             | Scene::Refresh
@@ -74,9 +94,6 @@ impl Scene {
         }
     }
 }
-
-/// How a key is got, and the line of the version.
-pub type Answer = Result<(How, u64), Fault>;
 
 /// A caller with a pass of its own gets a key at the moment 0.
 pub fn gets<N: Names, R: Wait>(rt: &R, alloc: Global, cache: &Cache<N>, key: u64) -> Answer {
@@ -92,8 +109,30 @@ pub fn gets_at<N: Names, R: Wait>(
     now: u64,
 ) -> Answer {
     let mut pass = cache.pass(rt, alloc)?;
-    let (how, line, _step) = get(rt, alloc, cache, &mut pass, key, now)?;
-    Ok((how, line))
+    get(rt, alloc, cache, &mut pass, key, now)
+}
+
+// Puts key 1 and gets it at a moment.
+fn puts_and_gets_by<N: Names, R: Wait>(
+    rt: &R,
+    alloc: Global,
+    cache: &Cache<N>,
+    pass: &mut Pass<u64, Version, Of<N>>,
+    now: u64,
+) -> Answer {
+    put(rt, alloc, cache, pass, light(1, 5), 0)?;
+    get(rt, alloc, cache, pass, 1, now)
+}
+
+/// The same with a pass of its own.
+pub fn puts_and_gets<N: Names, R: Wait>(
+    rt: &R,
+    alloc: Global,
+    cache: &Cache<N>,
+    now: u64,
+) -> Answer {
+    let mut pass = cache.pass(rt, alloc)?;
+    puts_and_gets_by(rt, alloc, cache, &mut pass, now)
 }
 
 // A load of key 1, opened by a pass that is dropped then.
@@ -110,7 +149,12 @@ fn led_for<N: Names, R: Wait>(
     scene: Scene,
 ) -> Result<Led, Fault> {
     match scene {
-        Scene::FullLine | Scene::GivenUp => led_alone(rt, alloc, shards),
+        Scene::Dropped
+        | Scene::Abandoned
+        | Scene::Forgotten
+        | Scene::Heavy(_)
+        | Scene::FullLine
+        | Scene::GivenUp => led_alone(rt, alloc, shards),
         _ => Ok(None),
     }
 }
@@ -138,6 +182,10 @@ fn act<N: Names + Send + Sync, R: Threads + Wait + Abort + Sync>(
     scene: Scene,
 ) -> Result<(), Fault> {
     match scene {
+        Scene::Dropped | Scene::Abandoned | Scene::Forgotten => {
+            alone(rt, alloc, cache, open, scene)
+        }
+        Scene::Heavy(entries) => heavy_load(rt, alloc, cache, open, entries),
         Scene::OneLoad => one_load(rt, alloc, cache, marks),
         Scene::PutBesideLoad => put_beside_load(rt, alloc, cache, marks),
         Scene::FullLine => full_line(rt, alloc, cache, open),

@@ -1,8 +1,8 @@
 // The line and its workers: which of them runs a load, and what is reported.
-use crate::tests::calls::{Led, get, put};
+use crate::tests::calls::{Answer, Led, put};
 use crate::tests::compare::{holds, same};
 use crate::tests::stage::{Cache, Version, config};
-use crate::tests::together::{Answer, Scene, gets, plays, plays_at};
+use crate::tests::together::{Scene, gets, plays, plays_at, puts_and_gets};
 use std::alloc::Global;
 use std::process::Abort;
 use std::sync::Wait;
@@ -110,7 +110,11 @@ pub fn full_line<N: Names, R: Wait + Abort>(
     let outcome = ticket.poll();
     let is_told = matches!(
         outcome,
-        Ok(Some(Outcome::Value(Version { key: 1, line: 0 })))
+        Ok(Some(Outcome::Value(Version {
+            key: 1,
+            line: 0,
+            ..
+        })))
     );
     holds(rt, "the ticket knows the worker's value", is_told);
     same(
@@ -125,6 +129,70 @@ pub fn full_line<N: Names, R: Wait + Abort>(
 #[test]
 fn beside_a_full_or_closed_line_the_caller_loads(rt: HostRuntime) -> Result<(), Fail> {
     plays(&rt, rt.alloc(), &config(4, 8, None), Scene::FullLine)?;
+    Ok(())
+}
+
+// Puts as many entries that weigh 2, from key 2 on.
+fn puts_by<N: Names, R: Wait>(
+    rt: &R,
+    alloc: Global,
+    cache: &Cache<N>,
+    pass: &mut Pass<u64, Version, Of<N>>,
+    entries: u32,
+) -> Result<(), Fault> {
+    for place in 0..entries {
+        let version = Version {
+            key: u64::from(place).wrapping_add(2),
+            line: 5,
+            weight: 2,
+        };
+        put(rt, alloc, cache, pass, version, 0)?;
+    }
+    Ok(())
+}
+
+// The same with a pass of its own.
+fn puts<N: Names, R: Wait>(
+    rt: &R,
+    alloc: Global,
+    cache: &Cache<N>,
+    entries: u32,
+) -> Result<(), Fault> {
+    let mut pass = cache.pass(rt, alloc)?;
+    puts_by(rt, alloc, cache, &mut pass, entries)
+}
+
+/// As many entries weigh 2 each and, together, all that they may, until a worker loads a value that
+/// weighs as much.
+pub fn heavy_load<N: Names, R: Wait + Abort>(
+    rt: &R,
+    alloc: Global,
+    cache: &Cache<N>,
+    open: Led,
+    entries: u32,
+) -> Result<(), Fault> {
+    let Some((lead, _ticket)) = open else {
+        return Err(Fault::Mixed);
+    };
+    puts(rt, alloc, cache, entries)?;
+    let posted = posts(rt, cache, lead);
+    same(rt, "the line takes the load", posted, Ok(true));
+    close(rt, cache);
+    same(
+        rt,
+        "the worker's jobs, failures and removals",
+        works(rt, alloc, cache),
+        Ok((1, 0, u64::from(entries))),
+    );
+    Ok(())
+}
+
+#[test]
+fn a_worker_counts_each_entry_that_leaves(rt: HostRuntime) -> Result<(), Fail> {
+    for (entries, bound) in [(1, 2), (2, 4), (3, 6)] {
+        let limits = config(4, 8, None).with_bound(bound);
+        plays_at(&rt, rt.alloc(), &limits, 1, Scene::Heavy(entries))?;
+    }
     Ok(())
 }
 
@@ -175,11 +243,9 @@ const MANY: u64 = 5_000;
 
 // One caller gets many keys in turn. Returns how many were loaded.
 fn load_many<N: Names, R: Wait>(rt: &R, alloc: Global, cache: &Cache<N>) -> Result<u64, Fault> {
-    let mut pass = cache.pass(rt, alloc)?;
     let mut loaded = 0u64;
     for key in 0..MANY {
-        let (how, _line, _step) = get(rt, alloc, cache, &mut pass, key, 0)?;
-        if how == How::Loaded {
+        if gets(rt, alloc, cache, key)? == (How::Loaded, 0) {
             loaded = loaded.wrapping_add(1);
         }
     }
@@ -221,12 +287,9 @@ fn a_worker_runs_loads_until_the_line_is_closed(rt: HostRuntime) -> Result<(), F
 
 // A value is put and got once it is due; then the line is closed.
 fn get_due<N: Names, R: Wait>(rt: &R, alloc: Global, cache: &Cache<N>) -> Answer {
-    let mut pass = cache.pass(rt, alloc)?;
-    put(rt, alloc, cache, &mut pass, Version { key: 1, line: 5 }, 0)?;
-    let got = get(rt, alloc, cache, &mut pass, 1, 50);
+    let got = puts_and_gets(rt, alloc, cache, 50);
     close(rt, cache);
-    let (how, line, _step) = got?;
-    Ok((how, line))
+    got
 }
 
 /// One worker beside one caller, whose value is due: the old one is got, the new one is loaded.

@@ -91,6 +91,16 @@ fn lends_apart<N: Names + Send + Sync, R: Threads + Wait + Sync>(
     Ok((hit?, third?, back?))
 }
 
+// The gate of a value, the value, and the gate for the lends beside it.
+type Gates = (Arc<Gate, Global>, Gated, Arc<Gate, Global>);
+
+fn gates(alloc: Global) -> Result<Gates, Fault> {
+    let held = Gate::new(alloc)?;
+    let gated = Gated::by(Arc::try_clone(&held)?);
+    let lent = Gate::new(alloc)?;
+    Ok((held, gated, lent))
+}
+
 fn lend_apart<N: Names + Send + Sync, R: Threads + Wait + Sync>(
     rt: &R,
     alloc: Global,
@@ -100,11 +110,10 @@ fn lend_apart<N: Names + Send + Sync, R: Threads + Wait + Sync>(
     requires layout { N.layout ≡ record { shards = 1; config = limits.now } }
     requires blanks { AreBlanksOf N.name N.book blanks }
 {
-    let shut = (Gate::new(alloc)?, Gate::new(alloc)?);
-    let gated = Gated::by(Arc::try_clone(&shut.0)?);
+    let (held, gated, lent) = gates(alloc)?;
     let shards: Shards<u64, Gated, Of<N>> = Shards::new(rt, alloc, blanks, limits, 1)?;
     let callers: Lender<N> = Callers::new(alloc, LoadingCache::new(shards, Freely {}, None));
-    lends_apart(rt, &callers, &shut.1, &shut.0, gated)
+    lends_apart(rt, &callers, &lent, &held, gated)
 }
 
 #[test]

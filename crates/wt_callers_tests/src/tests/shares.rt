@@ -353,6 +353,28 @@ fn begun<N: Names, R: Wait>(
     }
 }
 
+// Plays a row on these shards, with a line for its worker.
+fn plays_on<N: Names, R: Wait + Abort>(
+    rt: &R,
+    alloc: Global,
+    shards: Shards<u64, Scarce, Of<N>>,
+    line: Option<JobLine<u64, Scarce>>,
+    (left, theirs): (Left, Left),
+    row: Row,
+) -> Result<(), Fault> {
+    let (mut pass, open) = begun(rt, alloc, &shards, row.0, &left)?;
+    let cache: Scarcity<N> = LoadingCache::new(shards, Scarcely { left: theirs }, line);
+    asked(rt, alloc, &cache, &mut pass, open, &left, row);
+    Ok(())
+}
+
+// A count that two share.
+fn shared(alloc: Global) -> Result<(Left, Left), Fault> {
+    let left: Left = Arc::new(alloc, AtomicU64::new(0))?;
+    let theirs = Arc::try_clone(&left)?;
+    Ok((left, theirs))
+}
+
 // Plays a row on a cache of `count` shards. Keys 1 and 5 are of the last one.
 fn played<N: Names, R: Wait + Abort>(
     rt: &R,
@@ -365,14 +387,10 @@ fn played<N: Names, R: Wait + Abort>(
     requires layout { N.layout ≡ record { shards = count; config = config.now } }
     requires blanks { AreBlanksOf N.name N.book blanks }
 {
-    let left: Left = Arc::new(alloc, AtomicU64::new(0))?;
-    let theirs = Arc::try_clone(&left)?;
+    let both = shared(alloc)?;
     let line = line_for(rt, alloc, row.0)?;
     let shards: Shards<u64, Scarce, Of<N>> = Shards::new(rt, alloc, blanks, config, count)?;
-    let (mut pass, open) = begun(rt, alloc, &shards, row.0, &left)?;
-    let cache: Scarcity<N> = LoadingCache::new(shards, Scarcely { left: theirs }, line);
-    asked(rt, alloc, &cache, &mut pass, open, &left, row);
-    Ok(())
+    plays_on(rt, alloc, shards, line, both, row)
 }
 
 // The one place that names the ledgers of these caches.
