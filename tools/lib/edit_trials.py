@@ -79,15 +79,14 @@ class Trial:
             for path, text in texts.items():
                 (room / path).write_text(text)
 
-    def run(self):
+    def run(self, over):
+        """Runs it over what the folder `over` holds, and leaves there what it proved. A new folder begins with what is kept."""
+        if not over.exists() and self.kept:
+            shutil.copytree(self.kept, over, symlinks=True, copy_function=link_or_copy)
+        over.mkdir(exist_ok=True)
         with tempfile.TemporaryDirectory(prefix="edits-") as name:
             room = Path(name)
             self.copy_into(room)
-            over = room / "over"
-            if self.kept:
-                shutil.copytree(self.kept, over, symlinks=True, copy_function=link_or_copy)
-            else:
-                over.mkdir()
             words = [self.kit.RATTLE, "check", *self.crate.words(["--jobs", "1"], keeps=False), "--incremental", over]
             for edit in self.edits:
                 for function in edit.functions():
