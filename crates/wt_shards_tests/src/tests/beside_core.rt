@@ -176,7 +176,7 @@ fn make_all<N: Names>(
     made
 }
 
-// Calls on so many keys, on the shard and on a plain cache beside it.
+// Random calls, on the keys below `keys`: the shard makes them, and a plain cache beside it.
 #[derive(Drop)]
 struct Beside {
     keys: u64,

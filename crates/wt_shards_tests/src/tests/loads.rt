@@ -135,7 +135,7 @@ fn publish(rt: &impl Abort, lead: Lead<u64, Loaded>, value: Loaded) -> Ticket<u6
     }
 }
 
-// What is done to key 7 at a moment, and what is told of it.
+// Each row has an act on key 7, its moment, and what `tell` is to return.
 fn rows() -> [(Act, u64, Told); 13] {
     let value = light(5);
     let (keep, drop_key) = (Act::Step(Do::Keep(1, value)), Act::Step(Do::DropKey));
