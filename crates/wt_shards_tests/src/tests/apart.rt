@@ -186,7 +186,7 @@ fn calls_round<N: Names, R: Wait + Abort>(
     Ok(())
 }
 
-// The same 1,000 times, from when the call that goes from shard to shard was begun.
+// The same 100 times, from when the call that goes from shard to shard was begun.
 fn calls_beside<N: Names, R: Wait + Abort>(
     rt: &R,
     shards: &Gates<N>,
@@ -195,7 +195,7 @@ fn calls_beside<N: Names, R: Wait + Abort>(
 ) -> Result<bool, Fault> {
     let mut turns = 0u32;
     for _ in 0..10_000_000u32 {
-        if turns == 1_000 {
+        if turns == 100 {
             return Ok(true);
         }
         if scene.begun.load(Ordering::SeqCst) {
