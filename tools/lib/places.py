@@ -48,3 +48,8 @@ def stands_on(page=TOP / "crates.txt"):
 def version_of():
     """The version, as the program says it."""
     return re.search(r'^const VERSION: &str = "(.*)";$', (TOP / VERSION_FILE).read_text(), re.M).group(1)
+
+
+def version_of_package():
+    """The version as Python's packages spell it: 0.2.0.dev0 for 0.2.0-dev."""
+    return version_of().replace("-dev", ".dev0")

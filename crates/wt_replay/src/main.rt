@@ -13,7 +13,7 @@ use wt_trace::{
 use wt_turns::replay_by_turn;
 
 // What `--version` prints.
-const VERSION: &str = "0.1.0";
+const VERSION: &str = "0.2.0-dev";
 
 // Each option with what it does, its range and its default, in the order in which the ranges are
 // checked.

@@ -16,4 +16,4 @@ from ._stats import Stats
 from ._waits import WaitsForItself
 
 __all__ = ["Cache", "CacheInfo", "LeftOut", "Refused", "Stats", "WaitsForItself", "cached"]
-__version__ = "0.1.0"
+__version__ = "0.2.0.dev0"
