@@ -242,6 +242,40 @@ func TestWhoWaitsForALoadMayGiveUp(t *testing.T) {
 	holds(t, c)
 }
 
+// An endless context ends and has no error, which no context should.
+type endless struct{ context.Context }
+
+func (endless) Done() <-chan struct{} {
+	done := make(chan struct{})
+	close(done)
+	return done
+}
+
+func TestWhoGivesUpByAContextWithoutAnErrorGetsOne(t *testing.T) {
+	c, other := open(t, setup), make(chan error)
+	_, err := c.Get(ctx, 1, func(context.Context) (string, uint32, error) {
+		go func() {
+			_, err := c.Get(endless{ctx}, 1, got("other"))
+			other <- err
+			found, err := c.GetMany(endless{ctx}, []uint64{1}, each(new([][]uint64)))
+			if len(found) != 0 {
+				t.Error(found)
+			}
+			other <- err
+		}()
+		for i := 0; i < 2; i++ {
+			if err := <-other; err != context.Canceled {
+				t.Error(err)
+			}
+		}
+		return "one", 1, nil
+	})
+	if err != nil {
+		t.Fatal(err)
+	}
+	holds(t, c)
+}
+
 type named struct{}
 
 func TestALoadOutlivesTheContextOfItsCaller(t *testing.T) {

@@ -31,8 +31,16 @@ func (of *load[K, V]) wait(ctx context.Context) (v V, err error) {
 	case <-of.done:
 		return of.value, of.err
 	case <-ctx.Done():
-		return v, ctx.Err()
+		return v, endOf(ctx)
 	}
+}
+
+// endOf returns why a context has ended. One that ends and has no error counts as canceled: the caller has no value.
+func endOf(ctx context.Context) error {
+	if err := ctx.Err(); err != nil {
+		return err
+	}
+	return context.Canceled
 }
 
 // waits tells which goroutine waits for which. Only those that wait take its lock.
