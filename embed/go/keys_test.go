@@ -58,12 +58,18 @@ func TestAKeyThatDoesNotEqualItselfIsNeverFoundAndLeavesNothing(t *testing.T) {
 		if err := c.Put(math.NaN(), "no number", 1); err != nil {
 			t.Fatal(err)
 		}
-		if _, found, err := c.Look(math.NaN()); found || err != nil {
+		if _, found, err := c.Look(math.NaN()); found || err != nil || c.Contains(math.NaN()) {
 			t.Fatal(found, err)
 		}
 	}
-	if n := holds(t, c); n.Entries != 100 {
-		t.Fatal(n)
+	if n := holds(t, c); n.Entries != 100 || len(c.Keys()) != 0 {
+		t.Fatal(n, c.Keys())
+	}
+	if err := c.Put(0.5, "a half", 1); err != nil {
+		t.Fatal(err)
+	}
+	if keys := c.Keys(); len(keys) != 1 || keys[0] != 0.5 {
+		t.Fatal(keys)
 	}
 }
 

@@ -127,8 +127,9 @@ func (s *shard[K, V]) keys(keys []K, now uint64) []K {
 	defer s.mu.Unlock()
 	now = s.moment(now)
 	for at := range s.table.rows {
-		if s.isThere(int32(at), now) {
-			keys = append(keys, s.table.rows[at].key)
+		// No look-up finds a key that doesn't equal itself, as a NaN.
+		if key := s.table.rows[at].key; key == key && s.isThere(int32(at), now) {
+			keys = append(keys, key)
 		}
 	}
 	return keys
