@@ -85,12 +85,6 @@ func openLibrary(s Setup) (library, Fault) {
 	return l, Fault(C.open_side(&setup, l.side))
 }
 
-// wrongSetting returns the name of the first setting that is out of its range, or none.
-func wrongSetting(s Setup) string {
-	setup := setupOf(s)
-	return [...]string{"", "Entries", "Window", "Flights", "Bound", "AfterWrite", "AfterAccess", "Refresh"}[C.rd_check(&setup)]
-}
-
 func setupOf(s Setup) C.rd_setup {
 	return C.rd_setup{
 		entries: C.uint32_t(s.Entries), window: C.uint32_t(s.Window), flights: C.uint32_t(s.Flights), bound: C.uint64_t(s.Bound),

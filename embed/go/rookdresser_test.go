@@ -2,7 +2,6 @@ package rookdresser
 
 import (
 	"context"
-	"errors"
 	"fmt"
 	"math"
 	"math/rand"
@@ -47,13 +46,6 @@ func openOf[K Key](t *testing.T, s Setup) *Cache[K, string] {
 	}
 	t.Cleanup(c.Close)
 	return c
-}
-
-func TestASetupOutOfItsRangesIsRefused(t *testing.T) {
-	_, err := Open[uint64, string](Setup{Entries: 1, Window: 2})
-	if !errors.Is(err, BadSetup) || err.Error() != "rookdresser: a setting is out of its range: Window" {
-		t.Fatal(err)
-	}
 }
 
 func TestExactlyWhatIsHeldIsKept(t *testing.T) {

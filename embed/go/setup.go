@@ -5,61 +5,107 @@ import (
 	"time"
 )
 
-// A Setup is what a cache is opened for. Entries, Window and Bound are the whole cache's, of which each shard has an equal part. A
-// duration is 0 for never, or at least a millisecond, and counts in whole milliseconds.
+// A Setup has the settings of a cache. Entries, Window and Bound are for the whole cache; each shard gets an equal part. A duration
+// is 0, which means never, or at least a millisecond; it counts in whole milliseconds.
 type Setup struct {
-	Entries uint32 // how many the cache may hold: 1 to 65,536 for each shard
+	Entries uint32 // how many the cache may hold: 1 to 65,536 for each shard, and so at most 268,435,456
 	Shards  uint32 // how many parts it has, each with a lock of its own: 1 to 4,096; 0 stands for one for each 65,536 entries
 	Window  uint32 // how many of the entries the windows may hold: 1 to Entries; 0 stands for a hundredth
 	Flights uint32 // how many loads may be open in a shard: 1 to 4,096; 0 stands for 1,024
 	Bound   uint64 // how much the entries may weigh together: 1 to 2^48 for each shard; 0 stands for 2^48 each
-	// After how long without a write, and without a use, an entry expires.
+	// How long after its last write, and after its last use, an entry expires.
 	AfterWrite, AfterAccess time.Duration
-	// After how long without a write an entry is due for a further load.
+	// How long after its last write an entry is due for another load: less than AfterWrite, if both are set.
 	Refresh time.Duration
-	// Clock returns the moment of a call, and is asked if a duration is set; nil stands for the time since Open, which doesn't jump.
-	// A moment before the latest one counts as the latest. It may be called by many goroutines at once, with no lock held.
+	// Clock returns the moment of a call. It is called only if a duration is set, by many goroutines at once and with no lock held.
+	// nil stands for the time since Open, which doesn't jump. A moment before the latest one counts as the latest.
 	Clock func() time.Time
-	// Whether the library gets keys that are numbers under a random seed of the cache's own, too, as it gets all others. Then
-	// nobody who chooses keys can aim at its tables.
+	// Seeded says whether keys that are numbers are hashed under a random seed of the cache's own, as strings always are. Then an
+	// attacker who chooses keys can't aim at the library's tables.
 	Seeded bool
 }
 
 const (
-	mostEntries = 65_536
+	mostEntries = 65_536 // of a shard
 	mostShards  = 4096
-	mostWeight  = 1 << 48
+	mostFlights = 4096    // of a shard
+	mostWeight  = 1 << 48 // of a shard
 )
 
-// parts returns the setup of each shard, or an error that is BadSetup and names the first setting that is out of its range.
+// parts returns the setup of each shard, or an error that is BadSetup and says which setting is out of its range.
 func (s Setup) parts() ([]Setup, error) {
-	if s.Entries == 0 {
-		return nil, wrong("Entries")
+	if err := s.check(); err != nil {
+		return nil, err
 	}
-	n := s.Shards
-	if n == 0 {
-		n = (s.Entries-1)/mostEntries + 1
-	}
-	if n > mostShards || n > s.Entries {
-		return nil, wrong("Shards")
-	}
-	if s.Window > s.Entries {
-		return nil, wrong("Window")
-	}
-	if s.Bound > uint64(n)*mostWeight || s.Bound != 0 && s.Bound < uint64(n) {
-		return nil, wrong("Bound")
-	}
+	n := s.shards()
 	parts := make([]Setup, n)
 	for i := range parts {
 		parts[i] = s.part(uint32(i), n)
-		if name := wrongSetting(parts[i]); name != "" {
-			return nil, wrong(name)
-		}
 	}
-	return parts, s.checkDurations()
+	return parts, nil
 }
 
-func wrong(setting string) error { return fmt.Errorf("%w: %s", BadSetup, setting) }
+// shards returns how many shards the cache gets.
+func (s Setup) shards() uint32 {
+	if s.Shards != 0 {
+		return s.Shards
+	}
+	if n := (s.Entries-1)/mostEntries + 1; n <= mostShards {
+		return n
+	}
+	return mostShards
+}
+
+// check returns an error for the first setting that is out of its range. A setting on which ranges depend is checked before them.
+func (s Setup) check() error {
+	n := uint64(s.shards())
+	with := fmt.Sprintf(", with %d shards", n)
+	if n == 1 {
+		with = ", with 1 shard"
+	}
+	for _, setting := range []struct {
+		name        string
+		value       uint64
+		hasDefault  bool // 0 stands for it
+		least, most uint64
+		because     string
+	}{
+		{"Shards", uint64(s.Shards), true, 1, mostShards, ""},
+		{"Entries", uint64(s.Entries), false, 1, n * mostEntries, with},
+		{"Shards", uint64(s.Shards), true, 1, uint64(s.Entries), ", the Entries"},
+		{"Window", uint64(s.Window), true, 1, uint64(s.Entries), ", the Entries"},
+		{"Flights", uint64(s.Flights), true, 1, mostFlights, ""},
+		{"Bound", s.Bound, true, n, n * mostWeight, with},
+	} {
+		isDefault := setting.hasDefault && setting.value == 0
+		if !isDefault && (setting.value < setting.least || setting.value > setting.most) {
+			return wrong("%s is %d, and has to be from %d to %d%s", setting.name, setting.value, setting.least, setting.most, setting.because)
+		}
+	}
+	return s.checkDurations()
+}
+
+// checkDurations compares them in whole milliseconds, as the library gets them. A refresh that isn't below AfterWrite would never
+// happen, as the entry has expired by then.
+func (s Setup) checkDurations() error {
+	for _, duration := range []struct {
+		name  string
+		value time.Duration
+	}{{"AfterWrite", s.AfterWrite}, {"AfterAccess", s.AfterAccess}, {"Refresh", s.Refresh}} {
+		if duration.value != 0 && duration.value < time.Millisecond {
+			return wrong("%s is %v, and has to be at least 1ms", duration.name, duration.value)
+		}
+	}
+	refresh, afterWrite := s.Refresh.Truncate(time.Millisecond), s.AfterWrite.Truncate(time.Millisecond)
+	if afterWrite != 0 && refresh >= afterWrite {
+		return wrong("Refresh is %v, and has to be below AfterWrite, %v", refresh, afterWrite)
+	}
+	return nil
+}
+
+func wrong(how string, of ...any) error {
+	return fmt.Errorf("%w: %s", BadSetup, fmt.Sprintf(how, of...))
+}
 
 // part returns the i-th of n parts.
 func (s Setup) part(i, n uint32) Setup {
@@ -89,18 +135,6 @@ func share[N uint32 | uint64](total, i, n N) N {
 		return total/n + 1
 	}
 	return total / n
-}
-
-func (s Setup) checkDurations() error {
-	for _, d := range []struct {
-		name string
-		of   time.Duration
-	}{{"AfterWrite", s.AfterWrite}, {"AfterAccess", s.AfterAccess}, {"Refresh", s.Refresh}} {
-		if d.of < 0 || d.of > 0 && d.of < time.Millisecond {
-			return wrong(d.name)
-		}
-	}
-	return nil
 }
 
 // A clock tells the moments of a cache: milliseconds since it was opened.

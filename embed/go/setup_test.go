@@ -56,36 +56,51 @@ func TestKeysAreSpreadOverTheShards(t *testing.T) {
 	}
 }
 
-func TestEachSettingOutOfItsRangeIsNamed(t *testing.T) {
+func TestEachSettingOutOfItsRangeIsNamedWithItsValueAndItsRange(t *testing.T) {
 	for _, row := range []struct {
 		s    Setup
-		name string
+		said string
 	}{
-		{Setup{}, "Entries"},
-		{Setup{Entries: 65_537, Shards: 1}, "Entries"},
-		{Setup{Entries: 3, Shards: 4}, "Shards"},
-		{Setup{Entries: 10_000, Shards: 4097}, "Shards"},
-		{Setup{Entries: 3, Window: 4}, "Window"},
-		{Setup{Entries: 3, Flights: 4097}, "Flights"},
-		{Setup{Entries: 3, Bound: 1<<48 + 1}, "Bound"},
-		{Setup{Entries: 3, Shards: 3, Bound: 2}, "Bound"},
-		{Setup{Entries: 3, AfterWrite: 60_000}, "AfterWrite"},
-		{Setup{Entries: 3, AfterAccess: -time.Second}, "AfterAccess"},
-		{Setup{Entries: 3, Refresh: time.Millisecond - 1}, "Refresh"},
+		{Setup{}, "Entries is 0, and has to be from 1 to 268435456, with 4096 shards"},
+		{Setup{Entries: 300_000_000}, "Entries is 300000000, and has to be from 1 to 268435456, with 4096 shards"},
+		{Setup{Entries: 65_537, Shards: 1}, "Entries is 65537, and has to be from 1 to 65536, with 1 shard"},
+		{Setup{Shards: 4}, "Entries is 0, and has to be from 1 to 262144, with 4 shards"},
+		{Setup{Entries: 3, Shards: 4}, "Shards is 4, and has to be from 1 to 3, the Entries"},
+		{Setup{Entries: 10_000, Shards: 4097}, "Shards is 4097, and has to be from 1 to 4096"},
+		{Setup{Entries: 3, Window: 4}, "Window is 4, and has to be from 1 to 3, the Entries"},
+		{Setup{Entries: 3, Flights: 4097}, "Flights is 4097, and has to be from 1 to 4096"},
+		{Setup{Entries: 3, Bound: 1<<48 + 1}, "Bound is 281474976710657, and has to be from 1 to 281474976710656, with 1 shard"},
+		{Setup{Entries: 3, Shards: 3, Bound: 2}, "Bound is 2, and has to be from 3 to 844424930131968, with 3 shards"},
+		{Setup{Entries: 3, AfterWrite: 60_000}, "AfterWrite is 60µs, and has to be at least 1ms"},
+		{Setup{Entries: 3, AfterAccess: -time.Second}, "AfterAccess is -1s, and has to be at least 1ms"},
+		{Setup{Entries: 3, Refresh: time.Millisecond - 1}, "Refresh is 999.999µs, and has to be at least 1ms"},
+		{Setup{Entries: 3, AfterWrite: 5 * time.Second, Refresh: 10 * time.Second}, "Refresh is 10s, and has to be below AfterWrite, 5s"},
+		{Setup{Entries: 3, AfterWrite: 5*time.Second + 2, Refresh: 5*time.Second + 1}, "Refresh is 5s, and has to be below AfterWrite, 5s"},
 	} {
 		_, err := Open[uint64, string](row.s)
-		if !errors.Is(err, BadSetup) || err.Error() != "rookdresser: a setting is out of its range: "+row.name {
-			t.Fatal(row, err)
+		if !errors.Is(err, BadSetup) || err.Error() != "rookdresser: a setting is out of its range: "+row.said {
+			t.Error(row.s, err)
 		}
 	}
+}
+
+// The library takes the least and the greatest of each setting.
+func TestEachSettingMayBeTheLeastAndTheGreatest(t *testing.T) {
 	for _, s := range []Setup{
-		{Entries: 1, Window: 1, Flights: 1, Bound: 1, AfterWrite: time.Millisecond, AfterAccess: time.Millisecond, Refresh: time.Millisecond},
+		{Entries: 1, Shards: 1, Window: 1, Flights: 1, Bound: 1, AfterWrite: 2 * time.Millisecond, AfterAccess: time.Millisecond, Refresh: time.Millisecond},
+		{Entries: 65_536, Shards: 1, Window: 65_536, Flights: 4096, Bound: 1 << 48, AfterAccess: math.MaxInt64, Refresh: math.MaxInt64},
 		{Entries: 4096, Shards: 4096, Flights: 4096, Bound: 4096 << 48, AfterWrite: math.MaxInt64},
+		{Entries: 4097, Shards: 4096, Window: 1, Bound: 4096},
+		{Entries: 131_072, Shards: 2, Window: 131_072, Bound: 2},
 	} {
 		c, err := Open[uint64, string](s)
 		if err != nil {
 			t.Fatal(s, err)
 		}
 		c.Close()
+	}
+	parts, err := Setup{Entries: 268_435_456}.parts()
+	if err != nil || len(parts) != 4096 || parts[4095].Entries != 65_536 {
+		t.Fatal(len(parts), err)
 	}
 }
