@@ -10,10 +10,11 @@ import (
 	"fmt"
 )
 
-// A Fault is why a call was refused, as rookdresser.h numbers it. Nothing has changed then. errors.Is tells it.
+// A Fault is the reason for which a call was refused, by its number in rookdresser.h. The refused call changed nothing. Test for a
+// fault with errors.Is.
 type Fault uint64
 
-// The faults that a caller can meet.
+// The faults that a call may return.
 const (
 	OutOfMemory    Fault = C.RD_OUT_OF_MEMORY    // the same call may succeed later
 	BadSetup       Fault = C.RD_BAD_SETUP        // a setting is out of its range
@@ -23,6 +24,7 @@ const (
 	Closed         Fault = C.RD_CLOSED           // the cache is closed
 )
 
+// Error returns the fault as a sentence.
 func (f Fault) Error() string {
 	switch f {
 	case OutOfMemory:
@@ -41,7 +43,7 @@ func (f Fault) Error() string {
 	return fmt.Sprintf("rookdresser: fault %d", uint64(f))
 }
 
-// A Cause is why an entry left.
+// A Cause is the reason for which an entry left.
 type Cause uint32
 
 // The causes.
@@ -52,6 +54,7 @@ const (
 	Size     Cause = C.RD_SIZE     // it was evicted
 )
 
+// String returns the cause's name.
 func (c Cause) String() string {
 	if c < Explicit || c > Size {
 		return fmt.Sprintf("Cause(%d)", uint32(c))
@@ -59,12 +62,12 @@ func (c Cause) String() string {
 	return [...]string{"Explicit", "Replaced", "Expired", "Size"}[c-Explicit]
 }
 
-// ErrPanicked is what those get who shared a load that panicked or ended its goroutine.
+// ErrPanicked is the error of the callers that shared a load which panicked or ended its goroutine.
 var ErrPanicked = errors.New("rookdresser: the load panicked")
 
-// ErrWaitsForItself is what a Get returns that would wait for good: a load asked for its own key, or for one whose load in turn
+// ErrWaitsForItself is the error of a Get that would wait forever: a load asked for its own key, or for a key whose load in turn
 // waits for this goroutine.
 var ErrWaitsForItself = errors.New("rookdresser: the load of the key waits for this very call")
 
-// ErrNotLoaded is what those get who waited for a key of another's GetMany whose load returned no value for it.
+// ErrNotLoaded is the error of the callers that waited for a key of another goroutine's GetMany whose fetch returned no value for it.
 var ErrNotLoaded = errors.New("rookdresser: the load returned no value for the key")

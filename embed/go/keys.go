@@ -8,8 +8,8 @@ import (
 	"unsafe"
 )
 
-// A Key is a string or a whole number, of a type of yours too. A string goes to the library as its hash under a random seed of the
-// cache's own; a number as it is, unless the Setup says Seeded. OpenHashed takes all other keys.
+// A Key is a string or a whole number, also of a type of your own. The library gets the hash of a string under a random seed of the
+// cache's own. It gets a number unchanged, unless the Setup says Seeded. OpenHashed takes keys of all other types.
 type Key interface {
 	~string | ~int | ~int8 | ~int16 | ~int32 | ~int64 | ~uint | ~uint8 | ~uint16 | ~uint32 | ~uint64 | ~uintptr
 }

@@ -1,16 +1,17 @@
 package rookdresser
 
-// Left is an entry that left.
+// A Left is an entry that left the cache.
 type Left[K comparable, V any] struct {
 	Key   K
 	Value V
 	Cause Cause
 }
 
-// Listen has the function called for each entry that leaves, in the goroutine whose call made it leave, with no lock held and
-// after the load of that call has landed. It may use the cache. If it panics, it is called for the others all the same, and then
-// the call panics with what it said first. If it ends its goroutine, it is called for the others in another one.
-// Listen is called before the cache is shared.
+// Listen sets the function that is called for each entry that leaves. Call Listen before you share the cache.
+//
+// The listener runs in the goroutine whose call made the entry leave, with no lock held, after the load of that call has landed. It
+// may use the cache. If it panics, it is still called for the other entries, and then the call panics with the first panic's value.
+// If it ends its goroutine, another goroutine calls it for the others.
 func (c *Cache[K, V]) Listen(listener func(Left[K, V])) { c.listener = listener }
 
 // tell calls the listener for each.

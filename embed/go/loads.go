@@ -28,16 +28,17 @@ type sought[K comparable, V any] struct {
 	left       []Left[K, V]
 }
 
-// Get returns the key's value; if there is none, that of fetch, which all who ask meanwhile share. fetch returns the value and its
-// weight. The value's age counts from the moment of this call, not from the end of the load.
+// Get returns the key's value. If there is none, it calls fetch for the value and its weight; all goroutines that ask for the key
+// meanwhile share that one load. The value's age counts from the moment of this call, not from the end of the load.
 //
-// An entry that is due is loaded again by the first who asks, in its own goroutine: it is given the new value, or the old one if
-// that load fails. The others get the old value meanwhile.
+// The first caller that asks for an entry that is due loads it again, in its own goroutine. It gets the new value, or the old one
+// if the load fails. The others get the old value meanwhile.
 //
-// ctx limits how long another's load is waited for. fetch is given a context with the values of ctx that doesn't end with it, since
-// others may share the load; so a fetch that is to be cut off sets a time-out of its own.
+// ctx limits how long Get waits for another goroutine's load. The context that fetch gets has the values of ctx and doesn't end with
+// it, since others may share the load. To cut a load off, set a time-out in fetch.
 //
-// The error is fetch's, ctx's, ErrPanicked, ErrWaitsForItself, ErrNotLoaded, TooManyFlights, OutOfMemory or Closed.
+// The error is fetch's, ctx's (context.Canceled if ctx has ended and gives none), ErrPanicked, ErrWaitsForItself, ErrNotLoaded,
+// TooManyFlights, OutOfMemory or Closed.
 func (c *Cache[K, V]) Get(ctx context.Context, key K, fetch func(context.Context) (V, uint32, error)) (V, error) {
 	found, err := c.seek(key)
 	switch {

@@ -5,18 +5,19 @@ import (
 	"errors"
 )
 
-// A Weighed is a value with its weight.
+// A Weighed is a value and its weight, as the fetch of a GetMany returns it.
 type Weighed[V any] struct {
 	Value  V
 	Weight uint32
 }
 
-// GetMany returns the values of several keys. Those that are absent or due, and that nobody else loads, go to one call of fetch, or
-// to several if they are more than the loads that may be open; all who ask meanwhile share them. Then it waits for those that
-// others load.
+// GetMany returns the values of several keys. One call of fetch loads all keys that are absent or due and that no other call loads,
+// or several calls do if they are more than Flights; goroutines that ask for these keys meanwhile share the loads. Then GetMany
+// waits for the keys that other calls load.
 //
-// A key for which fetch returns no value isn't in the map, and its entry stays if it was due; others who wait for it get
-// ErrNotLoaded. With an error, the first of those of Get, the map has what was found all the same. ctx is as in Get.
+// If fetch returns no value for a key, the map doesn't have it, and an entry that was due stays. Others that wait for such a key get
+// ErrNotLoaded. The error is the first of those that Get may return; the map then has the values that were found all the same. ctx
+// is as in Get.
 func (c *Cache[K, V]) GetMany(
 	ctx context.Context, keys []K, fetch func(context.Context, []K) (map[K]Weighed[V], error),
 ) (map[K]V, error) {

@@ -1,6 +1,10 @@
 package rookdresser
 
 import (
+	"go/ast"
+	"go/doc"
+	"go/parser"
+	"go/token"
 	"os"
 	"reflect"
 	"regexp"
@@ -40,9 +44,61 @@ func TestTheReadmeNamesAllOfTheSettingsCountsAndCalls(t *testing.T) {
 			}
 		}
 	}
-	for i, kind := 0, reflect.TypeOf(&Cache[int, int]{}); i < kind.NumMethod(); i++ {
-		if name := kind.Method(i).Name; !strings.Contains(page, name+"(") && name != "Close" {
-			t.Error(name)
+	for _, of := range []any{&Cache[int, int]{}, Stats{}} {
+		for i, kind := 0, reflect.TypeOf(of); i < kind.NumMethod(); i++ {
+			if name := kind.Method(i).Name; !strings.Contains(page, name+"(") && name != "Close" {
+				t.Error(name)
+			}
 		}
+	}
+}
+
+// documented returns what `go doc` tells of this package.
+func documented(t *testing.T) *doc.Package {
+	files := token.NewFileSet()
+	packages, err := parser.ParseDir(files, ".", nil, parser.ParseComments)
+	if err != nil {
+		t.Fatal(err)
+	}
+	var all []*ast.File
+	for _, p := range packages {
+		for _, file := range p.Files {
+			all = append(all, file)
+		}
+	}
+	found, err := doc.NewFromFiles(files, all, "rookdresser")
+	if err != nil {
+		t.Fatal(err)
+	}
+	return found
+}
+
+func TestEachCallHasAnExampleAndEachNameASentence(t *testing.T) {
+	told, calls := documented(t), 0
+	hasSentence := func(name, text string) {
+		if !strings.HasSuffix(text, ".\n") {
+			t.Errorf("the comment of %s is no sentence: %s", name, text)
+		}
+	}
+	haveExamples := func(of string, funcs []*doc.Func) {
+		for _, f := range funcs {
+			if calls++; len(f.Examples) == 0 {
+				t.Errorf("no example is of %s%s", of, f.Name)
+			}
+			hasSentence(of+f.Name, f.Doc)
+		}
+	}
+	haveExamples("", told.Funcs)
+	for _, of := range told.Types {
+		hasSentence(of.Name, of.Doc)
+		haveExamples("", of.Funcs)
+		haveExamples(of.Name+".", of.Methods)
+	}
+	for _, of := range told.Vars {
+		hasSentence(of.Names[0], of.Doc)
+	}
+	// Open, OpenHashed, 15 of a Cache, 2 of Stats, Fault.Error and Cause.String.
+	if calls != 21 {
+		t.Error(calls)
 	}
 }

@@ -1,5 +1,6 @@
-// Package rookdresser is the proved sequential cache of librookdresser, behind locks, for Go values under Go keys.
-// It is tested, not proved. CGO_CFLAGS and CGO_LDFLAGS name the header's folder and the library.
+// Package rookdresser is a loading cache for many goroutines: the proved sequential cache of librookdresser behind locks, for Go
+// values under Go keys. The package itself is tested, not proved. CGO_CFLAGS and CGO_LDFLAGS name the header's folder and the
+// library.
 package rookdresser
 
 import (
@@ -9,9 +10,9 @@ import (
 
 // A Cache holds values of type V by keys of type K, for many goroutines.
 //
-// A call with a key takes the lock of the key's shard for one step, expected O(1); the others take those of all shards, one after
-// the other, so that they aren't one step if there are several. No code of the caller's runs while a lock is held. A call that
-// returns a Fault has changed nothing in the shard that refused it.
+// A call with a key locks the key's shard for one step, expected O(1). The other calls lock all shards, one after another, so with
+// several shards they aren't one step. No code of yours runs while a lock is held. A call that returns a Fault has changed nothing
+// in the shard that refused it.
 type Cache[K comparable, V any] struct {
 	shards   []*shard[K, V]
 	hash     hasher[K]
@@ -19,19 +20,19 @@ type Cache[K comparable, V any] struct {
 	listener func(Left[K, V])
 }
 
-// Open returns an empty cache, or an error that is BadSetup and names the setting, or OutOfMemory, in this order. Close frees it;
-// the collector doesn't, as its memory is C's.
+// Open returns an empty cache. If a setting is out of its range, the error is BadSetup and gives its name, its value and the range;
+// if an allocation fails, OutOfMemory. The collector can't free the cache, whose memory is C's: call Close.
 func Open[K Key, V any](s Setup) (*Cache[K, V], error) {
 	return opened[K, V](s, hasherOfKind[K](s.Seeded))
 }
 
-// OpenHashed is Open for keys of any comparable type, with a hash of theirs: maphash.Comparable[K] of Go 1.24, or one of yours.
+// OpenHashed opens a cache for keys of any comparable type, as Open does, with a hash: maphash.Comparable[K] of Go 1.24, or yours.
 //
-// Equal keys need equal hashes under one seed. Keys of one hash are told apart, slowly if they are many. The seed is the cache's
-// own, so that nobody who chooses keys can aim at the library's tables, if the hash makes use of it.
+// Equal keys need equal hashes under one seed. Keys of one hash remain different keys, but many of them are slow. The seed is
+// random and the cache's own: if the hash depends on it, an attacker who chooses keys can't aim at the library's tables.
 func OpenHashed[K comparable, V any](s Setup, hash func(maphash.Seed, K) uint64) (*Cache[K, V], error) {
 	if hash == nil {
-		return nil, wrong("hash")
+		return nil, wrong("hash is nil, and has to be a function")
 	}
 	return opened[K, V](s, hasher[K]{own: hash, seed: maphash.MakeSeed()})
 }
@@ -64,7 +65,7 @@ func (c *Cache[K, V]) of(key K) (*shard[K, V], uint64) {
 	return c.shards[i], hash
 }
 
-// Close frees the cache, and tells the listener of all that was there. Closing it again does nothing.
+// Close frees the cache, and reports all remaining entries to the listener, as Explicit. Closing it again does nothing.
 func (c *Cache[K, V]) Close() {
 	var left []Left[K, V]
 	for _, s := range c.shards {
@@ -73,7 +74,8 @@ func (c *Cache[K, V]) Close() {
 	c.tell(left)
 }
 
-// Look returns the value under the key, if it is there, with no load. Finding it is a use. The error is Closed or OutOfMemory.
+// Look returns the value under the key and whether it was there. It never loads. A hit is a use of the entry. The error is Closed
+// or OutOfMemory.
 func (c *Cache[K, V]) Look(key K) (v V, found bool, err error) {
 	s, hash, now := c.enter(key)
 	at, number := s.table.find(key, hash)
@@ -87,8 +89,8 @@ func (c *Cache[K, V]) Look(key K) (v V, found bool, err error) {
 	return v, found, c.leave(s, err)
 }
 
-// Contains tells whether Look would find the key. It counts as no look-up, and as no use of the entry. In a closed cache nothing is
-// found.
+// Contains returns whether Look would find the key. It counts neither a look-up nor a use of the entry. It finds nothing in a
+// closed cache.
 func (c *Cache[K, V]) Contains(key K) bool {
 	s, hash, now := c.enter(key)
 	defer s.mu.Unlock()
@@ -96,7 +98,7 @@ func (c *Cache[K, V]) Contains(key K) bool {
 	return s.isThere(at, now)
 }
 
-// Keys returns the keys that Look would find, in no order. O(entries).
+// Keys returns the keys that Look would find, in no particular order. It counts neither look-ups nor uses. O(entries).
 func (c *Cache[K, V]) Keys() (keys []K) {
 	now := c.clock.now()
 	for _, s := range c.shards {
@@ -105,14 +107,14 @@ func (c *Cache[K, V]) Keys() (keys []K) {
 	return keys
 }
 
-// Put stores the value under the key, in place of one that is there. What leaves may be the new value itself, if others are used
-// more. The error is Closed, TooHeavy or OutOfMemory.
+// Put stores the value under the key, in place of one that is there. If the cache is full, the entry that leaves may be the new one
+// itself, if the others are used more. The error is Closed, TooHeavy or OutOfMemory.
 func (c *Cache[K, V]) Put(key K, v V, weight uint32) error {
 	s, hash, now := c.enter(key)
 	return c.leave(s, s.put(key, hash, v, weight, now))
 }
 
-// Drop takes the key's entry out, and tells whether there was one. A load of it that is open stores nothing. The error is Closed.
+// Drop removes the key's entry, and returns whether there was one. An open load of the key will store nothing. The error is Closed.
 func (c *Cache[K, V]) Drop(key K) (bool, error) {
 	s, hash, now := c.enter(key)
 	_, number := s.table.find(key, hash)
@@ -121,8 +123,8 @@ func (c *Cache[K, V]) Drop(key K) (bool, error) {
 	return there, c.leave(s, err)
 }
 
-// Forget lets nobody further join an open load of the key, which stores nothing, and tells whether there was one. The error is
-// Closed.
+// Forget lets no further caller join an open load of the key, which will store nothing, and returns whether there was one. The
+// error is Closed.
 func (c *Cache[K, V]) Forget(key K) (bool, error) {
 	s, hash, now := c.enter(key)
 	_, number := s.table.find(key, hash)
@@ -131,10 +133,10 @@ func (c *Cache[K, V]) Forget(key K) (bool, error) {
 	return there, c.leave(s, err)
 }
 
-// Clear takes every entry out. The open loads store nothing. O(entries). The error is Closed.
+// Clear removes every entry. The open loads will store nothing. O(entries). The error is Closed.
 func (c *Cache[K, V]) Clear() error { return c.sweep(library.clear) }
 
-// Clean takes every expired entry out. O(entries). The error is Closed.
+// Clean removes every expired entry. O(entries). The error is Closed.
 func (c *Cache[K, V]) Clean() error { return c.sweep(library.clean) }
 
 func (c *Cache[K, V]) sweep(call func(library, uint64) Fault) (err error) {

@@ -1,13 +1,16 @@
 package rookdresser
 
-import "time"
+import (
+	"fmt"
+	"time"
+)
 
-// Numbers are those of the library. Latest is in milliseconds since the cache was opened.
+// Numbers are the library's counts; the Guide says what each means. Latest is in milliseconds since the cache was opened.
 type Numbers struct {
 	Lookups, Hits, Misses, Loads, Failed, Evicted, Entries, Weight, Step, Latest, Flights uint64
 }
 
-// Stats are what this side counted since the cache was opened. README.md says what each is in terms of Guava's CacheStats.
+// Stats are the counts of this package since the cache was opened. README.md compares each with Guava's CacheStats.
 type Stats struct {
 	Hits, Misses                      uint64 // of Look and Get; refused calls are neither
 	Joins                             uint64 // misses that found another's load under way
@@ -17,6 +20,25 @@ type Stats struct {
 	Loose                             uint64 // values that were loaded and not stored
 	Explicit, Replaced, Expired, Size uint64 // entries that left, by their cause
 	Refused                           map[Fault]uint64
+}
+
+// HitRatio returns the part of the look-ups that hit, from 0 to 1; 0 before the first look-up.
+func (s Stats) HitRatio() float64 {
+	if s.Hits+s.Misses == 0 {
+		return 0
+	}
+	return float64(s.Hits) / float64(s.Hits+s.Misses)
+}
+
+// String returns the counts as one line, with the refused calls of all faults together.
+func (s Stats) String() string {
+	var refused uint64
+	for _, count := range s.Refused {
+		refused += count
+	}
+	return fmt.Sprintf("hits %d misses %d hit-ratio %.3f joins %d refreshes %d loads %d loose %d failed %d load-time %v"+
+		" explicit %d replaced %d expired %d size %d refused %d", s.Hits, s.Misses, s.HitRatio(), s.Joins, s.Refreshes, s.Loads, s.Loose,
+		s.Failed, s.LoadTime, s.Explicit, s.Replaced, s.Expired, s.Size, refused)
 }
 
 func (s *Stats) refuse(f Fault) {
@@ -39,7 +61,7 @@ func (s *Stats) leave(cause Cause) {
 	}
 }
 
-// Stats returns what this side counted, of all shards together.
+// Stats returns the counts of this package, summed over the shards.
 func (c *Cache[K, V]) Stats() Stats {
 	sum := Stats{Refused: map[Fault]uint64{}}
 	for _, s := range c.shards {
@@ -68,7 +90,7 @@ func (s *Stats) add(other *Stats) {
 	}
 }
 
-// Numbers returns the numbers of the library, of all shards together, or the error Closed.
+// Numbers returns the library's counts, summed over the shards, or the error Closed.
 func (c *Cache[K, V]) Numbers() (sum Numbers, err error) {
 	for _, s := range c.shards {
 		s.mu.Lock()
@@ -98,7 +120,7 @@ func (n *Numbers) add(other Numbers) {
 	}
 }
 
-// Kept returns how many values and keys this side keeps. While no load is open, both are Numbers().Entries.
+// Kept returns how many values and keys this package keeps. While no load is open, both equal Numbers().Entries.
 func (c *Cache[K, V]) Kept() (values, keys int) {
 	for _, s := range c.shards {
 		s.mu.Lock()

@@ -1,0 +1,228 @@
+package rookdresser_test
+
+// An example of each call, which TestEachCallHasAnExampleAndEachNameASentence wants.
+
+import (
+	"context"
+	"errors"
+	"fmt"
+	"log"
+	"sort"
+	"time"
+
+	"rookdresser"
+)
+
+// opened returns a cache of texts, or ends the program.
+func opened(setup rookdresser.Setup) *rookdresser.Cache[string, string] {
+	c, err := rookdresser.Open[string, string](setup)
+	if err != nil {
+		log.Fatal(err)
+	}
+	return c
+}
+
+func ExampleOpen() {
+	_, err := rookdresser.Open[string, string](rookdresser.Setup{Entries: 10, Window: 20})
+	fmt.Println(errors.Is(err, rookdresser.BadSetup))
+	fmt.Println(err)
+	// Output:
+	// true
+	// rookdresser: a setting is out of its range: Window is 20, and has to be from 1 to 10, the Entries
+}
+
+func ExampleCache_Get() {
+	c := opened(rookdresser.Setup{Entries: 1000})
+	defer c.Close()
+	fetch := func(context.Context) (string, uint32, error) {
+		fmt.Println("fetching")
+		return "a text", 1, nil
+	}
+	for i := 0; i < 2; i++ {
+		text, err := c.Get(context.Background(), "a page", fetch)
+		fmt.Println(text, err)
+	}
+	// Output:
+	// fetching
+	// a text <nil>
+	// a text <nil>
+}
+
+func ExampleCache_Get_timeout() {
+	c := opened(rookdresser.Setup{Entries: 1000})
+	defer c.Close()
+	fetch := func(context.Context) (string, uint32, error) {
+		// Another goroutine would wait for this load for a millisecond.
+		ctx, cancel := context.WithTimeout(context.Background(), time.Millisecond)
+		defer cancel()
+		waited := make(chan error)
+		go func() {
+			_, err := c.Get(ctx, "a page", func(context.Context) (string, uint32, error) { return "", 1, nil })
+			waited <- err
+		}()
+		fmt.Println("the other:", <-waited)
+		return "a text", 1, nil
+	}
+	fmt.Println(c.Get(context.Background(), "a page", fetch))
+	// Output:
+	// the other: context deadline exceeded
+	// a text <nil>
+}
+
+func ExampleCache_Look() {
+	c := opened(rookdresser.Setup{Entries: 1000})
+	defer c.Close()
+	_, found, err := c.Look("a page")
+	fmt.Println(found, err)
+	_ = c.Put("a page", "a text", 1)
+	fmt.Println(c.Look("a page"))
+	// Output:
+	// false <nil>
+	// a text true <nil>
+}
+
+func ExampleCache_Put() {
+	c := opened(rookdresser.Setup{Entries: 1000, Bound: 64})
+	defer c.Close()
+	fmt.Println(c.Put("a page", "a text", 64))
+	err := c.Put("another", "a longer text", 65)
+	fmt.Println(errors.Is(err, rookdresser.TooHeavy), c.Contains("another"))
+	// Output:
+	// <nil>
+	// true false
+}
+
+func ExampleCache_Drop() {
+	c := opened(rookdresser.Setup{Entries: 1000})
+	defer c.Close()
+	_ = c.Put("a page", "a text", 1)
+	fmt.Println(c.Drop("a page"))
+	fmt.Println(c.Drop("a page"))
+	// Output:
+	// true <nil>
+	// false <nil>
+}
+
+func ExampleCache_Forget() {
+	c := opened(rookdresser.Setup{Entries: 1000})
+	defer c.Close()
+	text, err := c.Get(context.Background(), "a page", func(context.Context) (string, uint32, error) {
+		forgot, err := c.Forget("a page")
+		fmt.Println(forgot, err)
+		return "a text", 1, nil
+	})
+	fmt.Println(text, err, c.Contains("a page"))
+	// Output:
+	// true <nil>
+	// a text <nil> false
+}
+
+func ExampleCache_Contains() {
+	c := opened(rookdresser.Setup{Entries: 1000})
+	defer c.Close()
+	_ = c.Put("a page", "a text", 1)
+	fmt.Println(c.Contains("a page"), c.Contains("another"), c.Stats().Hits)
+	// Output: true false 0
+}
+
+func ExampleCache_Keys() {
+	c := opened(rookdresser.Setup{Entries: 1000})
+	defer c.Close()
+	_ = c.Put("b", "", 1)
+	_ = c.Put("a", "", 1)
+	keys := c.Keys()
+	sort.Strings(keys)
+	fmt.Println(keys)
+	// Output: [a b]
+}
+
+func ExampleCache_Clear() {
+	c := opened(rookdresser.Setup{Entries: 1000})
+	defer c.Close()
+	_ = c.Put("a page", "a text", 1)
+	fmt.Println(c.Clear(), len(c.Keys()), c.Stats().Explicit)
+	// Output: <nil> 0 1
+}
+
+func ExampleCache_Clean() {
+	now := time.Date(2026, 11, 28, 12, 0, 0, 0, time.UTC)
+	c := opened(rookdresser.Setup{Entries: 1000, AfterWrite: time.Minute, Clock: func() time.Time { return now }})
+	defer c.Close()
+	_ = c.Put("a page", "a text", 1)
+	now = now.Add(time.Minute)
+	fmt.Println(c.Contains("a page"))
+	fmt.Println(c.Clean(), c.Stats().Expired)
+	// Output:
+	// false
+	// <nil> 1
+}
+
+func ExampleCache_Listen() {
+	c := opened(rookdresser.Setup{Entries: 1})
+	c.Listen(func(left rookdresser.Left[string, string]) { fmt.Println(left.Key, left.Value, left.Cause) })
+	_ = c.Put("a page", "a text", 1)
+	_ = c.Put("a page", "a new text", 1)
+	_ = c.Put("another", "its text", 1)
+	c.Close()
+	// Output:
+	// a page a text Replaced
+	// a page a new text Size
+	// another its text Explicit
+}
+
+func ExampleCache_Close() {
+	c := opened(rookdresser.Setup{Entries: 1000})
+	c.Close()
+	fmt.Println(errors.Is(c.Put("a page", "a text", 1), rookdresser.Closed))
+	// Output: true
+}
+
+func ExampleCache_Numbers() {
+	c := opened(rookdresser.Setup{Entries: 1000})
+	defer c.Close()
+	_ = c.Put("a page", "a text", 7)
+	numbers, err := c.Numbers()
+	fmt.Println(numbers.Entries, numbers.Weight, err)
+	// Output: 1 7 <nil>
+}
+
+func ExampleCache_Kept() {
+	c := opened(rookdresser.Setup{Entries: 1000})
+	defer c.Close()
+	_ = c.Put("a page", "a text", 1)
+	fmt.Println(c.Kept())
+	// Output: 1 1
+}
+
+func ExampleStats_HitRatio() {
+	c := used()
+	defer c.Close()
+	fmt.Printf("%.2f\n", c.Stats().HitRatio())
+	// Output: 0.33
+}
+
+func ExampleStats_String() {
+	c := used()
+	defer c.Close()
+	stats := c.Stats()
+	stats.LoadTime = 30 * time.Millisecond
+	fmt.Println(stats)
+	// Output: hits 1 misses 2 hit-ratio 0.333 joins 0 refreshes 0 loads 1 loose 0 failed 1 load-time 30ms explicit 0 replaced 0 expired 0 size 0 refused 0
+}
+
+func ExampleFault_Error() {
+	c := opened(rookdresser.Setup{Entries: 1000, Bound: 64})
+	defer c.Close()
+	err := c.Put("a page", "a text", 65)
+	var fault rookdresser.Fault
+	fmt.Println(errors.As(err, &fault), fault == rookdresser.TooHeavy)
+	fmt.Println(err)
+	// Output:
+	// true true
+	// rookdresser: the value is heavier than Bound
+}
+
+func ExampleCause_String() {
+	fmt.Println(rookdresser.Explicit, rookdresser.Replaced, rookdresser.Expired, rookdresser.Size)
+	// Output: Explicit Replaced Expired Size
+}
