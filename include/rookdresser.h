@@ -64,7 +64,8 @@ static inline rd_name rd_name_of(const void *bytes, size_t length) {
     return name;
 }
 
-/* The settings of a cache. */
+/* The settings of a cache. Each duration may be any number. A refresh that isn't below after_write never happens, since the
+ * entry has expired by then. */
 typedef struct rd_setup {
     uint32_t entries;      /* at most so many entries: 1 to 65,536 */
     uint32_t window;       /* so many of them in the window: 1 to entries; a hundredth is a good choice */
@@ -167,8 +168,8 @@ typedef struct rd_numbers {
     uint64_t flights; /* loads that are open now */
 } rd_numbers;
 
-/* Returns 0, or the first setting that is out of its range: 1 entries, 2 window, 3 flights, 4 bound, 5 after_write,
- * 6 after_access, 7 refresh. */
+/* Returns 0, or the first setting that is out of its range, in this order: 1 entries, 2 window, 4 bound, 3 flights. It never
+ * returns 5 after_write, 6 after_access or 7 refresh: these take every number. */
 uint64_t rd_check(const rd_setup *setup);
 
 /* Opens an empty cache whose keys are numbers. Faults, in this order: RD_OPEN_ALREADY, RD_BAD_SETUP, RD_OUT_OF_MEMORY.

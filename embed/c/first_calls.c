@@ -94,6 +94,11 @@ int main(void) {
         if (entries == 1)
             break;
     }
+    /* a refresh that isn't below after_write: the entry has expired before it is due */
+    rd_setup late = {.entries = 4, .window = 1, .flights = 2, .bound = 100, .after_write = 5, .refresh = 5};
+    CHECK(rd_check(&late) == 0 && rd_open(&late, &cache) == 0 && rd_put(&cache, 1, (rd_token){7, 2}, 0, &a) == 0);
+    CHECK(rd_seek(&cache, 1, 4, &a) == 0 && a.kind == RD_HIT && rd_seek(&cache, 1, 5, &a) == 0 && a.kind == RD_LEAD);
+    CHECK(rd_close(&cache) == 0);
     setup.window = 5;
     CHECK(rd_check(&setup) == 2 && rd_open(&setup, &cache) == RD_BAD_SETUP && !cache.is_open);
     setup.window = 1;

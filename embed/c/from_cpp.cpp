@@ -1,6 +1,7 @@
 // The headers from C++: a cache of numbers and one of names, and a loading one.
 #include "rookdresser_loading.h"
 #include "rookdresser_seeded.h"
+#include "rookdresser_text.h"
 #include <cstdio>
 
 int main() {
@@ -12,7 +13,9 @@ int main() {
     rd_cache cache = RD_CACHE_INIT, names = RD_CACHE_INIT;
     rd_answer a;
     rd_name alice = rd_name_of("alice", 5);
-    bool ok = rd_open(&setup, &cache) == RD_OK && rd_open_names(&setup, &names) == RD_OK;
+    char text[RD_TEXT];
+    bool ok = rd_setup_text(&setup, text, sizeof text) == 0 && rd_cause_text(RD_SIZE) != rd_fault_text(RD_CLOSED);
+    ok = ok && rd_open(&setup, &cache) == RD_OK && rd_open_names(&setup, &names) == RD_OK;
     ok = ok && rd_put(&cache, 1, rd_token{7, 2}, 0, &a) == RD_OK && a.kind == RD_STORED;
     ok = ok && rd_look(&cache, 1, 0, &a) == RD_OK && a.kind == RD_HIT && a.token == 7;
     ok = ok && rd_put_name(&names, &alice, rd_token{8, 2}, 0, &a) == RD_OK && a.kind == RD_STORED;

@@ -211,6 +211,8 @@ static void test_closing(void) {
     request closes = {.key = 8, .now = 160, .number = 8, .does = CLOSES};
     get(&closes);
     CHECK(closes.fault == RD_OK && closes.got == 8 && closes.inner == RD_OK);
+    CHECK(live == 1 && number_of(kept) == 7 && rd_loading_share(kept) == kept && !rd_loading_share(NULL));
+    rd_loading_release(&l, kept);
     CHECK(live == 1 && number_of(kept) == 7);
     rd_loading_release(&l, kept);
     CHECK(live == 0 && !l.loads && rd_loading_close(&l) == RD_CLOSED && rd_loading_look(&l, 7, 160, &got) == RD_CLOSED && !got);

@@ -1,4 +1,5 @@
-/* A loading cache for threads: a cache of rookdresser.h behind a lock, with one load for all who ask for a key meanwhile.
+/* A loading cache for threads: a cache of rookdresser.h behind one lock, with one load for all callers that ask for a key meanwhile.
+ * It has no shards: all calls of a cache take the same lock, each for one step.
  *
  *     typedef struct page { rd_shared shared; char text[100]; } page;     a value begins with its count of shares
  *     rd_loading pages = RD_LOADING_INIT;
