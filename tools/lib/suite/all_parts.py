@@ -16,7 +16,7 @@ LANGUAGES = {"c": (("gcc", "g++", "nm", "objdump", "pkg-config"), 90), "rust": (
 SLOW = {"wt_turns_tests": 60, "wt_shards_tests": 120, "wt_cache_tests": 120, "wt_callers_tests": 120, "wt_core_tests": 90, "wt_trace_tests": 120,
         "wt_keys_tests": 90}
 # The slowest pages.
-PAGES = {"CONTRIBUTING.md": 230, "embed/README.md": 60, "embed/python/README.md": 50}
+PAGES = {"CONTRIBUTING.md": 230, "docs/GUIDE.md": 80, "embed/README.md": 60, "embed/python/README.md": 50}
 
 
 def python(*words):
