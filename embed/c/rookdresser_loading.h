@@ -4,13 +4,13 @@
  *     typedef struct page { rd_shared shared; char text[100]; } page;     a value begins with its count of shares
  *     rd_loading pages = RD_LOADING_INIT;
  *     rd_loading_open(&pages, &setup, free_page);                         free_page(&page->shared) frees a page
- *     rd_loading_get(&pages, key, now_ms, load_page, context, &shared);   the page, with a share of the caller's
+ *     rd_loading_get(&pages, key, now_ms, load_page, context, &shared);   the page, of which the caller now has a share
  *     rd_loading_release(&pages, shared);
  *
- * Keys are numbers; names, if ROOKDRESSER_LOADING_NAMES is defined before this header is included. A load and a destroy are called
- * with no lock held, and may use the cache. Each call returns a fault of rd_fault, RD_OK if there is none, and rd_loading_get an
- * error besides. After rd_loading_close all calls return RD_CLOSED. Takes no memory of its own. Written by hand, and tested with
- * the address, undefined-behaviour and thread sanitizers, not proved. It needs pthreads and the __atomic functions of gcc or clang.
+ * Keys are numbers, or names if you define ROOKDRESSER_LOADING_NAMES before you include this header. Your load and your destroy run
+ * with no lock held, and may use the cache. Each call returns an rd_fault; rd_loading_get may also return an error. After
+ * rd_loading_close all calls return RD_CLOSED. The header takes no memory of its own. It was written by hand; it is tested with the
+ * address, undefined-behaviour and thread sanitizers, and not proved. It needs pthreads and the __atomic functions of gcc or clang.
  */
 #ifndef ROOKDRESSER_LOADING_H
 #define ROOKDRESSER_LOADING_H
@@ -35,7 +35,7 @@ typedef rd_notice rd_loading_notice;
 #define RD_LOADING_KEY(key) (key)
 #endif
 
-/* What a value begins with. The cache has a share of each value that it holds, and each caller of what it was given. */
+/* The beginning of each value. The cache has a share of each value that it holds, and a caller has one of each value that it got. */
 typedef struct rd_shared {
     long shares;
     struct rd_shared *next; /* the next of those that left the cache by one call */
@@ -43,15 +43,15 @@ typedef struct rd_shared {
 
 enum { RD_WAITS_FOR_ITSELF = 1000, RD_LOADING_ERRORS = 1001 };
 
-/* Loads a key: RD_OK with a new value and its weight, or an error of the caller's from RD_LOADING_ERRORS on, with no value. It has
- * to return: no longjmp and no cancellation. */
+/* Loads a key. Returns RD_OK and writes a new value and its weight, or returns an error of yours, a number from RD_LOADING_ERRORS
+ * on, and writes no value. It has to return: it must neither longjmp out nor be cancelled. */
 typedef uint64_t rd_load(void *context, rd_loading_key key, rd_shared **value, uint32_t *weight);
 
-/* A load under way and a wait for one, on the stack of the thread that makes it or waits. */
+/* A load that is open, or a wait for one, on the stack of the thread that loads or waits. */
 typedef struct rd_flight {
     uint64_t id;
     pthread_t thread;
-    bool is_over;     /* of a wait: then it has the value with a share, or the error */
+    bool is_over;     /* of a wait: from then on it has the value, with a share, or the error */
     rd_shared *value;
     uint64_t error;
     struct rd_flight *next;
@@ -67,7 +67,7 @@ typedef struct rd_loading {
 } rd_loading;
 #define RD_LOADING_INIT {PTHREAD_MUTEX_INITIALIZER, PTHREAD_COND_INITIALIZER, RD_CACHE_INIT, {{0}, {0}, {0}, 0}, 0, 0, 0}
 
-/* Opens an empty cache, as rd_open. destroy is called for each value once nobody has a share of it. */
+/* Opens an empty cache, as rd_open does. The cache calls destroy for each value once nobody has a share of it. */
 static inline uint64_t rd_loading_open(rd_loading *l, const rd_setup *setup, void (*destroy)(rd_shared *value)) {
     pthread_mutex_lock(&l->lock);
     uint64_t fault = RD_LOADING_OPEN(setup, &l->cache);
@@ -76,7 +76,7 @@ static inline uint64_t rd_loading_open(rd_loading *l, const rd_setup *setup, voi
     return fault;
 }
 
-/* One share more of a value of which the caller has one. */
+/* Takes another share of a value of which the caller has one, and returns the value. Without a value it does nothing. */
 static inline rd_shared *rd_loading_share(rd_shared *value) {
     if (value) __atomic_add_fetch(&value->shares, 1, __ATOMIC_RELAXED);
     return value;
@@ -116,7 +116,7 @@ static inline rd_token rd_loading_token(rd_shared *value, uint32_t weight) {
     return token;
 }
 
-/* Stores a new value, of which the cache has the only share. If it is refused, it is destroyed. */
+/* Stores a new value, of which the cache then has the only share. A value that is refused is destroyed. */
 static inline uint64_t rd_loading_put(rd_loading *l, rd_loading_key key, rd_shared *value, uint32_t weight, uint64_t now) {
     rd_answer answer;
     rd_shared *left = 0;
@@ -129,7 +129,7 @@ static inline uint64_t rd_loading_put(rd_loading *l, rd_loading_key key, rd_shar
     return fault;
 }
 
-/* The value under the key with a share of the caller's, or none, with no load. */
+/* Writes the value under the key, with a share for the caller, or null. It never loads. */
 static inline uint64_t rd_loading_look(rd_loading *l, rd_loading_key key, uint64_t now, rd_shared **value) {
     rd_answer answer;
     rd_shared *left = 0;
@@ -232,10 +232,10 @@ static inline uint64_t rd_loading_lead(rd_loading *l, uint64_t id, rd_loading_ke
     return RD_OK;
 }
 
-/* The key's value with a share of the caller's. If there is none, or it is due for a further load, this thread loads it, and all
- * who ask meanwhile share the load; of an entry that is due they get the old value, and so does this thread if the load fails.
- * RD_WAITS_FOR_ITSELF if it asks for its own load, or for one of this cache that waits for it in turn; an error of the load's. The
- * value's age counts from now. With an error or a fault there is no value. */
+/* Writes the key's value, with a share for the caller. If there is none, or it is due for another load, this thread loads it, and all
+ * threads that ask meanwhile share the load. While an entry that is due is loaded, the others get the old value; if the load fails,
+ * this thread gets it too. Returns RD_WAITS_FOR_ITSELF if a load asks for its own key, or for a key of this cache whose load waits
+ * for this thread; or the error of the load. The value's age counts from now. With an error or a fault it writes null. */
 static inline uint64_t rd_loading_get(rd_loading *l, rd_loading_key key, uint64_t now, rd_load *load, void *context, rd_shared **value) {
     rd_answer answer;
     rd_shared *left = 0, *held = 0;
@@ -254,7 +254,7 @@ static inline uint64_t rd_loading_get(rd_loading *l, rd_loading_key key, uint64_
     return RD_OK;
 }
 
-/* Takes the key's entry out; a load of it that is open stores nothing. */
+/* Removes the key's entry. An open load of the key will store nothing. */
 static inline uint64_t rd_loading_drop(rd_loading *l, rd_loading_key key, uint64_t now) {
     rd_answer answer;
     rd_shared *left = 0;
@@ -264,7 +264,7 @@ static inline uint64_t rd_loading_drop(rd_loading *l, rd_loading_key key, uint64
     return fault;
 }
 
-/* Lets nobody further join an open load of the key, which stores nothing. */
+/* Lets no other thread join an open load of the key, which will store nothing. */
 static inline uint64_t rd_loading_forget(rd_loading *l, rd_loading_key key, uint64_t now) {
     rd_answer answer;
     rd_shared *left = 0;
@@ -285,17 +285,17 @@ static inline uint64_t rd_loading_sweep(rd_loading *l, uint64_t (*call)(rd_cache
     return fault;
 }
 
-/* Takes every entry out. The open loads store nothing. */
+/* Removes every entry. The open loads will store nothing. */
 static inline uint64_t rd_loading_clear(rd_loading *l, uint64_t now) { return rd_loading_sweep(l, rd_clear, now, false); }
 
-/* Takes every expired entry out. */
+/* Removes every expired entry. */
 static inline uint64_t rd_loading_clean(rd_loading *l, uint64_t now) { return rd_loading_sweep(l, rd_clean, now, false); }
 
-/* Closes the cache, which may be in use: what was there leaves, and values of loads that are open are returned and not stored. Once
- * no thread is in a call of it, it may be opened again, and its memory may be given up. The counts go on. */
+/* Closes the cache, which may be in use: all entries leave, and open loads return their values without storing them. Once no thread
+ * is in a call of the cache, you may open it again or give up its memory. The counts go on. */
 static inline uint64_t rd_loading_close(rd_loading *l) { return rd_loading_sweep(l, rd_clear, 0, true); }
 
-/* The numbers of the library, and the counts of rookdresser_stats.h, at one moment. Either may be null. */
+/* Writes the library's numbers and the counts of rookdresser_stats.h, both of one moment. Either pointer may be null. */
 static inline uint64_t rd_loading_numbers(rd_loading *l, rd_numbers *numbers, rd_stats *stats) {
     uint64_t fault = RD_OK;
     pthread_mutex_lock(&l->lock);

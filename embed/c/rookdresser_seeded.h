@@ -1,11 +1,11 @@
-/* Keys under a secret: SipHash-2-4 of the bytes, as a number. Whoever doesn't know the seed can't choose texts or numbers whose keys
- * the library treats alike, so that strangers may choose them.
+/* Keys under a secret seed: a number that is SipHash-2-4 of the bytes. An attacker who doesn't know the seed can't choose texts or
+ * numbers whose keys collide in the library's tables, so strangers may choose them.
  *
- *     uint64_t seed[2];                                   16 bytes that nobody can guess, as of getrandom(), for the life of the cache
+ *     uint64_t seed[2];                                   16 bytes that nobody can guess, from getrandom(), for the life of the cache
  *     rd_look(&cache, rd_seeded(seed, text, length), ..)
  *
- * Two texts have one key with a chance of 1 in 2^64 for each pair. A program for which that is too much keeps the text with the value,
- * by its token, and compares it at each hit. The function is written by hand, and tested, not proved. */
+ * Each pair of texts has the same key with a chance of 1 in 2^64. If that is too much for your program, keep the text with the value
+ * and compare it at each hit, as named_pages.c does. The function was written by hand; it is tested, not proved. */
 #ifndef ROOKDRESSER_SEEDED_H
 #define ROOKDRESSER_SEEDED_H
 #include <stddef.h>
@@ -24,7 +24,7 @@ static inline void rd_sip_rounds(uint64_t v[4], int rounds) {
     }
 }
 
-/* The key of these bytes under the seed. */
+/* Returns the key of these bytes under the seed. */
 static inline uint64_t rd_seeded(const uint64_t seed[2], const void *bytes, size_t length) {
     const unsigned char *at = (const unsigned char *)bytes;
     uint64_t v[4] = {seed[0] ^ 0x736f6d6570736575u, seed[1] ^ 0x646f72616e646f6du, seed[0] ^ 0x6c7967656e657261u,

@@ -1,5 +1,5 @@
-/* Counts for an operator, kept from the answers and the notices of one cache. Whoever holds the lock of the cache counts: right after
- * each call its answer, and each notice that it told. README.md says what each count is in terms of Guava's CacheStats. */
+/* Counts for an operator, from the answers and the notices of one cache. Count while you hold the cache's lock: right after each call
+ * its answer, and each notice. README.md compares each count with Guava's CacheStats; counted_calls.c has an example of each call. */
 #ifndef ROOKDRESSER_STATS_H
 #define ROOKDRESSER_STATS_H
 #include "rookdresser.h"
@@ -8,10 +8,10 @@ typedef struct rd_stats {
     uint64_t answers[RD_REFUSED + 1];     /* by rd_kind */
     uint64_t left[RD_SIZE + 1];           /* entries that left, by rd_cause */
     uint64_t refused[RD_STEPS_SPENT + 1]; /* refused calls, by rd_fault up to RD_STEPS_SPENT */
-    uint64_t misused;                     /* those that were refused as RD_CLOSED or for a later rd_fault */
+    uint64_t misused;                     /* calls that were refused as RD_CLOSED or by a later rd_fault */
 } rd_stats;
 
-/* Counts what a call returned and answered. Returns the fault, so that a call can stand within it. */
+/* Counts the fault and the answer of a call, and returns the fault. So you can write rd_count(&stats, rd_look(..), &answer). */
 static inline uint64_t rd_count(rd_stats *stats, uint64_t fault, const rd_answer *answer) {
     if (fault == RD_OK)
         stats->answers[answer->kind]++;
@@ -27,10 +27,12 @@ static inline void rd_count_left(rd_stats *stats, uint32_t cause) {
     stats->left[cause]++;
 }
 
+/* Look-ups that found the key. */
 static inline uint64_t rd_hits(const rd_stats *s) {
     return s->answers[RD_HIT] + s->answers[RD_HIT_LEAD];
 }
 
+/* Look-ups that didn't. */
 static inline uint64_t rd_misses(const rd_stats *s) {
     return s->answers[RD_ABSENT] + s->answers[RD_JOIN] + s->answers[RD_LEAD];
 }
@@ -40,11 +42,12 @@ static inline uint64_t rd_loads(const rd_stats *s) {
     return s->answers[RD_KEPT] + s->answers[RD_LOOSE];
 }
 
+/* Entries that expired or were evicted. */
 static inline uint64_t rd_evicted(const rd_stats *s) {
     return s->left[RD_EXPIRED] + s->left[RD_SIZE];
 }
 
-/* What was stored less what left. */
+/* Entries that are held now: those that were stored, less those that left. */
 static inline uint64_t rd_held(const rd_stats *s) {
     return s->answers[RD_STORED] + s->answers[RD_KEPT] - s->left[RD_EXPLICIT] - s->left[RD_REPLACED] - rd_evicted(s);
 }
