@@ -8,6 +8,7 @@ from rules import PAGE
 from spec_words import PATH
 
 from . import markdown
+from .site import plain
 from .texts import Texts, code, declaration
 from .tree import slug
 
@@ -82,13 +83,9 @@ class Calls:
     def type(self, name):
         found = self.crate.types[name]
         doc, _ = self.docs[name, found.line]
-        self.site.note("type", "%s (%s)" % (name, self.crate.name), "%s#%s" % (self.here, name), self.short(" ".join(found.doc)))
+        self.site.note("type", "%s (%s)" % (name, self.crate.name), "%s#%s" % (self.here, name), plain(doc) + " " + declaration(found.text))
         return '<section><h2 id="%s">%s</h2>%s%s%s</section>' % (
             name, name, self.texts.signature(declaration(found.text), self.crate.name), doc, self.source(found))
-
-    @staticmethod
-    def short(text):
-        return text.replace("`", "")[:160]
 
     def source(self, item):
         name = str(item.path.relative_to(self.crate.folder))
@@ -98,9 +95,10 @@ class Calls:
         found = self.crate.calls[name]
         doc, uses = self.docs[name, found.line]
         said = said_of(name, self.crate, self.tree.crates)
-        self.site.note("call", "%s (%s)" % (name, self.crate.name), "%s#%s" % (self.here, name), self.short(said))
+        self.site.note("call", "%s (%s)" % (name, self.crate.name), "%s#%s" % (self.here, name),
+                       "%s %s %s" % (plain(doc) if found.doc else said, found.signature, found.contract))
         parts = ['<section class="call"><h3 id="%s">%s</h3>' % (name, name), self.texts.signature(found.signature, self.crate.name),
-                 doc if found.doc else "<p>%s.</p>" % html.escape(self.short(said)) if said else ""]
+                 doc if found.doc else "<p>%s.</p>" % html.escape(said.replace("`", "")) if said else ""]
         if found.contract:
             parts.append(self.texts.contract(found.contract, self.crate.uses[found.path]))
             parts += self.records(name, self.crate.uses[found.path])

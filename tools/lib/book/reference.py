@@ -73,7 +73,7 @@ def rattle(tree, site):
     meanings = markdown.many(list(tree.rattle.values()))
     rows = ['<dt id="%s">%s</dt><dd>%s</dd>' % (html.escape(word), html.escape(word), meaning) for word, meaning in zip(tree.rattle, meanings)]
     for word, meaning in tree.rattle.items():
-        site.note("word", word, "%s#%s" % (here, word), meaning.replace("`", ""))
+        site.note("word", word, "%s#%s" % (here, word), meaning)
     site.add(here, "Words of Rattle’s library", "<h1>Words of Rattle’s library</h1><dl>%s</dl>" % "\n".join(rows), "reference")
 
 
@@ -96,7 +96,7 @@ class Definitions:
 
     def word(self, module, name, text):
         said, address = self.crate.comments.get((module, name), ""), self.tree.word(self.crate.name, module, name)
-        self.site.note("word", "%s (%s)" % (name, self.crate.name), address, said)
+        self.site.note("word", "%s (%s)" % (name, self.crate.name), address, "%s. %s" % (said, text) if said else text)
         shown = self.texts.linked(text.strip("\n"), self.crate.uses[module], address)
         return '<section class="word"><h3 id="%s.%s">%s</h3><p>%s</p><pre><code>%s</code></pre>%s</section>' % (
             module, html.escape(name), html.escape(name), html.escape(said[:1].upper() + said[1:] + "." if said else ""), shown,
@@ -127,7 +127,8 @@ def edits(tree, site, crate):
     here = "reference/%s.edits.html" % crate.name
     body = ["<h1>%s: wrong bodies</h1>" % crate.name, "<p>The prover refuses each of these changes, because the named clause fails.</p>"]
     for edit in crate.edits:
-        site.note("edit", "%s (%s)" % (edit.name, crate.name), tree.edit(crate.name, edit.name), ", ".join(call for call, _ in edit.guards))
+        site.note("edit", "%s (%s)" % (edit.name, crate.name), tree.edit(crate.name, edit.name),
+                  ", ".join("%s: %s" % (call, " ".join(names)) for call, names in edit.guards))
         body.append('<section class="edit"><h3 id="%s">%s</h3>' % (edit.name, edit.name.replace("_", " ")))
         for call, names in edit.guards:
             body.append("<p>%s: %s</p>" % (site.link(tree.call(crate.name, call), here, "<code>%s</code>" % html.escape(call)), quoted_names(names) or "its trait’s clause"))

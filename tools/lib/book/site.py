@@ -13,6 +13,7 @@ PARTS = Path(__file__).resolve().parent
 HREF = re.compile(r'(<(?:a|img)\b[^>]*?\b(?:href|src)=")([^"]*)("(?:>(?=<code>([^<]+)</code></a>))?)')
 CODE = re.compile(r"(<a [^>]*>|<pre[^>]*>)?<code>([\w:]+)(?:\(\))?</code>")
 SECTION = re.compile(r'<h([23]) id="([^"]+)">(.*?)</h\1>(.*?)(?=<h[23] |\Z)', re.S)
+HEAD = re.compile("<h[23] ")
 FRAME = """<!doctype html>
 <html lang="en" data-top="{top}">
 <head>
@@ -59,15 +60,15 @@ class Site:
         self.pages, self.wanted, self.copies, self.index, self.contents = {}, set(), set(), [], []
 
     def add(self, address, title, body, kind="page"):
-        """Adds a page. The heads of a page are entries of the index."""
+        """Adds a page. What is before its first head and each section are entries of the index."""
         self.pages[address] = title, body
         if kind == "page":
-            self.note("page", title, address, plain(body[:2000])[:160])
+            self.note("page", title, address, plain(HEAD.split(body, 1)[0]))
             for _, name, head, text in SECTION.findall(body):
-                self.note("section", "%s: %s" % (title, plain(head)), "%s#%s" % (address, name), plain(text[:2000])[:160])
+                self.note("section", "%s: %s" % (title, plain(head)), "%s#%s" % (address, name), plain(text))
 
     def note(self, kind, title, address, text=""):
-        self.index.append([kind, title, address, text])
+        self.index.append([kind, title, address, " ".join(text.replace("`", "").split())])
 
     def write(self):
         shutil.rmtree(self.folder, ignore_errors=True)
