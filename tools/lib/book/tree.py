@@ -20,14 +20,26 @@ def slug(head):
     return re.sub(r"[^\w -]", "", head.lower()).replace(" ", "-")
 
 
+def only_tests(crate):
+    return crate.endswith("_tests") or crate in PROMISE_NOTHING
+
+
+def downwards(below):
+    """The crates, from the cache down to what it stands on, and then the others; those that only test last."""
+    def place(name):
+        return only_tests(name), name != "wt_cache" and name not in below["wt_cache"], -len(below[name]), name
+    return sorted((name for name in below if (CRATES / name).is_dir()), key=place)
+
+
 class Tree:
     """The crates, and the addresses of their calls, types, words, edits and tests."""
 
     def __init__(self):
         crates, below = all_crates(), stands_on()
         self.crates = {name: crates[name] for name in sorted(crates, key=lambda name: (len(below.get(name, ())), name))}
-        self.shown = {name: self.calls_shown(crate) for name, crate in self.crates.items() if name not in PROMISE_NOTHING}
-        self.shown = {name: calls for name, calls in self.shown.items() if calls}
+        self.downwards = downwards(below)
+        shown = {name: self.calls_shown(self.crates[name]) for name in self.downwards if name in self.crates and name not in PROMISE_NOTHING}
+        self.shown = {name: calls for name, calls in shown.items() if calls}
         self.links = Links(self.crates)
         self.labels = {label: meaning for _, label, meaning in labels_in()}
         self.rattle = dict(line.split(": ", 1) for line in RATTLE.read_text().split("\n")
