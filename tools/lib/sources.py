@@ -201,7 +201,8 @@ class Kinds:
             self.odd["names"] = key
 
     def chosen(self, wanted):
-        """How keys are written: as numbers if all can be, else as names if all can be, else hashed; or as is wanted."""
+        """How keys are written: as numbers if all can be, else as names if all can be, else hashed; or as is wanted, where `counted` is
+        by numbers from 1 in the order in which keys come."""
         if wanted == "auto":
             return next(kind for kind in ("numbers", "names", "hashed") if kind not in self.odd)
         if wanted in self.odd:
@@ -210,17 +211,20 @@ class Kinds:
 
 
 class Lines:
-    """Keys as a trace writes them, each with its moment; how they are written; and of how many keys one was kept."""
+    """Keys as a trace writes them, each with its moment; how they are written, and how each is; and of how many keys one was kept."""
 
     def __init__(self, kind, sample):
         self.kind, self.one_in = kind, sample.one_in
-        texts = {key: text_of(key, kind) for key in {key for key, _ in sample.pairs}}
-        self.keys = [texts[key] for key, _ in sample.pairs]
+        self.written = {key: text_of(key, kind, number) for number, key in enumerate(dict.fromkeys(key for key, _ in sample.pairs), 1)}
+        self.keys = [self.written[key] for key, _ in sample.pairs]
         self.moments = [moment for _, moment in sample.pairs]
-        self.different = len(set(texts.values()))
+        self.different = len(set(self.written.values()))
 
 
-def text_of(key, kind):
+def text_of(key, kind, number):
+    """How a key is written that is the so-many-th."""
+    if kind == "counted":
+        return b"%d" % number
     if kind == "hashed":
         return b"%d" % word_of_name(key)
     return b"%d" % int(key) if kind == "numbers" else key
