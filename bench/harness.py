@@ -15,6 +15,7 @@ import words  # noqa: E402
 # The peers are packages of Debian.
 JARS = ["/usr/share/java/caffeine.jar", "/usr/share/java/guava.jar"]
 DEBIAN_CRATES = pathlib.Path("/usr/share/cargo/registry")
+DEBIAN_GO = pathlib.Path("/usr/share/gocode/src/github.com")
 
 
 def parser(doc):
@@ -146,6 +147,15 @@ def build_java(folder, source):
     return ["java", "-cp", ":".join([str(folder), *JARS]), source.stem]
 
 
+def build_go(folder, source):
+    """The command of a Go program on golang-lru and ristretto, or none if they or Go aren't there."""
+    if not shutil.which("go") or not (DEBIAN_GO / "hashicorp/golang-lru").exists() or not (DEBIAN_GO / "dgraph-io/ristretto").exists():
+        return None
+    env = {"GO111MODULE": "off", "GOPATH": "/usr/share/gocode", "HOME": str(folder), "PATH": "/usr/bin:/bin"}
+    subprocess.run(["go", "build", "-o", folder / source.stem, source], check=True, capture_output=True, env=env)
+    return [folder / source.stem]
+
+
 def build_rust(folder, source):
     """The command of a Rust program on the lru crate, or none if it or cargo isn't there."""
     if not shutil.which("cargo") or not list(DEBIAN_CRATES.glob("lru-*")):
@@ -159,6 +169,12 @@ def build_rust(folder, source):
         '[source.crates-io]\nreplace-with = "debian"\n[source.debian]\ndirectory = "%s"\n' % DEBIAN_CRATES)
     subprocess.run(["cargo", "build", "--release", "--offline", "-q"], cwd=made, check=True, capture_output=True)
     return [made / "target" / "release" / "lru_crate"]
+
+
+def hits_of(output):
+    """The hits that a program of peers tells, or wt_replay, in its last line."""
+    words = output.rstrip("\n").rpartition("\n")[2].split()
+    return int(words[words.index("hits") + 1])
 
 
 def built(name, build, folder, source):
