@@ -2,35 +2,22 @@
 """Prints the path of wt_replay built without any proof, and builds it first if its sources changed since it was built.
 
 It is optimised as the proved program is. Nothing of it is proved or checked. It stays in out/try, in a folder named for the sum of
-its sources, of crates.txt and of the toolchain's version.
+its sources, by tools/lib/source_sum.py.
 """
-import hashlib
 import os
 import shutil
-import subprocess
 import sys
 
 import unproved_program
-from places import CRATES, TOP
+from places import TOP
 from progress import Line
-from unproved_program import unproved
+from source_sum import sum_of
 from words import Parser, end
 
 KEPT = TOP / "out" / "try"
 
 
-def sum_of_sources():
-    """The sum of all that the program is made of."""
-    told = hashlib.sha256(subprocess.run(["rt", "version"], check=True, stdout=subprocess.PIPE).stdout)
-    names = sorted(unproved.crates_of("wt_replay", unproved.lines_of_crates()))
-    files = [TOP / "crates.txt", TOP / "HANDLES"]
-    files += [path for name in names for kind in ("src", "specs") for path in sorted((CRATES / name / kind).rglob("*")) if path.is_file()]
-    for path in files:
-        told.update(b"%s\0%s\0" % (str(path.relative_to(TOP)).encode(), hashlib.sha256(path.read_bytes()).digest()))
-    return told.hexdigest()[:16]
-
-
-def built(folder):
+def build(folder):
     """Builds the program into a folder of its own, which then takes its place whole. What was built of other sources goes."""
     KEPT.mkdir(parents=True, exist_ok=True)
     made = KEPT / ("%s.%d" % (folder.name, os.getpid()))
@@ -47,13 +34,26 @@ def built(folder):
         shutil.rmtree(made, ignore_errors=True)
 
 
-def main():
-    Parser(__doc__).parse_args()
-    folder = KEPT / sum_of_sources()
+def found():
+    """The program that is there, if it is of these sources, or None."""
+    if not any(KEPT.glob("*/wt_replay")) or not shutil.which("rt"):
+        return None
+    program = KEPT / sum_of("wt_replay") / "wt_replay"
+    return program if program.exists() else None
+
+
+def kept():
+    """The program, which is built first if it isn't there."""
+    folder = KEPT / sum_of("wt_replay")
     if not (folder / "wt_replay").exists():
         print("tools/try: building the program without any proof, which takes a minute or two", file=sys.stderr, flush=True)
-        built(folder)
-    print(folder / "wt_replay")
+        build(folder)
+    return folder / "wt_replay"
+
+
+def main():
+    Parser(__doc__).parse_args()
+    print(kept())
     return 0
 
 
