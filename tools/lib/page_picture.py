@@ -3,6 +3,7 @@ import re
 
 from curve_svg import BOLD, cut, line, svg, text, width_of
 from page_html import PARTS, settings_told
+from page_names import shortened
 from page_states import LISTS, states
 from page_words import MARKS, SENTENCES, WORDS, picture_notes
 
@@ -10,11 +11,13 @@ WIDTH, LEFT, RIGHT, BOXES = 880, 24, 856, 212
 CHIP, SPACE, ROW, HEAD, GAP = 30, 6, 46, 34, 12
 MOST_ENTRIES, MOST_LINES = 24, 8
 LOADS = 150
+# The letters of a key that a picture shows.
+LONGEST = 12
 SHAPES = """
   text { font: 13px system-ui, -apple-system, "Segoe UI", Roboto, "DejaVu Sans", Helvetica, Arial, sans-serif }
   .mono { font-family: ui-monospace, "Cascadia Mono", Menlo, Consolas, "DejaVu Sans Mono", monospace }
   .title { font-size: 19px; font-weight: 700 } .big { font-size: 16px } .bold { font-weight: 700 } .small { font-size: 12px } .end { text-anchor: end }
-  .mark { font-size: 11px; font-weight: 600; paint-order: stroke; stroke-width: 5px; stroke-linejoin: round } .none { fill: none } .dashed { fill: none; stroke-dasharray: 4 3 } .strong { stroke-width: 2 }"""
+  .mark { font-size: 11px; font-weight: 600 } .none { fill: none } .dashed { fill: none; stroke-dasharray: 4 3 } .strong { stroke-width: 2 }"""
 
 
 def colours():
@@ -27,10 +30,6 @@ def colours():
 
 def box(x, y, width, height, kinds, radius=5):
     return '<rect x="%.1f" y="%.1f" width="%.1f" height="%.1f" rx="%d" class="%s"/>' % (x, y, width, height, radius, kinds)
-
-
-def short(name):
-    return name if len(name) <= 12 else name[:11] + "\u2026"
 
 
 def wrapped(words, room, size=13):
@@ -49,7 +48,7 @@ class Frame:
     """A line of the trace with the state after it."""
 
     def __init__(self, numbers, step, state):
-        self.names, self.estimates = [short(name) for name in numbers["keys"]], list(state["estimates"])
+        self.names, self.estimates = [shortened(name, LONGEST) for name in numbers["texts"] or numbers["keys"]], list(state["estimates"])
         self.number, self.text, self.report = step[:3]
         self.shard = max(0, step[3])
         self.lists = dict(zip(LISTS, [list(rows) for rows in state["lists"][4 * self.shard:4 * self.shard + 4]]))
@@ -104,7 +103,8 @@ def chip(layout, frame, x, y, row, hue, mark):
              box(x + 4, y + CHIP - 5, (layout.chip - 8) * estimate / 15, 3, hue, 1),
              text(x + 8, y + 19, name, "ink mono bold"), text(x + layout.chip - 7, y + 19, str(estimate), "soft small end")]
     if mark:
-        parts.append(text(x + 8, y + 3, mark, "%s mark card-edge" % hue))
+        # The mark stands in a gap of the edge.
+        parts += [box(x + 5, y - 2, BOLD * width_of(mark, 11) + 6, 4, "card", 0), text(x + 8, y + 3, mark, "%s mark" % hue)]
     return parts
 
 

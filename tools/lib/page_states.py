@@ -144,7 +144,7 @@ def record(s, trace, first, last):
     progress.wipe()
     keys = recorder.keys
     numbers = {
-        "keys": keys.names, "names": trace.split(b"\n", 1)[0] == b"wt 2", "weights": [1 + word % s["mod"] for word in keys.words] if s["mod"] > 1 else None,
+        "keys": keys.names, "texts": None, "shown": None, "names": trace.split(b"\n", 1)[0] == b"wt 2", "weights": [1 + word % s["mod"] for word in keys.words] if s["mod"] > 1 else None,
         "shards": s["shards"], "sums": list(COUNTED) + ["entries", "weight"], "start": recorder.start, "steps": recorder.steps,
     }
     return numbers, report + [run.summary()]

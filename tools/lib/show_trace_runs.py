@@ -50,6 +50,10 @@ def check_at_fault():
 
 
 def check_pictures():
+    parts = list(xml.fromstring(run([*SHOW, "--picture", "8"], DUEL).stdout).iter())
+    marks = [part for part in parts if "mark" in part.get("class", "").split()]
+    gaps = [float(part.get("x")) for part in parts if part.tag.endswith("rect") and part.get("class") == "card" and part.get("height") == "4.0"]
+    check("show_trace --picture: a mark stands in a gap of the edge", len(marks) == 2 and gaps == [float(mark.get("x")) - 3 for mark in marks])
     done = run([*SHOW, "--picture", "6,8", "--title", "<&\x01" + "long " * 60], DUEL)
     words = ["".join(part.itertext()) for part in xml.fromstring(done.stdout).iter() if part.tag.endswith("text")] if done.returncode == 0 else []
     check("show_trace --picture", {"0 G 5", "6 load 4:4:size", "4 left: size", "0 G 6", "8 load 2:2:size", "2 left: size", "1, stays", "2, stays"} <= set(words))
@@ -59,7 +63,23 @@ def check_pictures():
     check("show_trace --picture of many loads, shards and a clear", xml.fromstring(done.stdout).tag.endswith("svg"))
 
 
+def check_names(folder):
+    table = Path(folder, "names.csv")
+    table.write_bytes(b"number,text\r\n4,\"a, \xff\x01\"\r\n2,/usr/share/doc/python\r\n")
+    numbers = numbers_of(run([*SHOW, "--names", table], DUEL).stdout.decode())
+    known = dict(zip(numbers["keys"], zip(numbers["texts"], numbers["shown"])))
+    check("show_trace --names", known["4"] == ("a, \ufffd ", "a, \ufffd ") and known["2"] == ("/usr/share/doc/python",) * 2 and known["1"] == ("1", "1"))
+    done = run([*SHOW, "--names", table, "--picture", "8"], DUEL)
+    words = ["".join(part.itertext()) for part in xml.fromstring(done.stdout).iter() if part.tag.endswith("text")]
+    check("show_trace --names --picture: a long text is cut", "/us\u2026c/python" in words and "0 G 6" in words)
+    for text, told in ((b"", "line 1"), (b"a,b\n", "line 1"), (b"number,text\n1,a\nx,b\n", "line 3"), (b"number,text\n1\n", "line 2")):
+        table.write_bytes(text)
+        refused("show_trace --names of a bad table: %r" % text, [*SHOW, "--names", table], DUEL, 1, told)
+    refused("show_trace --names of no file", [*SHOW, "--names", Path(folder, "none.csv")], DUEL, 1, "No such file")
+
+
 def check_all(folder):
+    check_names(folder)
     check_pages(folder)
     check_pictures()
     check_at_fault()

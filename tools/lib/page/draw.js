@@ -18,9 +18,15 @@ function make(tag, kind, text) {
 
 const inWords = (number) => (number === null ? "" : number.toLocaleString("en"));
 
+// As what each key is shown, and by what it is searched for.
+const names = numbers.shown || numbers.keys, texts = numbers.texts || numbers.keys;
+// What a key's tooltip and a screen reader tell first: its text, if there is a table of texts, and its number.
+const wholeName = (key) => (numbers.texts ? `${numbers.texts[key]}, key ${numbers.keys[key]}` : `key ${numbers.keys[key]}`);
+
 function keyButton(key) {
-  const button = make("button", "key", numbers.keys[key]);
+  const button = make("button", "key", names[key]);
   button.dataset.key = key;
+  button.title = numbers.texts ? wholeName(key) : "";
   return button;
 }
 
@@ -49,7 +55,7 @@ function placeOf(row, marks, latest) {
   const [key, version, written, used, end] = row, estimate = state.estimates[key];
   if (!places.has(key)) {
     const place = make("li", "place"), chip = make("button", "chip");
-    chip.append(make("b", "", numbers.keys[key]), make("small"), make("i"));
+    chip.append(make("b", "", names[key]), make("small"), make("i"));
     chip.dataset.key = key;
     place.append(chip);
     places.set(key, place);
@@ -64,8 +70,8 @@ function placeOf(row, marks, latest) {
   const told = [`version ${version}`, `estimate ${estimate}`, `stored at ${written}`, `last used at ${used}`];
   if (numbers.weights) told.push(`weight ${numbers.weights[key]}`);
   if (end !== null) told.push(old ? `expired since ${end}` : `expires at ${end}`);
-  chip.title = told.join(", ");
-  chip.setAttribute("aria-label", [`key ${numbers.keys[key]}`, mark ? mark.replace(/^\W+/, "") : "", ...told].filter(Boolean).join(", "));
+  chip.title = (numbers.texts ? [wholeName(key), ...told] : told).join(", ");
+  chip.setAttribute("aria-label", [wholeName(key), mark ? mark.replace(/^\W+/, "") : "", ...told].filter(Boolean).join(", "));
   place.className = `place${old ? " old" : ""}${key === sought ? " sought" : ""}`;
   if (mark) place.dataset.mark = mark; else delete place.dataset.mark;
   return place;
@@ -170,7 +176,7 @@ function drawDuel(step) {
   $("duel").replaceChildren(...[["candidate", candidate, own, won], ["victim", victim, other, !won]].flatMap(([role, key, estimate, stays]) => {
     const pips = make("span", `pips ${role}`);
     pips.append(...Array.from({ length: 15 }, (_, n) => make("i", n < estimate ? "on" : "")));
-    return [make("span", "", role), make("b", "", numbers.keys[key]), pips, make("span", stays ? "" : "out", `${estimate}, ${stays ? "stays" : "leaves"}`)];
+    return [make("span", "", role), Object.assign(make("b", "", names[key]), { title: wholeName(key) }), pips, make("span", stays ? "" : "out", `${estimate}, ${stays ? "stays" : "leaves"}`)];
   }));
 }
 

@@ -90,8 +90,14 @@ function drawLifeNow() {
   document.querySelectorAll("#life li").forEach((row) => (row.dataset.at === line ? row.setAttribute("aria-current", "step") : row.removeAttribute("aria-current")));
 }
 
-function search(name) {
+// The key of a name that was typed: its number, its name or its text.
+function keyOf(name) {
   const key = numbers.keys.indexOf(/^0+\d/.test(name) && !numbers.names ? name.replace(/^0+(?=\d)/, "") : name);
+  return key < 0 ? texts.indexOf(name) : key;
+}
+
+function search(name) {
+  const key = keyOf(name);
   sought = key < 0 ? null : key;
   const rows = [];
   steps.forEach((step, n) => {
@@ -136,12 +142,12 @@ function start() {
   $("last").onclick = () => go(steps.length);
   $("play").onclick = play;
   $("search").oninput = () => search($("search").value.trim());
-  $("keys").append(...numbers.keys.slice(0, 1000).map((name) => Object.assign(document.createElement("option"), { value: name })));
+  $("keys").append(...texts.slice(0, 1000).map((name) => Object.assign(document.createElement("option"), { value: name })));
   document.addEventListener("keydown", press);
   document.addEventListener("click", (event) => {
     const button = event.target.closest("[data-key]");
     if (!button) return;
-    $("search").value = numbers.keys[button.dataset.key];
+    $("search").value = texts[button.dataset.key];
     search($("search").value);
   });
   drawTracks();
