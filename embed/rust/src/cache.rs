@@ -1,5 +1,5 @@
 //! A cache of keys and values of any type, for one owner.
-use crate::panics::Panics;
+use crate::panics::{Guarded, Panics};
 use crate::several::Several;
 use crate::store::{drop_each, Ended, Store};
 use crate::table::Place;
@@ -66,18 +66,27 @@ impl<K: Hash + Eq + Clone, V, S: BuildHasher> Cache<K, V, S> {
 
     /// Stores the value under the key.
     pub fn put(&mut self, key: &K, value: V, weight: u32, now: u64) -> Result<AllLeft<K, V>, Fault> {
+        let value = Guarded::of(value);
         let place = self.place(key);
         let mut left = Several::none();
-        self.store.put(place, value, weight, now, &mut left).map_err(|(fault, _)| fault)?;
-        Ok(left.into_vec())
+        match self.store.put(place, value.take(), weight, now, &mut left) {
+            Ok(()) => Ok(left.into_vec()),
+            Err((fault, place, value)) => {
+                let mut panics = Panics::default();
+                panics.of(|| drop(place));
+                panics.of(|| drop(value));
+                panics.checked(Err(fault))
+            }
+        }
     }
 
     /// Closes a load that this caller leads with a value. If memory is refused, the load is closed without storing.
     pub fn land(&mut self, id: u64, key: &K, value: V, weight: u32, now: u64) -> (Landed, AllLeft<K, V>) {
+        let value = Guarded::of(value);
         match self.found(self.hasher.hash_one(key), key) {
             Some(at) => {
                 let mut left = Several::none();
-                let load = self.store.land((id, at), (value, weight), now, &mut left);
+                let load = self.store.land((id, at), (value.take(), weight), now, &mut left);
                 ended(load, left)
             }
             None => {

@@ -1,6 +1,6 @@
 //! The calls on a key that load nothing.
 use crate::loading::{Loading, Locked};
-use crate::panics::Panics;
+use crate::panics::{Guarded, Panics};
 use crate::plain::are_plain;
 use crate::shard::{AllGone, Gone};
 use crate::Fault;
@@ -48,8 +48,7 @@ impl<K: Hash + Eq, V, E, S: BuildHasher> Loading<K, V, E, S> {
         now: u64,
     ) -> Result<Option<Arc<V>>, Fault> {
         let found = shard.look(at, hash, now)?;
-        self.give_back(shard);
-        Ok(found)
+        Ok(self.give_back(shard, found))
     }
 
     /// Takes the key's entry out, and returns what left. A load of the key that is open will store nothing.
@@ -161,17 +160,19 @@ impl<K: Hash + Eq, V, E, S: BuildHasher> Loading<K, V, E, S> {
         K: Borrow<Q>,
         Q: Hash + Eq + ToOwned<Owned = K> + ?Sized,
     {
+        let value = Guarded::of(value);
         let hash = self.hash(key);
         let (mut shard, place, cloned) = self.place(self.shard(hash).take(), hash, key);
-        let put = shard.store.put(place, value, weight, now, left);
+        let put = shard.store.put(place, value.take(), weight, now, left);
         let refused = match put {
             Ok(()) if cloned.is_none() => return Ok(()),
             Ok(()) => None,
-            Err((fault, value)) => Some((shard.stats.refuse(fault), value)),
+            Err((fault, place, value)) => Some((shard.stats.refuse(fault), place, value)),
         };
         drop(shard);
         panics.of(|| drop(cloned));
-        let Some((fault, value)) = refused else { return Ok(()) };
+        let Some((fault, place, value)) = refused else { return Ok(()) };
+        panics.of(|| drop(place));
         panics.of(|| drop(value));
         std::mem::take(panics).pass_on();
         Err(fault)

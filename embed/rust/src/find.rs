@@ -1,6 +1,6 @@
 //! Which row is a key's. Keys of the caller's are compared and cloned while the lock is given back.
 use crate::loading::{Loading, Locked};
-use crate::panics::Panics;
+use crate::panics::{Guarded, Panics};
 use crate::plain::are_plain;
 use crate::several::Several;
 use crate::table::Place;
@@ -9,7 +9,7 @@ use std::hash::{BuildHasher, Hash, Hasher};
 use std::sync::Arc;
 
 /// The shard with the key's place, and the key itself if it was cloned, which is to be dropped once the lock is given back.
-pub(crate) type Placed<'a, K, V, E> = (Locked<'a, K, V, E>, Place<K>, Option<Arc<K>>);
+pub(crate) type Placed<'a, K, V, E> = (Locked<'a, K, V, E>, Place<K>, Option<Guarded<Arc<K>>>);
 
 impl<K, V, E, S> Loading<K, V, E, S> {
     /// The key's hash. A compiler that doesn't inline `hash_one` takes 65 instructions more for a number by SipHash.
@@ -27,20 +27,20 @@ impl<K, V, E, S> Loading<K, V, E, S> {
 
     /// The row that is alone of its hash. It is nearly always the key's: a call uses it at once, and has the key compared by
     /// `is_of` once the lock is given back.
-    pub(crate) fn only(&self, shard: &Locked<'_, K, V, E>, hash: u64) -> Option<(Arc<K>, u32)> {
+    pub(crate) fn only(&self, shard: &Locked<'_, K, V, E>, hash: u64) -> Option<(Guarded<Arc<K>>, u32)> {
         let table = &shard.store.table;
-        table.only(hash).map(|at| (table.row(at).key.clone(), at))
+        table.only(hash).map(|at| (Guarded::of(table.row(at).key.clone()), at))
     }
 
     /// Returns what was found in a row if its key is this one; else what was found is dropped, with no lock held. If the equality
     /// or a drop panics, the panic is passed on once all is dropped.
-    pub(crate) fn is_of<T, Q>(&self, row: Arc<K>, key: &Q, found: T) -> Option<T>
+    pub(crate) fn is_of<T, Q>(&self, row: Guarded<Arc<K>>, key: &Q, found: T) -> Option<T>
     where
         K: Borrow<Q>,
         Q: Eq + ?Sized,
     {
         let mut panics = Panics::default();
-        let is_same = panics.of(|| (*row).borrow() == key);
+        let is_same = panics.of(|| (**row.get()).borrow() == key);
         panics.of(|| drop(row));
         if is_same == Some(true) {
             return Some(panics.checked(found));
@@ -80,17 +80,19 @@ impl<K, V, E, S> Loading<K, V, E, S> {
         K: Borrow<Q>,
         Q: Eq + ?Sized,
     {
-        let (mut seen, mut at): (Several<(u32, Arc<K>)>, _) = (Several::none(), None);
+        let (mut seen, mut at): (Several<(u32, Guarded<Arc<K>>)>, _) = (Several::none(), None);
         loop {
             let rows = shard.store.table.rows(hash).map(|(at, row)| (at, Arc::as_ptr(&row.key)));
-            if rows.eq(seen.iter().map(|(at, key)| (*at, Arc::as_ptr(key)))) {
+            if rows.eq(seen.iter().map(|(at, key)| (*at, Arc::as_ptr(key.get())))) {
                 // The rows keep their keys alive: none of these is the last share.
                 return (shard, at);
             }
-            let rows = shard.store.table.rows(hash).map(|(at, row)| (at, row.key.clone())).collect();
+            let rows = shard.store.table.rows(hash).map(|(at, row)| (at, Guarded::of(row.key.clone())));
+            let rows = rows.collect();
             drop(shard);
-            drop_keys(std::mem::replace(&mut seen, rows));
-            at = seen.iter().find(|(_, other)| (**other).borrow() == key).map(|row| row.0);
+            // Some may have left since they were compared, so each may be the last share.
+            drop(std::mem::replace(&mut seen, rows));
+            at = seen.iter().find(|(_, other)| (**other.get()).borrow() == key).map(|row| row.0);
             shard = self.shard(hash).take();
         }
     }
@@ -122,18 +124,9 @@ impl<K, V, E, S> Loading<K, V, E, S> {
         Q: Eq + ToOwned<Owned = K> + ?Sized,
     {
         drop(shard);
-        let owned = Arc::new(key.to_owned());
+        let owned = Guarded::of(Arc::new(key.to_owned()));
         let (shard, at) = self.found(self.shard(hash).take(), hash, key);
-        let place = at.map_or_else(|| shard.store.table.new_place(hash, owned.clone()), Place::At);
+        let place = at.map_or_else(|| shard.store.table.new_place(hash, owned.get().clone()), Place::At);
         (shard, place, Some(owned))
     }
-}
-
-// Some may have left since they were compared, so each may be the last share.
-fn drop_keys<K>(keys: Several<(u32, Arc<K>)>) {
-    let mut panics = Panics::default();
-    for key in keys {
-        panics.of(|| drop(key));
-    }
-    panics.pass_on();
 }

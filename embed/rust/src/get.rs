@@ -2,7 +2,7 @@
 use crate::flight::{own_thread, Flight, Outcome};
 use crate::lead::Lead;
 use crate::loading::{Loading, Locked};
-use crate::panics::Panics;
+use crate::panics::{Guarded, Panics};
 use crate::plain::are_plain;
 use crate::table::Place;
 use crate::{Fault, Found, GetError};
@@ -61,11 +61,12 @@ impl<K: Hash + Eq, V, E, S: BuildHasher> Loading<K, V, E, S> {
         K: Borrow<Q>,
         Q: Hash + Eq + ToOwned<Owned = K> + ?Sized,
     {
+        let load = Guarded::of(load);
         let hash = self.hash(key);
         let got = loop {
             match self.seek(hash, key, now) {
                 Ok(Sought::Value(value)) => break Ok(value),
-                Ok(Sought::Lead(lead)) => return lead.make(load),
+                Ok(Sought::Lead(lead)) => return lead.make(load.take()),
                 Ok(Sought::Join(flight)) => match flight.wait() {
                     Ok(Outcome::Value(value)) => break Ok(value),
                     Ok(Outcome::Failed(error)) => break Err(GetError::Load(error)),
@@ -75,9 +76,9 @@ impl<K: Hash + Eq, V, E, S: BuildHasher> Loading<K, V, E, S> {
                 Err(fault) => break Err(GetError::Refused(fault)),
             }
         };
-        // What the loader owns may panic as it is dropped. Rust would never drop what this call had returned by then.
-        drop(load);
-        got
+        let mut panics = Panics::default();
+        panics.of(|| drop(load));
+        panics.checked(got)
     }
 
     #[inline(always)]
@@ -133,8 +134,7 @@ impl<K: Hash + Eq, V, E, S: BuildHasher> Loading<K, V, E, S> {
             Ok(Ok(value)) => {
                 let value = value.clone();
                 shard.stats.hits += 1;
-                self.give_back(shard);
-                Ok(Sought::Value(value))
+                Ok(Sought::Value(self.give_back(shard, value)))
             }
             Ok(Err(found)) => Ok(self.joined_or_led(shard, hash, place, now, found)),
             Err(fault) => Err(shard.stats.refuse(fault)),
@@ -164,8 +164,7 @@ impl<K: Hash + Eq, V, E, S: BuildHasher> Loading<K, V, E, S> {
                 shard.stats.misses += 1;
                 shard.stats.joins += 1;
                 let flight = shard.joined(&place);
-                self.give_back(shard);
-                return Sought::Join(flight);
+                return Sought::Join(self.give_back(shard, flight));
             }
         };
         let at = shard.store.table.open(place);

@@ -1,8 +1,8 @@
 //! Calls of the caller's code that may panic, made one after another, whatever the ones before did.
 //!
 //! Two rules of Rust's are minded so. A drop that panics while a panic is under way ends the process: what is dropped together is
-//! dropped one by one here. And what a function has returned already is never dropped if a drop at its end panics: what may panic
-//! is dropped before.
+//! dropped one by one here, and what a function owns while it calls the caller's code is `Guarded`. And what a function has returned
+//! already is never dropped if a drop at its end panics: what may panic is dropped before.
 use std::any::Any;
 use std::panic::{catch_unwind, resume_unwind, AssertUnwindSafe};
 
@@ -48,5 +48,37 @@ impl Panics {
     #[inline]
     pub(crate) fn pass_on(self) {
         self.checked(());
+    }
+}
+
+/// A thing of the caller's that a function owns while it calls the caller's code. If a panic of that code drops it, a panic of its
+/// own drop is lost, and doesn't end the process.
+pub(crate) struct Guarded<T>(Option<T>);
+
+impl<T> Guarded<T> {
+    #[inline]
+    pub(crate) fn of(thing: T) -> Self {
+        Guarded(Some(thing))
+    }
+
+    #[inline]
+    pub(crate) fn get(&self) -> &T {
+        self.0.as_ref().expect("it is taken once")
+    }
+
+    #[inline]
+    pub(crate) fn take(mut self) -> T {
+        self.0.take().expect("it is taken once")
+    }
+}
+
+impl<T> Drop for Guarded<T> {
+    #[inline]
+    fn drop(&mut self) {
+        if let Some(thing) = self.0.take() {
+            let mut panics = Panics::default();
+            panics.of(|| drop(thing));
+            panics.pass_on();
+        }
     }
 }

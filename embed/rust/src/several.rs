@@ -65,12 +65,3 @@ impl<T> FromIterator<T> for Several<T> {
         several
     }
 }
-
-impl<T> IntoIterator for Several<T> {
-    type Item = T;
-    type IntoIter = std::iter::Chain<std::option::IntoIter<T>, std::vec::IntoIter<T>>;
-
-    fn into_iter(self) -> Self::IntoIter {
-        self.first.into_iter().chain(self.more)
-    }
-}

@@ -85,7 +85,7 @@ impl<K, V> Store<K, V> {
         }
     }
 
-    /// Stores the value. One that is refused is given back.
+    /// Stores the value. One that is refused is given back with its place.
     #[inline]
     pub(crate) fn put(
         &mut self,
@@ -94,7 +94,7 @@ impl<K, V> Store<K, V> {
         weight: u32,
         now: u64,
         left: &mut AllLeft<K, V>,
-    ) -> Result<(), (Fault, V)> {
+    ) -> Result<(), (Fault, Place<K>, V)> {
         let (number, token) = (self.table.number(&place), self.table.next_token(&place));
         match self.tokens.put(number, Token { token, weight }, now) {
             Ok(()) => {
@@ -102,10 +102,7 @@ impl<K, V> Store<K, V> {
                 self.take_out(old, left);
                 Ok(())
             }
-            Err(fault) => {
-                drop(place);
-                Err((fault, value))
-            }
+            Err(fault) => Err((fault, place, value)),
         }
     }
 

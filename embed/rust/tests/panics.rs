@@ -1,10 +1,11 @@
 //! Drops and clones that panic, alone, beside each other, and beside a loader's panic: the process goes on, and nothing is kept for
 //! good.
-use rookdresser::{Cache, Cause, Fault, Found, Landed, Loading, Setup};
+use rookdresser::{Cache, Cause, Fault, Found, GetError, Landed, Loading, Setup};
 use std::hash::{Hash, Hasher};
 use std::panic::{catch_unwind, AssertUnwindSafe};
 use std::sync::atomic::{AtomicBool, AtomicU64, Ordering::SeqCst};
 use std::sync::{Arc, OnceLock};
+use std::thread;
 
 // How many things there are, and whether they panic as they are cloned or dropped.
 #[derive(Default)]
@@ -46,6 +47,7 @@ impl Clone for Thing {
 
 impl Hash for Thing {
     fn hash<H: Hasher>(&self, state: &mut H) {
+        assert!(self.number != 99, "of the hash");
         self.number.hash(state);
     }
 }
@@ -183,6 +185,12 @@ fn a_refused_value_and_its_key_may_both_panic_as_they_are_dropped() {
     assert_eq!(panic_of(|| cache.put_at(&key, value, 11, 0)), Some("of a drop"));
     fuse.drops_panic.store(false, SeqCst);
     assert_eq!((fuse.live.load(SeqCst), cache.kept(), cache.stats().refused[Fault::TooHeavy.place()]), (1, (0, 0), 1));
+    let (mut owned, value) =
+        (Cache::<Thing, Thing>::open(&Setup { bound: 10, ..Setup::of(4) }).unwrap(), fuse.thing(2));
+    fuse.light();
+    assert_eq!(panic_of(|| owned.put(&key, value, 11, 0)), Some("of a drop"));
+    fuse.drops_panic.store(false, SeqCst);
+    assert_eq!((fuse.live.load(SeqCst), owned.kept()), (1, (0, 0)));
 }
 
 #[test]
@@ -202,6 +210,95 @@ fn what_a_loader_owns_may_panic_as_it_is_dropped() {
     assert_eq!((got, owned.live.load(SeqCst), Arc::strong_count(&value)), (Some("of a drop"), 0, 2));
 }
 
+// Makes a call as it is dropped, and then panics.
+struct Calls<F: FnMut()>(F);
+
+impl<F: FnMut()> Drop for Calls<F> {
+    fn drop(&mut self) {
+        (self.0)();
+        panic!("of what the loader owns");
+    }
+}
+
+#[test]
+fn what_a_loader_owns_and_the_value_that_was_found_may_both_panic_as_they_are_dropped() {
+    let values = Arc::new(Fuse::default());
+    let cache = Loading::<u64, Thing, ()>::open(&Setup::of(4)).unwrap();
+    cache.store_at(&1, Arc::new(values.thing(1)), 1, 0).unwrap();
+    let owned = Calls(|| {
+        // The get itself has the last share of the value now.
+        drop(cache.drop_key_at(&1, 0).unwrap());
+        assert_eq!(values.live.load(SeqCst), 1);
+        values.light();
+    });
+    let load = move || {
+        let _owned = &owned;
+        Err(())
+    };
+    assert_eq!(panic_of(|| cache.get_at(&1, 0, load)), Some("of what the loader owns"));
+    assert_eq!((values.live.load(SeqCst), cache.kept()), (0, (0, 0)));
+}
+
+#[test]
+fn what_a_loader_owns_and_the_error_that_was_shared_may_both_panic_as_they_are_dropped() {
+    let errors = Arc::new(Fuse::default());
+    let cache = Loading::<u64, u64, Thing>::open(&Setup::of(4)).unwrap();
+    let is_over = AtomicBool::new(false);
+    thread::scope(|threads| {
+        threads.spawn(|| {
+            let failed = cache.get_at(&1, 0, || {
+                while cache.stats().joins == 0 {
+                    thread::yield_now();
+                }
+                Err(errors.thing(1))
+            });
+            assert!(matches!(failed, Err(GetError::Load(_))));
+            drop(failed);
+            is_over.store(true, SeqCst);
+        });
+        while cache.numbers().flights == 0 {
+            thread::yield_now();
+        }
+        let owned = Calls(|| {
+            // The caller that joined has the last share of the error then.
+            while !is_over.load(SeqCst) {
+                thread::yield_now();
+            }
+            errors.light();
+        });
+        let load = move || {
+            let _owned = &owned;
+            Ok((1, 1))
+        };
+        assert_eq!(panic_of(|| cache.get_at(&1, 0, load)), Some("of what the loader owns"));
+    });
+    assert_eq!((errors.live.load(SeqCst), cache.kept(), cache.numbers().flights), (0, (0, 0), 0));
+}
+
+#[test]
+fn a_hash_a_clone_and_the_drop_of_what_was_passed_may_both_panic() {
+    let (keys, values) = (Arc::new(Fuse::default()), Arc::new(Fuse::default()));
+    let cache = Loading::<Thing, Thing, ()>::open(&Setup::of(4)).unwrap();
+    let mut owned = Cache::<Thing, Thing>::open(&Setup::of(4)).unwrap();
+    keys.clones_panic.store(true, SeqCst);
+    for (number, of) in [(99, "of the hash"), (1, "of a clone")] {
+        let key = keys.thing(number);
+        let value = values.thing(1);
+        let loads = values.thing(2);
+        let shared = Arc::new(values.thing(3));
+        values.light();
+        assert_eq!(panic_of(|| owned.put(&key, value, 1, 0)), Some(of));
+        assert_eq!(panic_of(|| cache.get_at(&key, 0, || Ok((loads, 1)))), Some(of));
+        assert_eq!(panic_of(|| cache.put_at(&key, shared, 1, 0)), Some(of));
+        values.drops_panic.store(false, SeqCst);
+        assert_eq!((values.live.load(SeqCst), cache.kept(), owned.kept()), (0, (0, 0), (0, 0)));
+    }
+    let value = values.thing(1);
+    values.light();
+    assert_eq!(panic_of(|| owned.land(1, &keys.thing(99), value, 1, 0)), Some("of the hash"));
+    assert_eq!(values.live.load(SeqCst), 0);
+}
+
 #[test]
 fn a_listener_and_the_drop_of_the_key_may_both_panic() {
     let keys = Arc::new(Fuse::default());
@@ -215,6 +312,26 @@ fn a_listener_and_the_drop_of_the_key_may_both_panic() {
     assert_eq!(panic_of(|| drop(cache)), Some("of the listener"));
     assert_eq!(keys.live.load(SeqCst), 6);
     keys.drops_panic.store(false, SeqCst);
+}
+
+#[test]
+fn a_listener_and_the_drop_of_an_expired_key_may_both_panic() {
+    let keys = Arc::new(Fuse::default());
+    let setup = Setup { after_write: 10, ..Setup::of(4) };
+    let cache = Loading::<Thing, u64, ()>::open(&setup).unwrap().with_listener(|_| panic!("of the listener"));
+    let key = keys.thing(1);
+    for asks in [
+        |cache: &Loading<Thing, u64, ()>, key: &Thing, now| panic_of(|| cache.look_at(key, now)),
+        |cache: &Loading<Thing, u64, ()>, key: &Thing, now| panic_of(|| cache.get_at(key, now, || Ok((2, 1)))),
+    ] {
+        let now = cache.numbers().latest;
+        cache.store_at(&key, Arc::new(1), 1, now).unwrap();
+        keys.light();
+        assert_eq!(asks(&cache, &key, now + 10), Some("of the listener"));
+        keys.drops_panic.store(false, SeqCst);
+        assert_eq!((keys.live.load(SeqCst), cache.stats().expired), (1 + cache.kept().1 as u64, 1 + now / 10));
+    }
+    assert_eq!(panic_of(|| drop(cache)), Some("of the listener"));
 }
 
 // A key of one hash with all others. Its equality takes the first key out, once, and has all drops panic from then on.
@@ -258,6 +375,60 @@ fn what_was_found_of_another_key_and_that_key_may_both_panic_as_they_are_dropped
         assert_eq!(asks(&second), Some("of a drop"));
         fuse.drops_panic.store(false, SeqCst);
         assert_eq!((fuse.live.load(SeqCst), cache.kept(), cache.numbers().flights), (2, (0, 0), 0));
+    }
+}
+
+// A key of one hash with all others. Its equality clears the cache, once, and may panic then. All drops panic from then on.
+#[derive(Clone)]
+struct Clearing(Thing);
+
+static CLEARED: OnceLock<Loading<Clearing, Thing, ()>> = OnceLock::new();
+static CLEARS: AtomicBool = AtomicBool::new(false);
+static PANICS: AtomicBool = AtomicBool::new(false);
+
+impl Hash for Clearing {
+    fn hash<H: Hasher>(&self, state: &mut H) {
+        state.write_u8(5);
+    }
+}
+
+impl PartialEq for Clearing {
+    fn eq(&self, other: &Clearing) -> bool {
+        if CLEARS.swap(false, SeqCst) {
+            assert_eq!(CLEARED.get().unwrap().clear_at(0).unwrap().len(), 2);
+            self.0.fuse.light();
+            assert!(!PANICS.load(SeqCst), "of the equality");
+        }
+        self.0.number == other.0.number
+    }
+}
+
+impl Eq for Clearing {}
+
+#[test]
+fn keys_that_were_compared_and_the_value_to_be_stored_may_all_panic_as_they_are_dropped() {
+    let fuse = Arc::new(Fuse::default());
+    let cache = CLEARED.get_or_init(|| Loading::open(&Setup::of(4)).unwrap());
+    let keys = [1, 2, 3].map(|number| Clearing(fuse.thing(number)));
+    for (panics, of) in [(false, "of a drop"), (true, "of the equality")] {
+        for asks in [
+            |key: &Clearing, value| panic_of(|| CLEARED.get().unwrap().store_at(key, Arc::new(value), 1, 0)),
+            |key: &Clearing, value| panic_of(|| CLEARED.get().unwrap().get_at(key, 0, || Ok((value, 1)))),
+            |key: &Clearing, value| {
+                drop(value);
+                panic_of(|| CLEARED.get().unwrap().drop_key_at(key, 0))
+            },
+        ] {
+            cache.store_at(&keys[0], Arc::new(fuse.thing(1)), 1, 0).unwrap();
+            cache.store_at(&keys[1], Arc::new(fuse.thing(2)), 1, 0).unwrap();
+            let value = fuse.thing(3);
+            // The call itself has the last shares of both keys then.
+            PANICS.store(panics, SeqCst);
+            CLEARS.store(true, SeqCst);
+            assert_eq!(asks(&keys[2], value), Some(of));
+            fuse.drops_panic.store(false, SeqCst);
+            assert_eq!((fuse.live.load(SeqCst), cache.kept(), cache.numbers().flights), (3, (0, 0), 0));
+        }
     }
 }
 
