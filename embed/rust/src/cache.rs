@@ -3,9 +3,10 @@ use crate::panics::{Guarded, Panics};
 use crate::several::Several;
 use crate::store::{drop_each, Ended, Store};
 use crate::table::Place;
-use crate::{Fault, Found, Landed, Left, Numbers, Setup, Token};
+use crate::{Fault, Found, Landed, Left, Numbers, OpenError, Setup, Token};
 use std::borrow::Borrow;
 use std::collections::hash_map::RandomState;
+use std::fmt::{Debug, Formatter};
 use std::hash::{BuildHasher, Hash};
 use std::sync::Arc;
 
@@ -21,16 +22,22 @@ pub struct Cache<K, V, S = RandomState> {
     hasher: S,
 }
 
+impl<K, V, S> Debug for Cache<K, V, S> {
+    fn fmt(&self, f: &mut Formatter<'_>) -> std::fmt::Result {
+        f.debug_struct("Cache").field("keys", &self.store.table.len()).finish_non_exhaustive()
+    }
+}
+
 impl<K: Hash + Eq + Clone, V> Cache<K, V> {
     /// Opens an empty cache. `BadSetup`, then `OutOfMemory`.
-    pub fn open(setup: &Setup) -> Result<Self, Fault> {
+    pub fn open(setup: &Setup) -> Result<Self, OpenError> {
         Self::with_hasher(setup, RandomState::new())
     }
 }
 
 impl<K: Hash + Eq + Clone, V, S: BuildHasher> Cache<K, V, S> {
     /// As `open`, with a hasher of the caller's. It has to spread keys over all 64 bits, or nearly so.
-    pub fn with_hasher(setup: &Setup, hasher: S) -> Result<Self, Fault> {
+    pub fn with_hasher(setup: &Setup, hasher: S) -> Result<Self, OpenError> {
         Ok(Cache { store: Store::open(setup)?, hasher })
     }
 

@@ -3,16 +3,19 @@ use crate::Setup;
 
 // A shard of fewer entries evicts too early if the keys' hashes give it more than its part: 1,024 keys vary by 32 or so.
 const LEAST_ENTRIES: u32 = 1024;
-const MOST_ENTRIES: u32 = 1 << 16;
+/// How many entries a shard may hold.
+pub(crate) const MOST_ENTRIES: u32 = 1 << 16;
+/// How many shards there may be.
+pub(crate) const MOST_SHARDS: u32 = 1 << 12;
 
 /// The setup of each shard, for a machine of so many cores: twice as many shards as cores, but no shard of fewer than 1,024 entries
-/// and none of more than 65,536. One alone if the weight has a bound, or if the setup is to be refused.
+/// and none of more than 65,536. One alone if the weight has a bound. The whole setup is within its ranges.
 pub(crate) fn parts(setup: &Setup, cores: usize) -> Vec<Setup> {
-    let Setup { entries, window, .. } = *setup;
-    if setup.bound != Setup::of(1).bound || window == 0 || window > entries {
+    if setup.has_bound() {
         return vec![*setup];
     }
-    let wanted = u32::try_from(cores.saturating_mul(2)).unwrap_or(u32::MAX);
+    let Setup { entries, window, .. } = *setup;
+    let wanted = u32::try_from(cores.saturating_mul(2)).unwrap_or(u32::MAX).min(MOST_SHARDS);
     let shards = wanted.min(entries / LEAST_ENTRIES).max(entries.div_ceil(MOST_ENTRIES)).max(1);
     let part = |of: u32, shard: u32| of / shards + u32::from(shard < of % shards);
     let part = |shard| Setup { entries: part(entries, shard), window: part(window, shard).max(1), ..*setup };
@@ -46,11 +49,16 @@ mod tests {
     }
 
     #[test]
-    fn a_bound_or_a_bad_setup_is_never_divided() {
+    fn a_bound_is_never_divided() {
         let bounded = Setup { bound: 1 << 20, ..Setup::of(16_384) };
         assert_eq!(parts(&bounded, 4), [bounded]);
-        for bad in [Setup::of(0), Setup { window: 0, ..Setup::of(9000) }, Setup { window: 9001, ..Setup::of(9000) }] {
-            assert_eq!(parts(&bad, 4), [bad]);
-        }
+    }
+
+    #[test]
+    fn there_are_4096_shards_at_most() {
+        let most = Setup::of(4096 * 65_536);
+        assert_eq!(of(most, 4), (4096, vec![(65_536, 656), (65_536, 655)]));
+        assert_eq!(of(most, 100_000).0, 4096);
+        assert_eq!(of(Setup::of(1 << 24), 100_000), (4096, vec![(4096, 41), (4096, 40)]));
     }
 }

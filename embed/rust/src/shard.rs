@@ -3,7 +3,7 @@ use crate::flight::Flight;
 use crate::slab::Slab;
 use crate::store::{AllLeft, Store};
 use crate::table::Place;
-use crate::{Fault, Left, Setup, Stats};
+use crate::{Fault, Left, OpenError, Setup, Stats};
 use std::sync::Arc;
 use std::thread::ThreadId;
 
@@ -28,7 +28,7 @@ pub(crate) struct Shard<K, V, E> {
 }
 
 impl<K, V, E> Shard<K, V, E> {
-    pub(crate) fn open(setup: &Setup) -> Result<Self, Fault> {
+    pub(crate) fn open(setup: &Setup) -> Result<Self, OpenError> {
         Ok(Shard { store: Store::open(setup)?, loads: Slab::new(), stats: Stats::default() })
     }
 

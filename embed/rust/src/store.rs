@@ -2,7 +2,7 @@
 use crate::panics::Panics;
 use crate::several::Several;
 use crate::table::{Place, Table};
-use crate::{Fault, Found, Landed, Numbers, Setup, Token, Tokens};
+use crate::{Fault, Found, Landed, Numbers, OpenError, Setup, Token, Tokens};
 use std::sync::Arc;
 
 /// Why an entry left.
@@ -43,7 +43,7 @@ pub(crate) struct Store<K, V> {
 }
 
 impl<K, V> Store<K, V> {
-    pub(crate) fn open(setup: &Setup) -> Result<Self, Fault> {
+    pub(crate) fn open(setup: &Setup) -> Result<Self, OpenError> {
         Ok(Store { tokens: Tokens::open(setup)?, table: Table::new(), causes: [0; 4] })
     }
 

@@ -20,7 +20,7 @@ pub struct Token {
 #[repr(C)]
 #[derive(Clone, Copy, Debug, PartialEq, Eq)]
 pub struct Setup {
-    /// How many entries the cache may hold: 1 to 65,536, and more where [`Loading::open`](crate::Loading::open) divides them.
+    /// How many entries the cache may hold: 1 to 65,536, and more if [`Loading::open`](crate::Loading::open) divides them.
     pub entries: u32,
     /// How many of them the window may hold: 1 to `entries`. A hundredth is a good choice.
     pub window: u32,
@@ -32,7 +32,7 @@ pub struct Setup {
     pub after_write: u64,
     /// An entry expires so long after it was used.
     pub after_access: u64,
-    /// An entry is due for a further load so long after it was written.
+    /// An entry is due for a further load so long after it was written: below `after_write`, if both are set.
     pub refresh: u64,
 }
 
@@ -41,14 +41,6 @@ impl Setup {
     pub const fn of(entries: u32) -> Setup {
         let window = if entries < 200 { 1 } else { entries / 100 };
         Setup { entries, window, flights: 1024, bound: 1 << 48, after_write: 0, after_access: 0, refresh: 0 }
-    }
-
-    /// The name of the first setting that is out of its range.
-    pub fn check(&self) -> Option<&'static str> {
-        const NAMES: [&str; 7] = ["entries", "window", "flights", "bound", "after_write", "after_access", "refresh"];
-        // SAFETY: the setup is borrowed for the call, which only reads it.
-        let setting = unsafe { rd_check(self) };
-        NAMES.get((setting as usize).wrapping_sub(1)).copied()
     }
 }
 
@@ -155,6 +147,7 @@ impl Numbers {
 }
 
 unsafe extern "C" {
+    #[cfg(test)]
     pub fn rd_check(setup: *const Setup) -> u64;
     pub fn rd_open(setup: *const Setup, cache: *mut Handle) -> u64;
     pub fn rd_open_names(setup: *const Setup, cache: *mut Handle) -> u64;

@@ -216,6 +216,11 @@ impl<K, V> Table<K, V> {
         rows.into_iter().map(|row| (row.key, row.value))
     }
 
+    /// How many keys there are.
+    pub(crate) fn len(&self) -> usize {
+        self.rows.len()
+    }
+
     /// How many values and how many keys there are.
     pub(crate) fn kept(&self) -> (usize, usize) {
         (self.rows.iter().filter(|(_, row)| row.value.is_some()).count(), self.rows.len())
@@ -231,7 +236,7 @@ fn spread(hash: u64) -> u64 {
 /// Which of some parts a hash belongs to. It goes by the uppermost bits, and a chain by those below them.
 #[inline]
 pub(crate) fn part_of(hash: u64, parts: usize) -> usize {
-    ((spread(hash) >> 48) as usize * parts) >> 16
+    (((spread(hash) >> 32) * parts as u64) >> 32) as usize
 }
 
 #[inline]

@@ -1,14 +1,14 @@
 //! A cache of tokens: safe calls over `rookdresser.h`.
 use crate::key::Key;
+use crate::setup::OpenError;
 use crate::sys::{self, Answer, Handle, Notice, Numbers, Setup, Token};
+use std::fmt::{Debug, Display, Formatter};
 
 /// Why a call was refused. A refused call changes nothing.
 #[derive(Clone, Copy, Debug, PartialEq, Eq, Hash)]
 pub enum Fault {
     /// An allocation failed. The same call may succeed later.
     OutOfMemory,
-    /// A setting is out of its range: [`Setup::check`] tells which.
-    BadSetup,
     /// The value weighs more than `bound`.
     TooHeavy,
     /// As many loads are open as `flights` allows. The call may succeed once one of them has landed.
@@ -19,8 +19,7 @@ pub enum Fault {
 
 impl Fault {
     /// All faults, each at the place that [`Fault::place`] tells.
-    pub const ALL: [Fault; 5] =
-        [Fault::OutOfMemory, Fault::BadSetup, Fault::TooHeavy, Fault::TooManyFlights, Fault::StepsSpent];
+    pub const ALL: [Fault; 4] = [Fault::OutOfMemory, Fault::TooHeavy, Fault::TooManyFlights, Fault::StepsSpent];
 
     /// Its place in [`Fault::ALL`].
     pub fn place(self) -> usize {
@@ -28,11 +27,10 @@ impl Fault {
     }
 }
 
-impl std::fmt::Display for Fault {
-    fn fmt(&self, f: &mut std::fmt::Formatter<'_>) -> std::fmt::Result {
-        f.write_str(match self {
+impl Display for Fault {
+    fn fmt(&self, f: &mut Formatter<'_>) -> std::fmt::Result {
+        f.pad(match self {
             Fault::OutOfMemory => "out of memory",
-            Fault::BadSetup => "a setting is out of its range",
             Fault::TooHeavy => "the value is heavier than the bound",
             Fault::TooManyFlights => "too many loads are open",
             Fault::StepsSpent => "2^60 steps were made",
@@ -42,11 +40,10 @@ impl std::fmt::Display for Fault {
 
 impl std::error::Error for Fault {}
 
-// An open cache returns 0 to 5 alone.
+// An open cache returns 0, 1, 3, 4 and 5 alone.
 fn fault(number: u64) -> Fault {
     match number {
         1 => Fault::OutOfMemory,
-        2 => Fault::BadSetup,
         3 => Fault::TooHeavy,
         4 => Fault::TooManyFlights,
         _ => Fault::StepsSpent,
@@ -108,13 +105,15 @@ unsafe impl<K> Send for Tokens<K> {}
 impl<K: Key> Tokens<K> {
     /// Opens an empty cache. `BadSetup`, then `OutOfMemory`. Panics on a processor older than x86-64-v2, which lacks
     /// instructions that the library has.
-    pub fn open(setup: &Setup) -> Result<Self, Fault> {
+    pub fn open(setup: &Setup) -> Result<Self, OpenError> {
         assert!(is_v2(), "rookdresser needs a processor of x86-64-v2 or later");
+        setup.check_shard()?;
         let mut handle = Handle { at: std::ptr::null_mut(), is_open: false };
         // SAFETY: both lead to whole values that are borrowed for the call, and the handle is closed: all bytes are zero.
         match unsafe { K::open(setup, &mut handle) } {
             0 => Ok(Tokens { handle, told: 0, first: Notice::default(), has_first: false }),
-            number => Err(fault(number)),
+            1 => Err(OpenError::OutOfMemory),
+            _ => unreachable!("the library's ranges are those that were checked"),
         }
     }
 
@@ -217,6 +216,12 @@ impl<K: Key> Tokens<K> {
         let mut numbers = Numbers::default();
         unsafe { sys::rd_get_numbers(&mut self.handle, &mut numbers) };
         numbers
+    }
+}
+
+impl<K> Debug for Tokens<K> {
+    fn fmt(&self, f: &mut Formatter<'_>) -> std::fmt::Result {
+        f.debug_struct("Tokens").finish_non_exhaustive()
     }
 }
 

@@ -352,13 +352,3 @@ fn dropping_the_cache_tells_the_listener_what_was_there() {
         assert_eq!(*told, [(1, 10, Cause::Explicit), (2, 20, Cause::Explicit), (3, 30, Cause::Explicit)]);
     }
 }
-
-#[test]
-fn a_setup_is_made_for_a_number_of_entries_and_says_what_is_out_of_range() {
-    assert_eq!((Setup::of(1000).window, Setup::of(7).window, Setup::default()), (10, 1, Setup::of(1000)));
-    assert_eq!((Setup::of(1000).check(), Setup { window: 17, ..SETUP }.check()), (None, Some("window")));
-    assert_eq!(
-        (Setup { entries: 0, ..SETUP }.check(), Setup { bound: 0, ..SETUP }.check()),
-        (Some("entries"), Some("bound"))
-    );
-}
