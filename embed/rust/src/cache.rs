@@ -30,6 +30,15 @@ impl<K, V, S> Debug for Cache<K, V, S> {
 
 impl<K: Hash + Eq + Clone, V> Cache<K, V> {
     /// Opens an empty cache. `BadSetup`, then `OutOfMemory`.
+    ///
+    /// ```
+    /// use rookdresser::{Cache, Setup};
+    ///
+    /// let mut cache = Cache::<String, u64>::open(&Setup::of(100))?;
+    /// cache.put(&"a".into(), 7, 1, 0)?;
+    /// assert_eq!(cache.look("a", 0)?.0, Some(&7));
+    /// # Ok::<(), Box<dyn std::error::Error>>(())
+    /// ```
     pub fn open(setup: &Setup) -> Result<Self, OpenError> {
         Self::with_hasher(setup, RandomState::new())
     }
@@ -37,11 +46,33 @@ impl<K: Hash + Eq + Clone, V> Cache<K, V> {
 
 impl<K: Hash + Eq + Clone, V, S: BuildHasher> Cache<K, V, S> {
     /// As `open`, with a hasher of the caller's. It has to spread keys over all 64 bits, or nearly so.
+    ///
+    /// ```
+    /// use rookdresser::{Cache, Setup};
+    /// use std::hash::{BuildHasherDefault, DefaultHasher};
+    ///
+    /// // With no seed: for keys that no stranger chooses.
+    /// let hasher = BuildHasherDefault::<DefaultHasher>::default();
+    /// let mut cache = Cache::<u64, u64, _>::with_hasher(&Setup::of(100), hasher)?;
+    /// assert_eq!(cache.put(&1, 7, 1, 0)?, []);
+    /// # Ok::<(), Box<dyn std::error::Error>>(())
+    /// ```
     pub fn with_hasher(setup: &Setup, hasher: S) -> Result<Self, OpenError> {
         Ok(Cache { store: Store::open(setup)?, hasher })
     }
 
     /// The key's value, if it is there, with what left.
+    ///
+    /// ```
+    /// # use rookdresser::{Cache, Cause, Setup};
+    /// # let mut cache = Cache::<String, u64>::open(&Setup { after_write: 10, ..Setup::of(100) })?;
+    /// cache.put(&"a".into(), 7, 1, 1000)?;
+    /// // Entries expire after 10 milliseconds here.
+    /// assert_eq!(cache.look("a", 1009)?, (Some(&7), vec![]));
+    /// let (value, left) = cache.look("a", 1010)?;
+    /// assert_eq!((value, left[0].cause), (None, Cause::Expired));
+    /// # Ok::<(), Box<dyn std::error::Error>>(())
+    /// ```
     #[allow(clippy::type_complexity)]
     pub fn look<Q>(&mut self, key: &Q, now: u64) -> Result<(Option<&V>, AllLeft<K, V>), Fault>
     where
@@ -57,6 +88,18 @@ impl<K: Hash + Eq + Clone, V, S: BuildHasher> Cache<K, V, S> {
     }
 
     /// Looks the key up, and joins or opens a load, with what left. Whoever leads the load calls `land` or `fail`.
+    ///
+    /// ```
+    /// # use rookdresser::{Cache, Found, Landed, Setup};
+    /// # let mut cache = Cache::<String, u64>::open(&Setup::of(100))?;
+    /// let key = String::from("a");
+    /// if let (Found::Lead(id), _) = cache.seek(&key, 0)? {
+    ///     assert_eq!(cache.land(id, &key, 7, 1, 0).0, Landed::Kept(1));
+    /// }
+    /// let Found::Hit(token) = cache.seek(&key, 0)?.0 else { unreachable!("it is there") };
+    /// assert_eq!(cache.value(token), &7);
+    /// # Ok::<(), Box<dyn std::error::Error>>(())
+    /// ```
     pub fn seek(&mut self, key: &K, now: u64) -> Result<(Found, AllLeft<K, V>), Fault> {
         let place = self.place(key);
         let found = self.store.tokens.seek(self.store.table.number(&place), now)?;
@@ -67,11 +110,29 @@ impl<K: Hash + Eq + Clone, V, S: BuildHasher> Cache<K, V, S> {
     }
 
     /// The value of a token that the cache holds.
+    ///
+    /// ```
+    /// # use rookdresser::{Cache, Found, Setup};
+    /// # let mut cache = Cache::<String, u64>::open(&Setup::of(100))?;
+    /// cache.put(&"a".into(), 7, 1, 0)?;
+    /// let Found::Hit(token) = cache.seek(&"a".into(), 0)?.0 else { unreachable!("it is there") };
+    /// assert_eq!(cache.value(token), &7);
+    /// # Ok::<(), Box<dyn std::error::Error>>(())
+    /// ```
     pub fn value(&self, token: Token) -> &V {
         self.store.value(token)
     }
 
     /// Stores the value under the key.
+    ///
+    /// ```
+    /// # use rookdresser::{Cache, Cause, Setup};
+    /// # let mut cache = Cache::<String, u64>::open(&Setup::of(100))?;
+    /// assert_eq!(cache.put(&"a".into(), 7, 1, 0)?, []);
+    /// let left = cache.put(&"a".into(), 8, 1, 0)?;
+    /// assert_eq!((left[0].value, left[0].cause), (7, Cause::Replaced));
+    /// # Ok::<(), Box<dyn std::error::Error>>(())
+    /// ```
     pub fn put(&mut self, key: &K, value: V, weight: u32, now: u64) -> Result<AllLeft<K, V>, Fault> {
         let value = Guarded::of(value);
         let place = self.place(key);
@@ -88,6 +149,16 @@ impl<K: Hash + Eq + Clone, V, S: BuildHasher> Cache<K, V, S> {
     }
 
     /// Closes a load that this caller leads with a value. If memory is refused, the load is closed without storing.
+    ///
+    /// ```
+    /// # use rookdresser::{Cache, Found, Landed, Setup};
+    /// # let mut cache = Cache::<String, u64>::open(&Setup::of(100))?;
+    /// let key = String::from("a");
+    /// let Found::Lead(id) = cache.seek(&key, 0)?.0 else { unreachable!("nothing is there") };
+    /// assert_eq!(cache.land(id, &key, 7, 1, 0), (Landed::Kept(1), vec![]));
+    /// assert_eq!(cache.look("a", 0)?.0, Some(&7));
+    /// # Ok::<(), Box<dyn std::error::Error>>(())
+    /// ```
     pub fn land(&mut self, id: u64, key: &K, value: V, weight: u32, now: u64) -> (Landed, AllLeft<K, V>) {
         let value = Guarded::of(value);
         match self.found(self.hasher.hash_one(key), key) {
@@ -104,6 +175,15 @@ impl<K: Hash + Eq + Clone, V, S: BuildHasher> Cache<K, V, S> {
     }
 
     /// Closes a load that this caller leads and that failed. The key's entry leaves if it has expired meanwhile.
+    ///
+    /// ```
+    /// # use rookdresser::{Cache, Found, Landed, Setup};
+    /// # let mut cache = Cache::<String, u64>::open(&Setup::of(100))?;
+    /// let key = String::from("a");
+    /// let Found::Lead(id) = cache.seek(&key, 0)?.0 else { unreachable!("nothing is there") };
+    /// assert_eq!(cache.fail(id, &key, 0), (Landed::Failed(1), vec![]));
+    /// # Ok::<(), Box<dyn std::error::Error>>(())
+    /// ```
     pub fn fail(&mut self, id: u64, key: &K, now: u64) -> (Landed, AllLeft<K, V>) {
         match self.found(self.hasher.hash_one(key), key) {
             Some(at) => {
@@ -123,6 +203,14 @@ impl<K: Hash + Eq + Clone, V, S: BuildHasher> Cache<K, V, S> {
     }
 
     /// Takes the key's entry out. A load of the key that is open will store nothing.
+    ///
+    /// ```
+    /// # use rookdresser::{Cache, Setup};
+    /// # let mut cache = Cache::<String, u64>::open(&Setup::of(100))?;
+    /// cache.put(&"a".into(), 7, 1, 0)?;
+    /// assert_eq!(cache.drop_key("a", 0)?[0].value, 7);
+    /// # Ok::<(), Box<dyn std::error::Error>>(())
+    /// ```
     pub fn drop_key<Q>(&mut self, key: &Q, now: u64) -> Result<AllLeft<K, V>, Fault>
     where
         K: Borrow<Q>,
@@ -135,6 +223,16 @@ impl<K: Hash + Eq + Clone, V, S: BuildHasher> Cache<K, V, S> {
     }
 
     /// Lets nobody further join a load of the key that is open, which will store nothing. Tells whether there was one.
+    ///
+    /// ```
+    /// # use rookdresser::{Cache, Found, Landed, Setup};
+    /// # let mut cache = Cache::<String, u64>::open(&Setup::of(100))?;
+    /// let key = String::from("a");
+    /// let Found::Lead(id) = cache.seek(&key, 0)?.0 else { unreachable!("nothing is there") };
+    /// assert_eq!(cache.forget("a", 0)?, (true, vec![]));
+    /// assert_eq!(cache.land(id, &key, 7, 1, 0), (Landed::Loose(1), vec![]));
+    /// # Ok::<(), Box<dyn std::error::Error>>(())
+    /// ```
     pub fn forget<Q>(&mut self, key: &Q, now: u64) -> Result<(bool, AllLeft<K, V>), Fault>
     where
         K: Borrow<Q>,
@@ -147,6 +245,14 @@ impl<K: Hash + Eq + Clone, V, S: BuildHasher> Cache<K, V, S> {
     }
 
     /// Takes every entry out.
+    ///
+    /// ```
+    /// # use rookdresser::{Cache, Setup};
+    /// # let mut cache = Cache::<String, u64>::open(&Setup::of(100))?;
+    /// cache.put(&"a".into(), 7, 1, 0)?;
+    /// assert_eq!(cache.clear(0)?.len(), 1);
+    /// # Ok::<(), Box<dyn std::error::Error>>(())
+    /// ```
     pub fn clear(&mut self, now: u64) -> Result<AllLeft<K, V>, Fault> {
         let mut left = Several::none();
         self.store.clear(now, &mut left)?;
@@ -154,6 +260,15 @@ impl<K: Hash + Eq + Clone, V, S: BuildHasher> Cache<K, V, S> {
     }
 
     /// Takes every expired entry out.
+    ///
+    /// ```
+    /// # use rookdresser::{Cache, Setup};
+    /// # let mut cache = Cache::<String, u64>::open(&Setup { after_write: 10, ..Setup::of(100) })?;
+    /// // Entries expire after 10 milliseconds here.
+    /// cache.put(&"a".into(), 7, 1, 1000)?;
+    /// assert_eq!((cache.clean(1009)?.len(), cache.clean(1010)?.len()), (0, 1));
+    /// # Ok::<(), Box<dyn std::error::Error>>(())
+    /// ```
     pub fn clean(&mut self, now: u64) -> Result<AllLeft<K, V>, Fault> {
         let mut left = Several::none();
         self.store.clean(now, &mut left)?;
@@ -161,11 +276,27 @@ impl<K: Hash + Eq + Clone, V, S: BuildHasher> Cache<K, V, S> {
     }
 
     /// The numbers of the cache.
+    ///
+    /// ```
+    /// # use rookdresser::{Cache, Setup};
+    /// # let mut cache = Cache::<String, u64>::open(&Setup::of(100))?;
+    /// cache.put(&"a".into(), 7, 3, 0)?;
+    /// assert_eq!((cache.numbers().entries, cache.numbers().weight), (1, 3));
+    /// # Ok::<(), Box<dyn std::error::Error>>(())
+    /// ```
     pub fn numbers(&mut self) -> Numbers {
         self.store.numbers()
     }
 
     /// How many values and how many keys this side keeps. While no load is open, both are the entries that the library holds.
+    ///
+    /// ```
+    /// # use rookdresser::{Cache, Setup};
+    /// # let mut cache = Cache::<String, u64>::open(&Setup::of(100))?;
+    /// cache.put(&"a".into(), 7, 1, 0)?;
+    /// assert_eq!(cache.kept(), (1, 1));
+    /// # Ok::<(), Box<dyn std::error::Error>>(())
+    /// ```
     pub fn kept(&self) -> (usize, usize) {
         self.store.kept()
     }

@@ -10,6 +10,14 @@ use std::sync::Arc;
 
 impl<K: Hash + Eq, V, E, S: BuildHasher> Loading<K, V, E, S> {
     /// The key's value, if it is there, with no load.
+    ///
+    /// ```
+    /// # use rookdresser::{Loading, Setup};
+    /// # let cache = Loading::<String, u64, std::io::Error>::open(&Setup::of(100))?;
+    /// cache.store("a", 7.into(), 1)?;
+    /// assert_eq!((cache.look("a")?, cache.look("b")?), (Some(7.into()), None));
+    /// # Ok::<(), Box<dyn std::error::Error>>(())
+    /// ```
     pub fn look<Q>(&self, key: &Q) -> Result<Option<Arc<V>>, Fault>
     where
         K: Borrow<Q>,
@@ -19,6 +27,15 @@ impl<K: Hash + Eq, V, E, S: BuildHasher> Loading<K, V, E, S> {
     }
 
     /// As `look`, at a moment of the caller's clock, in milliseconds.
+    ///
+    /// ```
+    /// # use rookdresser::{Loading, Setup};
+    /// # let cache = Loading::<String, u64, std::io::Error>::open(&Setup { after_write: 10, ..Setup::of(100) })?;
+    /// // Entries expire after 10 milliseconds here.
+    /// cache.store_at("a", 7.into(), 1, 1000)?;
+    /// assert_eq!((cache.look_at("a", 1009)?, cache.look_at("a", 1010)?), (Some(7.into()), None));
+    /// # Ok::<(), Box<dyn std::error::Error>>(())
+    /// ```
     pub fn look_at<Q>(&self, key: &Q, now: u64) -> Result<Option<Arc<V>>, Fault>
     where
         K: Borrow<Q>,
@@ -52,6 +69,15 @@ impl<K: Hash + Eq, V, E, S: BuildHasher> Loading<K, V, E, S> {
     }
 
     /// Takes the key's entry out, and returns what left. A load of the key that is open will store nothing.
+    ///
+    /// ```
+    /// # use rookdresser::{Loading, Setup};
+    /// # let cache = Loading::<String, u64, std::io::Error>::open(&Setup::of(100))?;
+    /// cache.store("a", 7.into(), 1)?;
+    /// assert_eq!(*cache.drop_key("a")?[0].value, 7);
+    /// assert_eq!(cache.look("a")?, None);
+    /// # Ok::<(), Box<dyn std::error::Error>>(())
+    /// ```
     pub fn drop_key<Q>(&self, key: &Q) -> Result<Vec<Gone<K, V>>, Fault>
     where
         K: Borrow<Q>,
@@ -61,6 +87,14 @@ impl<K: Hash + Eq, V, E, S: BuildHasher> Loading<K, V, E, S> {
     }
 
     /// As `drop_key`, at a moment of the caller's clock, in milliseconds.
+    ///
+    /// ```
+    /// # use rookdresser::{Cause, Loading, Setup};
+    /// # let cache = Loading::<String, u64, std::io::Error>::open(&Setup { after_write: 10, ..Setup::of(100) })?;
+    /// cache.store_at("a", 7.into(), 1, 1000)?;
+    /// assert_eq!(cache.drop_key_at("a", 1005)?[0].cause, Cause::Explicit);
+    /// # Ok::<(), Box<dyn std::error::Error>>(())
+    /// ```
     pub fn drop_key_at<Q>(&self, key: &Q, now: u64) -> Result<Vec<Gone<K, V>>, Fault>
     where
         K: Borrow<Q>,
@@ -77,6 +111,18 @@ impl<K: Hash + Eq, V, E, S: BuildHasher> Loading<K, V, E, S> {
     }
 
     /// Lets nobody further join a load of the key that is open, which will store nothing. Tells whether there was one.
+    ///
+    /// ```
+    /// # use rookdresser::{Loading, Setup};
+    /// # let cache = Loading::<String, u64, std::io::Error>::open(&Setup::of(100))?;
+    /// let seven = cache.get_with("a", || {
+    ///     // What is loaded got old meanwhile.
+    ///     assert_eq!(cache.forget("a"), Ok(true));
+    ///     7
+    /// })?;
+    /// assert_eq!((*seven, cache.look("a")?), (7, None));
+    /// # Ok::<(), Box<dyn std::error::Error>>(())
+    /// ```
     pub fn forget<Q>(&self, key: &Q) -> Result<bool, Fault>
     where
         K: Borrow<Q>,
@@ -86,6 +132,13 @@ impl<K: Hash + Eq, V, E, S: BuildHasher> Loading<K, V, E, S> {
     }
 
     /// As `forget`, at a moment of the caller's clock, in milliseconds.
+    ///
+    /// ```
+    /// # use rookdresser::{Loading, Setup};
+    /// # let cache = Loading::<String, u64, std::io::Error>::open(&Setup { after_write: 10, ..Setup::of(100) })?;
+    /// assert_eq!(cache.forget_at("a", 1000), Ok(false)); // no load of it is open
+    /// # Ok::<(), Box<dyn std::error::Error>>(())
+    /// ```
     pub fn forget_at<Q>(&self, key: &Q, now: u64) -> Result<bool, Fault>
     where
         K: Borrow<Q>,
@@ -103,6 +156,14 @@ impl<K: Hash + Eq, V, E, S: BuildHasher> Loading<K, V, E, S> {
     }
 
     /// Stores the value under the key. What left is dropped, once the listener was told.
+    ///
+    /// ```
+    /// # use rookdresser::{Loading, Setup};
+    /// # let cache = Loading::<String, u64, std::io::Error>::open(&Setup::of(100))?;
+    /// cache.store("a", 7.into(), 1)?; // a u64 becomes an Arc<u64>
+    /// assert_eq!(cache.look("a")?.as_deref(), Some(&7));
+    /// # Ok::<(), Box<dyn std::error::Error>>(())
+    /// ```
     pub fn store<Q>(&self, key: &Q, value: Arc<V>, weight: u32) -> Result<(), Fault>
     where
         K: Borrow<Q>,
@@ -112,6 +173,14 @@ impl<K: Hash + Eq, V, E, S: BuildHasher> Loading<K, V, E, S> {
     }
 
     /// As `store`, at a moment of the caller's clock, in milliseconds.
+    ///
+    /// ```
+    /// # use rookdresser::{Loading, Setup};
+    /// # let cache = Loading::<String, u64, std::io::Error>::open(&Setup { after_write: 10, ..Setup::of(100) })?;
+    /// cache.store_at("a", 7.into(), 1, 1000)?;
+    /// assert_eq!(cache.look_at("a", 1005)?.as_deref(), Some(&7));
+    /// # Ok::<(), Box<dyn std::error::Error>>(())
+    /// ```
     pub fn store_at<Q>(&self, key: &Q, value: Arc<V>, weight: u32, now: u64) -> Result<(), Fault>
     where
         K: Borrow<Q>,
@@ -125,6 +194,15 @@ impl<K: Hash + Eq, V, E, S: BuildHasher> Loading<K, V, E, S> {
     }
 
     /// Stores the value under the key, and returns what left. `store` doesn't, and takes less time.
+    ///
+    /// ```
+    /// # use rookdresser::{Cause, Loading, Setup};
+    /// # let cache = Loading::<String, u64, std::io::Error>::open(&Setup::of(100))?;
+    /// assert_eq!(cache.put("a", 7.into(), 1)?, []);
+    /// let left = cache.put("a", 8.into(), 1)?;
+    /// assert_eq!((*left[0].value, left[0].cause), (7, Cause::Replaced));
+    /// # Ok::<(), Box<dyn std::error::Error>>(())
+    /// ```
     pub fn put<Q>(&self, key: &Q, value: Arc<V>, weight: u32) -> Result<Vec<Gone<K, V>>, Fault>
     where
         K: Borrow<Q>,
@@ -134,6 +212,14 @@ impl<K: Hash + Eq, V, E, S: BuildHasher> Loading<K, V, E, S> {
     }
 
     /// As `put`, at a moment of the caller's clock, in milliseconds.
+    ///
+    /// ```
+    /// # use rookdresser::{Cause, Loading, Setup};
+    /// # let cache = Loading::<String, u64, std::io::Error>::open(&Setup { after_write: 10, ..Setup::of(100) })?;
+    /// cache.put_at("a", 7.into(), 1, 1000)?;
+    /// assert_eq!(cache.put_at("a", 8.into(), 1, 1010)?[0].cause, Cause::Expired);
+    /// # Ok::<(), Box<dyn std::error::Error>>(())
+    /// ```
     pub fn put_at<Q>(&self, key: &Q, value: Arc<V>, weight: u32, now: u64) -> Result<Vec<Gone<K, V>>, Fault>
     where
         K: Borrow<Q>,

@@ -5,6 +5,17 @@ use std::fmt::{Debug, Display, Formatter, Result};
 use std::sync::Arc;
 
 /// Why there is no value.
+///
+/// ```
+/// use rookdresser::{GetError, Loading, Setup};
+///
+/// let cache = Loading::<String, u64, &str>::open(&Setup::of(100))?;
+/// match cache.try_get_with("a", || Err("the source is down")) {
+///     Err(GetError::Load(error)) => assert_eq!(*error, "the source is down"),
+///     other => unreachable!("{other:?}"),
+/// }
+/// # Ok::<(), rookdresser::OpenError>(())
+/// ```
 #[derive(Debug, PartialEq, Eq)]
 pub enum GetError<E> {
     /// The load failed, for all who shared it.

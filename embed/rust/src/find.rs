@@ -11,6 +11,9 @@ use std::sync::Arc;
 /// The shard with the key's place, and the key itself if it was cloned, which is to be dropped once the lock is given back.
 pub(crate) type Placed<'a, K, V, E> = (Locked<'a, K, V, E>, Place<K>, Option<Guarded<Arc<K>>>);
 
+// Rows that were compared, each with its key.
+type Seen<K> = Several<(u32, Guarded<Arc<K>>)>;
+
 impl<K, V, E, S> Loading<K, V, E, S> {
     /// The key's hash. A compiler that doesn't inline `hash_one` takes 65 instructions more for a number by SipHash.
     #[inline]
@@ -80,7 +83,7 @@ impl<K, V, E, S> Loading<K, V, E, S> {
         K: Borrow<Q>,
         Q: Eq + ?Sized,
     {
-        let (mut seen, mut at): (Several<(u32, Guarded<Arc<K>>)>, _) = (Several::none(), None);
+        let (mut seen, mut at) = (Seen::none(), None);
         loop {
             let rows = shard.store.table.rows(hash).map(|(at, row)| (at, Arc::as_ptr(&row.key)));
             if rows.eq(seen.iter().map(|(at, key)| (*at, Arc::as_ptr(key.get())))) {

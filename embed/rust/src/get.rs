@@ -24,6 +24,15 @@ impl<K: Hash + Eq, V, E, S: BuildHasher> Loading<K, V, E, S> {
     /// `load` returns the value and its weight. The value's age counts from this call, not from the end of the load. A due entry is
     /// loaded again by the first who asks, in its own thread: it is given the new value, or the old one if that load fails; the
     /// others get the old value meanwhile. If the loader panics, its caller gets the panic, and those who shared the load ask again.
+    ///
+    /// ```
+    /// # use rookdresser::{Loading, Setup};
+    /// # let cache = Loading::<String, u64, std::io::Error>::open(&Setup::of(100))?;
+    /// let load = || std::fs::read_to_string("Cargo.toml").map(|text| (text.len() as u64, 2)); // weighs 2
+    /// let length = cache.get("Cargo.toml", load)?;
+    /// assert_eq!(cache.get("Cargo.toml", || unreachable!("it is there"))?, length);
+    /// # Ok::<(), Box<dyn std::error::Error>>(())
+    /// ```
     pub fn get<Q>(&self, key: &Q, load: impl FnOnce() -> Result<(V, u32), E>) -> Result<Arc<V>, GetError<E>>
     where
         K: Borrow<Q>,
@@ -33,6 +42,14 @@ impl<K: Hash + Eq, V, E, S: BuildHasher> Loading<K, V, E, S> {
     }
 
     /// As `get`, with a loader that returns the value alone, which then weighs 1.
+    ///
+    /// ```
+    /// # use rookdresser::{Loading, Setup};
+    /// # let cache = Loading::<String, u64, std::io::Error>::open(&Setup::of(100))?;
+    /// let length = cache.try_get_with("Cargo.toml", || Ok(std::fs::read("Cargo.toml")?.len() as u64))?;
+    /// assert_eq!(cache.look("Cargo.toml")?, Some(length));
+    /// # Ok::<(), Box<dyn std::error::Error>>(())
+    /// ```
     pub fn try_get_with<Q>(&self, key: &Q, load: impl FnOnce() -> Result<V, E>) -> Result<Arc<V>, GetError<E>>
     where
         K: Borrow<Q>,
@@ -42,6 +59,14 @@ impl<K: Hash + Eq, V, E, S: BuildHasher> Loading<K, V, E, S> {
     }
 
     /// As `try_get_with`, with a loader that doesn't fail. A load by another call, which this one joins, may fail all the same.
+    ///
+    /// ```
+    /// # use rookdresser::{Loading, Setup};
+    /// # let cache = Loading::<String, u64, std::io::Error>::open(&Setup::of(100))?;
+    /// assert_eq!(*cache.get_with("a", || 7)?, 7);
+    /// assert_eq!(*cache.get_with("a", || unreachable!("it is there"))?, 7);
+    /// # Ok::<(), Box<dyn std::error::Error>>(())
+    /// ```
     pub fn get_with<Q>(&self, key: &Q, load: impl FnOnce() -> V) -> Result<Arc<V>, GetError<E>>
     where
         K: Borrow<Q>,
@@ -51,6 +76,15 @@ impl<K: Hash + Eq, V, E, S: BuildHasher> Loading<K, V, E, S> {
     }
 
     /// As `get`, at a moment of the caller's clock, in milliseconds.
+    ///
+    /// ```
+    /// # use rookdresser::{Loading, Setup};
+    /// # let cache = Loading::<String, u64, std::io::Error>::open(&Setup { after_write: 10, ..Setup::of(100) })?;
+    /// // Entries expire after 10 milliseconds here.
+    /// assert_eq!(*cache.get_at("a", 1000, || Ok((7, 1)))?, 7);
+    /// assert_eq!(*cache.get_at("a", 1010, || Ok((8, 1)))?, 8);
+    /// # Ok::<(), Box<dyn std::error::Error>>(())
+    /// ```
     pub fn get_at<Q>(
         &self,
         key: &Q,

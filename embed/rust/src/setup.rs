@@ -177,7 +177,9 @@ mod tests {
                         let library_s = SETTINGS.get((unsafe { rd_check(&setup) } as usize).wrapping_sub(1));
                         let found = setup.check_shard().err().map(|bad| bad.setting);
                         assert_eq!(found, library_s.copied(), "{setup:?}");
-                        found.map(|setting| bad[setting as usize - Setting::Entries as usize] += 1);
+                        if let Some(setting) = found {
+                            bad[setting as usize - Setting::Entries as usize] += 1;
+                        }
                     }
                 }
             }

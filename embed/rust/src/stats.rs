@@ -3,7 +3,8 @@ use crate::Fault;
 use std::ops::AddAssign;
 use std::time::Duration;
 
-/// Counts since the cache was opened, by this side. README.md says what each is in terms of Guava's `CacheStats`.
+/// Counts since the cache was opened, by this side. [The front page](crate#numbers-for-an-operator) says what each is in terms of
+/// Guava's `CacheStats`.
 ///
 /// If keys have the same hash, a call may be counted for another key of that hash too, by the library's numbers as well.
 #[derive(Clone, Copy, Debug, Default, PartialEq, Eq)]

@@ -38,6 +38,13 @@ pub struct Setup {
 
 impl Setup {
     /// A setup for so many entries, with a hundredth of them as the window, 1,024 loads at most, and no other limit.
+    ///
+    /// ```
+    /// use rookdresser::Setup;
+    ///
+    /// let setup = Setup { after_write: 60_000, ..Setup::of(5000) };
+    /// assert_eq!((setup.entries, setup.window, setup.flights), (5000, 50, 1024));
+    /// ```
     pub const fn of(entries: u32) -> Setup {
         let window = if entries < 200 { 1 } else { entries / 100 };
         Setup { entries, window, flights: 1024, bound: 1 << 48, after_write: 0, after_access: 0, refresh: 0 }
@@ -72,6 +79,16 @@ pub struct Name {
 
 impl Name {
     /// The name of these bytes, if they are at most 24.
+    ///
+    /// ```
+    /// use rookdresser::{Found, Name, Setup, Tokens};
+    ///
+    /// let name = Name::new("a page").expect("it has 24 bytes at most");
+    /// let mut cache = Tokens::<Name>::open(&Setup::of(100))?;
+    /// assert_eq!(cache.look(name, 0), Ok(Found::Absent));
+    /// assert_eq!(Name::new("a name of more than 24 bytes"), None);
+    /// # Ok::<(), Box<dyn std::error::Error>>(())
+    /// ```
     pub fn new(bytes: impl AsRef<[u8]>) -> Option<Name> {
         let bytes = bytes.as_ref();
         let mut name = Name { length: bytes.len() as u64, ..Name::default() };
@@ -80,6 +97,11 @@ impl Name {
     }
 
     /// Its bytes.
+    ///
+    /// ```
+    /// # use rookdresser::Name;
+    /// assert_eq!(Name::new("a page").unwrap().as_bytes(), b"a page");
+    /// ```
     pub fn as_bytes(&self) -> &[u8] {
         &self.bytes[..self.length as usize]
     }
@@ -129,6 +151,14 @@ pub struct Numbers {
 
 impl Numbers {
     /// The numbers of two caches together; the latest moment is the later one.
+    ///
+    /// ```
+    /// use rookdresser::Numbers;
+    ///
+    /// let one = Numbers { hits: 3, latest: 10, ..Numbers::default() };
+    /// let both = one.and(Numbers { hits: 4, latest: 5, ..Numbers::default() });
+    /// assert_eq!((both.hits, both.latest), (7, 10));
+    /// ```
     pub fn and(self, other: Numbers) -> Numbers {
         Numbers {
             lookups: self.lookups + other.lookups,

@@ -22,6 +22,15 @@ impl Fault {
     pub const ALL: [Fault; 4] = [Fault::OutOfMemory, Fault::TooHeavy, Fault::TooManyFlights, Fault::StepsSpent];
 
     /// Its place in [`Fault::ALL`].
+    ///
+    /// ```
+    /// use rookdresser::{Fault, Loading, Setup};
+    ///
+    /// let cache = Loading::<u64, u64, ()>::open(&Setup { bound: 10, ..Setup::of(100) })?;
+    /// assert_eq!(cache.store(&1, 7.into(), 11), Err(Fault::TooHeavy));
+    /// assert_eq!(cache.stats().refused[Fault::TooHeavy.place()], 1);
+    /// # Ok::<(), Box<dyn std::error::Error>>(())
+    /// ```
     pub fn place(self) -> usize {
         self as usize
     }
@@ -105,6 +114,15 @@ unsafe impl<K> Send for Tokens<K> {}
 impl<K: Key> Tokens<K> {
     /// Opens an empty cache. `BadSetup`, then `OutOfMemory`. Panics on a processor older than x86-64-v2, which lacks
     /// instructions that the library has.
+    ///
+    /// ```
+    /// use rookdresser::{Found, Setup, Token, Tokens};
+    ///
+    /// let mut cache = Tokens::<u64>::open(&Setup::of(100))?;
+    /// cache.put(1, Token { token: 7, weight: 1 }, 0)?;
+    /// assert_eq!(cache.look(1, 0), Ok(Found::Hit(Token { token: 7, weight: 1 })));
+    /// # Ok::<(), Box<dyn std::error::Error>>(())
+    /// ```
     pub fn open(setup: &Setup) -> Result<Self, OpenError> {
         assert!(is_v2(), "rookdresser needs a processor of x86-64-v2 or later");
         setup.check_shard()?;
@@ -145,51 +163,136 @@ impl<K: Key> Tokens<K> {
     }
 
     /// Looks the key up: `Hit`, which is a use, or `Absent`.
+    ///
+    /// ```
+    /// # use rookdresser::{Found, Setup, Token, Tokens};
+    /// # let mut cache = Tokens::<u64>::open(&Setup::of(100))?;
+    /// assert_eq!(cache.look(1, 0)?, Found::Absent);
+    /// # Ok::<(), Box<dyn std::error::Error>>(())
+    /// ```
     pub fn look(&mut self, key: K, now: u64) -> Result<Found, Fault> {
         self.made(|h, a| unsafe { K::look(h, key, now, a) }).map(found)
     }
 
     /// Looks the key up, and joins or opens a load. Whoever leads it calls one of the three landings.
+    ///
+    /// ```
+    /// # use rookdresser::{Found, Landed, Setup, Token, Tokens};
+    /// # let mut cache = Tokens::<u64>::open(&Setup::of(100))?;
+    /// let Found::Lead(id) = cache.seek(1, 0)? else { unreachable!("nothing is there") };
+    /// assert_eq!(cache.seek(1, 0)?, Found::Join(id));
+    /// assert_eq!(cache.land_keep(id, 1, Token { token: 7, weight: 1 }, 0)?, Landed::Kept(2));
+    /// # Ok::<(), Box<dyn std::error::Error>>(())
+    /// ```
     pub fn seek(&mut self, key: K, now: u64) -> Result<Found, Fault> {
         self.made(|h, a| unsafe { K::seek(h, key, now, a) }).map(found)
     }
 
     /// Stores the value under the key.
+    ///
+    /// ```
+    /// # use rookdresser::{Setup, Token, Tokens};
+    /// # let mut cache = Tokens::<u64>::open(&Setup::of(100))?;
+    /// cache.put(1, Token { token: 7, weight: 1 }, 0)?;
+    /// cache.put(1, Token { token: 8, weight: 1 }, 0)?;
+    /// assert_eq!(cache.notices().map(|left| left.token).collect::<Vec<_>>(), [7]); // replaced
+    /// # Ok::<(), Box<dyn std::error::Error>>(())
+    /// ```
     pub fn put(&mut self, key: K, value: Token, now: u64) -> Result<(), Fault> {
         self.made_with_notice(|h, a, n| unsafe { K::put(h, key, value, now, a, n) }).map(drop)
     }
 
     /// Closes the load with a value that is to be stored. If memory is refused, the load stays open.
+    ///
+    /// ```
+    /// # use rookdresser::{Found, Landed, Setup, Token, Tokens};
+    /// # let mut cache = Tokens::<u64>::open(&Setup::of(100))?;
+    /// let Found::Lead(id) = cache.seek(1, 0)? else { unreachable!("nothing is there") };
+    /// assert_eq!(cache.land_keep(id, 1, Token { token: 7, weight: 1 }, 0)?, Landed::Kept(1));
+    /// # Ok::<(), Box<dyn std::error::Error>>(())
+    /// ```
     pub fn land_keep(&mut self, id: u64, key: K, value: Token, now: u64) -> Result<Landed, Fault> {
         self.made_with_notice(|h, a, n| unsafe { K::land_keep(h, id, key, value, now, a, n) }).map(landed)
     }
 
     /// Closes the load with a value that is not to be stored. Takes no memory.
+    ///
+    /// ```
+    /// # use rookdresser::{Found, Landed, Setup, Tokens};
+    /// # let mut cache = Tokens::<u64>::open(&Setup::of(100))?;
+    /// let Found::Lead(id) = cache.seek(1, 0)? else { unreachable!("nothing is there") };
+    /// assert_eq!(cache.land_loose(id, 1, 0)?, Landed::Loose(1));
+    /// # Ok::<(), Box<dyn std::error::Error>>(())
+    /// ```
     pub fn land_loose(&mut self, id: u64, key: K, now: u64) -> Result<Landed, Fault> {
         self.made(|h, a| unsafe { K::land_loose(h, id, key, now, a) }).map(landed)
     }
 
     /// Closes the load with a failure. Takes no memory.
+    ///
+    /// ```
+    /// # use rookdresser::{Found, Landed, Setup, Tokens};
+    /// # let mut cache = Tokens::<u64>::open(&Setup::of(100))?;
+    /// let Found::Lead(id) = cache.seek(1, 0)? else { unreachable!("nothing is there") };
+    /// assert_eq!(cache.land_failed(id, 1, 0)?, Landed::Failed(1));
+    /// # Ok::<(), Box<dyn std::error::Error>>(())
+    /// ```
     pub fn land_failed(&mut self, id: u64, key: K, now: u64) -> Result<Landed, Fault> {
         self.made(|h, a| unsafe { K::land_failed(h, id, key, now, a) }).map(landed)
     }
 
     /// Takes the key's entry out, and tells whether an unexpired one was there. Its current load will store nothing.
+    ///
+    /// ```
+    /// # use rookdresser::{Setup, Token, Tokens};
+    /// # let mut cache = Tokens::<u64>::open(&Setup::of(100))?;
+    /// cache.put(1, Token { token: 7, weight: 1 }, 0)?;
+    /// assert_eq!((cache.drop_key(1, 0)?, cache.drop_key(1, 0)?), (true, false));
+    /// # Ok::<(), Box<dyn std::error::Error>>(())
+    /// ```
     pub fn drop_key(&mut self, key: K, now: u64) -> Result<bool, Fault> {
         self.made_with_notice(|h, a, n| unsafe { K::drop_key(h, key, now, a, n) }).map(|a| a.number != 0)
     }
 
     /// Lets nobody further join the key's current load, which will store nothing. Tells whether there was one.
+    ///
+    /// ```
+    /// # use rookdresser::{Found, Landed, Setup, Tokens};
+    /// # let mut cache = Tokens::<u64>::open(&Setup::of(100))?;
+    /// let Found::Lead(id) = cache.seek(1, 0)? else { unreachable!("nothing is there") };
+    /// assert_eq!(cache.forget(1, 0), Ok(true));
+    /// assert_eq!(cache.land_loose(id, 1, 0)?, Landed::Loose(1));
+    /// # Ok::<(), Box<dyn std::error::Error>>(())
+    /// ```
     pub fn forget(&mut self, key: K, now: u64) -> Result<bool, Fault> {
         self.made(|h, a| unsafe { K::forget(h, key, now, a) }).map(|a| a.number != 0)
     }
 
     /// Takes every entry out. The open loads will store nothing.
+    ///
+    /// ```
+    /// # use rookdresser::{Setup, Token, Tokens};
+    /// # let mut cache = Tokens::<u64>::open(&Setup::of(100))?;
+    /// cache.put(1, Token { token: 7, weight: 1 }, 0)?;
+    /// cache.clear(0)?;
+    /// assert_eq!(cache.notices().count(), 1);
+    /// # Ok::<(), Box<dyn std::error::Error>>(())
+    /// ```
     pub fn clear(&mut self, now: u64) -> Result<(), Fault> {
         self.made(|h, a| unsafe { sys::rd_clear(h, now, a) }).map(drop)
     }
 
     /// Takes every expired entry out.
+    ///
+    /// ```
+    /// # use rookdresser::{Setup, Token, Tokens};
+    /// // Entries expire after 10 milliseconds here.
+    /// let mut cache = Tokens::<u64>::open(&Setup { after_write: 10, ..Setup::of(100) })?;
+    /// cache.put(1, Token { token: 7, weight: 1 }, 1000)?;
+    /// cache.clean(1010)?;
+    /// assert_eq!(cache.notices().count(), 1);
+    /// # Ok::<(), Box<dyn std::error::Error>>(())
+    /// ```
     pub fn clean(&mut self, now: u64) -> Result<(), Fault> {
         self.made(|h, a| unsafe { sys::rd_clean(h, now, a) }).map(drop)
     }
@@ -200,6 +303,16 @@ impl<K: Key> Tokens<K> {
     }
 
     /// What the latest call told to have left.
+    ///
+    /// ```
+    /// # use rookdresser::{Notice, Setup, Token, Tokens};
+    /// # let mut cache = Tokens::<u64>::open(&Setup::of(100))?;
+    /// cache.put(1, Token { token: 7, weight: 1 }, 0)?;
+    /// cache.drop_key(1, 0)?;
+    /// let left: Vec<_> = cache.notices().collect();
+    /// assert_eq!(left, [Notice { key: 1, token: 7, weight: 1, cause: 1 }]);
+    /// # Ok::<(), Box<dyn std::error::Error>>(())
+    /// ```
     pub fn notices(&mut self) -> impl Iterator<Item = Notice<K>> + '_ {
         (0..self.told).map(|i| {
             if i == 0 && self.has_first {
@@ -212,6 +325,14 @@ impl<K: Key> Tokens<K> {
     }
 
     /// The numbers of the cache.
+    ///
+    /// ```
+    /// # use rookdresser::{Setup, Tokens};
+    /// # let mut cache = Tokens::<u64>::open(&Setup::of(100))?;
+    /// cache.look(1, 0)?;
+    /// assert_eq!((cache.numbers().lookups, cache.numbers().misses), (1, 1));
+    /// # Ok::<(), Box<dyn std::error::Error>>(())
+    /// ```
     pub fn numbers(&mut self) -> Numbers {
         let mut numbers = Numbers::default();
         unsafe { sys::rd_get_numbers(&mut self.handle, &mut numbers) };

@@ -73,9 +73,7 @@ fn an_error_has_the_setting_its_value_and_its_range() {
 fn a_cache_of_one_shard_and_each_of_some_shards_has_65_536_entries_at_most() {
     let said = "entries is 65537, and has to be from 1 to 65536";
     let bad = Setup::of(65_537);
-    for error in
-        [sharded(2, &bad), Cache::<u64, u64>::open(&bad).map(drop), Tokens::<u64>::open(&bad).map(drop)]
-    {
+    for error in [sharded(2, &bad), Cache::<u64, u64>::open(&bad).map(drop), Tokens::<u64>::open(&bad).map(drop)] {
         assert_eq!(text(error), said);
     }
 }

@@ -1,0 +1,31 @@
+//! Each public call has an example, which `cargo test` runs.
+use std::fs::{read_dir, read_to_string};
+
+// The calls of a file that have no example: their names, where they are public outside `sys.rs`'s declarations.
+fn without_example(source: &str) -> Vec<String> {
+    let (mut has_example, mut found) = (false, Vec::new());
+    for line in source.lines().map(|line| line.strip_prefix("    ").unwrap_or(line)) {
+        if line.starts_with("///") {
+            has_example |= line == "/// ```";
+        } else if let Some(call) = line.strip_prefix("pub fn ").or(line.strip_prefix("pub const fn ")) {
+            let name = call.split(['(', '<']).next().expect("a call has a name");
+            if !has_example && !name.starts_with("rd_") {
+                found.push(name.to_string());
+            }
+            has_example = false;
+        } else if !line.starts_with("#[") {
+            has_example = false;
+        }
+    }
+    found
+}
+
+#[test]
+fn each_public_call_has_an_example() {
+    let source = "    /// Opens.\n    ///\n    /// ```\n    /// x\n    /// ```\n    #[inline]\n    pub fn open() {\n    pub fn close<T>() {";
+    assert_eq!(without_example(source), ["close"]);
+    let files = read_dir(concat!(env!("CARGO_MANIFEST_DIR"), "/src")).unwrap().map(|file| file.unwrap().path());
+    let sources: Vec<_> = files.map(|file| read_to_string(file).unwrap()).collect();
+    assert!(sources.iter().map(|source| source.matches("    pub fn ").count()).sum::<usize>() >= 50);
+    assert_eq!(sources.iter().flat_map(|source| without_example(source)).collect::<Vec<_>>(), [""; 0]);
+}
