@@ -156,7 +156,18 @@ fn made(cache: &str) -> Box<dyn Work + Sync> {
         }
         #[cfg(feature = "lru")]
         "lru" => Box::new(Mutex::new(lru::LruCache::<u64, u64>::new(4096))),
-        _ => panic!("there is no cache {cache}"),
+        // SHARDSxENTRIES, of which each shard has so many; or ENTRIES, divided by the cores.
+        _ => {
+            let size = cache.strip_prefix("loading-").expect("a cache");
+            let opened = match size.split_once('x') {
+                Some((shards, entries)) => {
+                    let setup = Setup::of(entries.parse().expect("a number"));
+                    Loading::<u64, u64, ()>::sharded(shards.parse().expect("a number"), &setup)
+                }
+                None => Loading::open(&Setup::of(size.parse().expect("a number"))),
+            };
+            Box::new(opened.expect("the setup is within its ranges"))
+        }
     }
 }
 

@@ -1,21 +1,23 @@
 //! How `Loading::open` divides a setup among shards.
 use crate::Setup;
 
-// A shard of fewer entries evicts too early if the keys' hashes give it more than its part: 1,024 keys vary by 32 or so.
-const LEAST_ENTRIES: u32 = 1024;
+// So many that a thread seldom finds its shard's lock taken.
+const SHARDS_FOR_A_CORE: usize = 8;
+// A shard evicts early if the keys' hashes give it more than its part, and 128 keys vary by 11 or so.
+const LEAST_ENTRIES: u32 = 128;
 /// How many entries a shard may hold.
 pub(crate) const MOST_ENTRIES: u32 = 1 << 16;
 /// How many shards there may be.
 pub(crate) const MOST_SHARDS: u32 = 1 << 12;
 
-/// The setup of each shard, for a machine of so many cores: twice as many shards as cores, but no shard of fewer than 1,024 entries
-/// and none of more than 65,536. One alone if the weight has a bound. The whole setup is within its ranges.
+/// The setup of each shard, for a machine of so many cores: eight shards for each, but no shard of fewer than 128 entries and none of
+/// more than 65,536. One alone if the weight has a bound. The whole setup is within its ranges.
 pub(crate) fn parts(setup: &Setup, cores: usize) -> Vec<Setup> {
     if setup.has_bound() {
         return vec![*setup];
     }
     let Setup { entries, window, .. } = *setup;
-    let wanted = u32::try_from(cores.saturating_mul(2)).unwrap_or(u32::MAX).min(MOST_SHARDS);
+    let wanted = u32::try_from(cores.saturating_mul(SHARDS_FOR_A_CORE)).unwrap_or(u32::MAX).min(MOST_SHARDS);
     let shards = wanted.min(entries / LEAST_ENTRIES).max(entries.div_ceil(MOST_ENTRIES)).max(1);
     let part = |of: u32, shard: u32| of / shards + u32::from(shard < of % shards);
     let part = |shard| Setup { entries: part(entries, shard), window: part(window, shard).max(1), ..*setup };
@@ -36,16 +38,16 @@ mod tests {
 
     #[test]
     fn a_setup_is_divided_by_cores_and_entries() {
-        assert_eq!(of(Setup::of(1000), 4), (1, vec![(1000, 10)]));
-        assert_eq!(of(Setup::of(2047), 4), (1, vec![(2047, 20)]));
-        assert_eq!(of(Setup::of(2049), 4), (2, vec![(1025, 10), (1024, 10)]));
-        assert_eq!(of(Setup::of(16_384), 4), (8, vec![(2048, 21), (2048, 20)]));
-        assert_eq!(of(Setup::of(16_384), 1), (2, vec![(8192, 82), (8192, 81)]));
+        assert_eq!(of(Setup::of(255), 4), (1, vec![(255, 2)]));
+        assert_eq!(of(Setup::of(257), 4), (2, vec![(129, 1), (128, 1)]));
+        assert_eq!(of(Setup::of(1000), 4), (7, vec![(143, 2), (143, 1), (142, 1)]));
+        assert_eq!(of(Setup::of(16_384), 4), (32, vec![(512, 6), (512, 5)]));
+        assert_eq!(of(Setup::of(16_384), 1), (8, vec![(2048, 21), (2048, 20)]));
         // More than one cache of the library's may hold.
         assert_eq!(of(Setup::of(1 << 20), 1), (16, vec![(65_536, 656), (65_536, 655)]));
         assert_eq!(of(Setup::of((1 << 20) + 1), 1).0, 17);
         // Each shard has a window.
-        assert_eq!(of(Setup { window: 3, ..Setup::of(8192) }, 4), (8, vec![(1024, 1)]));
+        assert_eq!(of(Setup { window: 3, ..Setup::of(8192) }, 4), (32, vec![(256, 1)]));
     }
 
     #[test]

@@ -164,7 +164,7 @@ fn a_landing_of_a_load_that_isn_t_open_changes_nothing() {
 
 #[test]
 fn an_open_cache_is_divided_and_may_hold_more_than_one_of_the_library_s_caches() {
-    assert_eq!(Loading::<u64, u64, ()>::open(&Setup::of(1000)).unwrap().shards(), 1);
+    assert_eq!(Loading::<u64, u64, ()>::open(&Setup::of(255)).unwrap().shards(), 1);
     let cache = Loading::<u64, u64, (), _>::with_hasher(&Setup::of(100_000), Counting::new(false)).unwrap();
     assert!(cache.shards() >= 2);
     for key in 0..200_000 {
