@@ -3,13 +3,16 @@
 import datetime
 import enum
 import itertools
+import random
+import threading
+import time
 import unittest
 import uuid
 from decimal import Decimal
 from fractions import Fraction
 
 from rookdresser import Cache
-from threads import CacheTest, within_a_minute
+from threads import CacheTest, together, within_a_minute
 
 
 class Whole(int):
@@ -80,9 +83,89 @@ class Keys(CacheTest):
                     return super().__eq__(other)
 
             cache.put(Alike("a"), 1)
-            within_a_minute(lambda: cache.put(Restless("b"), 2))
-            self.assertEqual(cache.look(Alike("a")), 1)
+            with self.assertRaises(RuntimeError):
+                within_a_minute(lambda: cache.put(Restless("b"), 2))
+            # Each of its 1,000 scans compares with the one key that was put since.
+            self.assertEqual((cache.numbers()["entries"], cache.look(Alike("b"))), (min(entries, 1001), None))
             self.holds_exactly(cache)
+
+    def while_another_thread_compares(self, cache, call, meanwhile):
+        """Makes call(key) in a thread, and meanwhile(key) in this one while the first compares its key with another of its hash."""
+        begun, may_end = threading.Event(), threading.Event()
+
+        class Slow(Alike):
+            __hash__ = Alike.__hash__
+
+            def __eq__(self, other):
+                if threading.current_thread() is thread and not begun.is_set():
+                    begun.set()
+                    may_end.wait(60)
+                return super().__eq__(other)
+
+        def work():
+            begun.wait()
+            try:
+                meanwhile(Slow("b"))
+            finally:
+                may_end.set()
+
+        thread = threading.Thread(target=lambda: call(Slow("b")))
+        cache.put(Slow("a"), "of another key")
+        thread.start()
+        within_a_minute(work)
+        within_a_minute(thread.join)
+        return Slow("b")
+
+    def test_a_key_that_another_thread_puts_during_a_comparison_has_one_entry(self):
+        for others in ("", "c"):
+            cache = Cache(entries=10)
+            cache.put_many((Alike(name), 0) for name in others)
+            key = self.while_another_thread_compares(cache, lambda key: cache.put(key, 1), lambda key: cache.put(key, 2))
+            self.assertEqual([key.name for key in cache].count("b"), 1)
+            self.assertEqual((cache.look(key), cache.drop(key), cache.look(key), cache.drop(key)), (1, True, None, False))
+            self.holds_exactly(cache)
+
+    def test_a_key_that_another_thread_loads_during_a_comparison_is_loaded_once(self):
+        cache, loads = Cache(entries=10), []
+        key = self.while_another_thread_compares(cache, lambda key: self.assertEqual(cache.get(key, loads.append), None),
+                                                 lambda key: cache.get(key, loads.append))
+        self.assertEqual((len(loads), cache.look(key, 7), cache.stats().loads), (1, None, 1))
+        self.holds_exactly(cache, 2)
+
+    def test_a_key_that_is_put_anew_under_another_number_during_a_comparison_has_one_entry(self):
+        cache = Cache(entries=10)
+        cache.put(Alike("b"), 0)
+
+        def meanwhile(key):
+            # "a" left the number that "b" gets now.
+            cache.clear()
+            cache.put(key, 2)
+
+        key = self.while_another_thread_compares(cache, lambda key: cache.put(key, 1), meanwhile)
+        self.assertEqual((len(cache), cache.look(key), cache.drop(key), cache.look(key)), (1, 1, True, None))
+        self.holds_exactly(cache, 0)
+
+    def test_threads_that_switch_in_every_comparison_give_no_key_two_entries(self):
+        class Yields(Alike):
+            __hash__ = Alike.__hash__
+
+            def __eq__(self, other):
+                time.sleep(0)
+                return super().__eq__(other)
+
+        cache, doubled = Cache(entries=100), []
+
+        def work(thread):
+            rng = random.Random(thread)
+            for _ in range(300):
+                key = Yields(rng.randrange(4))
+                rng.choice((cache.drop, lambda key: cache.put(key, thread), lambda key: cache.get(key, lambda key: thread)))(key)
+                names = [key.name for key in cache]
+                doubled.extend(names if len(names) > len(set(names)) else ())
+
+        within_a_minute(lambda: together(4, work))
+        self.assertEqual(doubled, [])
+        self.holds_exactly(cache)
 
     def test_a_key_whose_comparison_always_takes_out_the_other_is_told(self):
         cache = Cache(entries=10)

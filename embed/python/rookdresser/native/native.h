@@ -30,6 +30,7 @@ typedef struct Use {
     Load *load;      /* null if it is an entry's */
     uint64_t hash;   /* made of the key */
     uint64_t number; /* the library's key: hash, or one a little above it that no other key in use has */
+    uint64_t serial; /* uses are counted as they are linked */
     uint32_t cause;  /* an rd_cause, once it has left */
 } Use;
 
@@ -82,6 +83,7 @@ typedef struct {
     Use **buckets, *one_bucket;
     uint64_t mask;             /* how many buckets there are, less one */
     uint64_t displaced, reach; /* how many uses have another number than their hash, and how far that is at most */
+    uint64_t serial;           /* of the use that was linked last */
     Py_ssize_t entries, loads; /* how many uses of each kind there are */
     Load *spare;               /* for the next load, so that no memory is asked for after its seek */
     uint64_t seed[2], mark;

@@ -18,7 +18,7 @@ static int is_in_use(Table *self, uint64_t number) {
 
 void link_use(Table *self, Use *use, uint64_t hash, uint64_t number) {
     Use **bucket = bucket_of(self, number);
-    use->hash = hash, use->number = number, use->next = *bucket, *bucket = use;
+    use->hash = hash, use->number = number, use->serial = ++self->serial, use->next = *bucket, *bucket = use;
     if (number != hash) {
         self->displaced++;
         if (number - hash > self->reach) self->reach = number - hash;
@@ -52,10 +52,11 @@ static Use *found_again(Table *self, PyObject *key, uint64_t hash, uint64_t numb
     return use;
 }
 
-/* Whether the key is in use under this number: 1 or 0, -1 if a comparison raised, -2 if it took out the key that it compared with. */
-static int is_under(Table *self, PyObject *key, uint64_t hash, uint64_t number) {
+/* Whether the key is in use under this number, by a use that was linked after `compared`: 1 or 0, -1 if a comparison raised, -2 if the key
+ * that it compared with was taken out meanwhile. */
+static int is_under(Table *self, PyObject *key, uint64_t hash, uint64_t number, uint64_t compared) {
     for (Use *use = *bucket_of(self, number); use; use = use->next) {
-        if (use->number != number || use->hash != hash) continue;
+        if (use->number != number || use->hash != hash || use->serial <= compared) continue;
         if (use->key == key) return 1;
         PyObject *other = use->key;
         Py_INCREF(other);
@@ -72,20 +73,24 @@ static int is_under(Table *self, PyObject *key, uint64_t hash, uint64_t number) 
 /* Finds the number that the key has, or the one that it is to have: its hash, or the next that is free, so that a key that comes again
  * is counted with its earlier uses. 0, or -1 if a comparison raised or goes on changing the table.
  *
- * A comparison may change all that is here. It is over before this returns, and the table is read anew after it. A key that comes in
- * meanwhile beyond the reach at the begin isn't compared with, so that one whose comparison always puts a further key comes to an end. */
+ * A comparison may change all that is here, and while it runs another thread may put this very key. So what was linked since a scan
+ * began is compared in a further one, and the number is taken right after a scan during which nothing was linked. */
 int find(Table *self, PyObject *key, uint64_t hash, uint64_t *number) {
+    uint64_t compared = 0;
     for (int tries = 0; tries < 1000; tries++) {
-        uint64_t reach = self->reach;
+        uint64_t linked = self->serial, reach = self->reach;
         int found = 0;
-        for (*number = hash; found == 0 && *number - hash <= reach; ++*number) found = is_under(self, key, hash, *number);
+        for (*number = hash; found == 0 && *number - hash <= reach; ++*number) found = is_under(self, key, hash, *number, compared);
         if (found == -1) return -1;
         if (found == 1) return --*number, 0;
         if (found == -2) continue;
-        for (*number = hash; is_in_use(self, *number);) ++*number;
-        return 0;
+        if (self->serial == linked) {
+            for (*number = hash; is_in_use(self, *number);) ++*number;
+            return 0;
+        }
+        compared = linked;
     }
-    PyErr_SetString(PyExc_RuntimeError, "the comparison of a key takes out the keys that it is compared with, again and again");
+    PyErr_SetString(PyExc_RuntimeError, "the comparison of a key puts or takes out keys of its hash, again and again");
     return -1;
 }
 
