@@ -5,8 +5,8 @@ import gc
 import threading
 import unittest
 
-from rookdresser import Cache, WaitsForItself, _waits
-from threads import CacheTest, together, within_a_minute
+from rookdresser import Cache, WaitsForItself, _waits, cached
+from threads import CacheTest, never, together, within_a_minute
 
 
 async def directly(asked):
@@ -124,6 +124,99 @@ class Circles(CacheTest):
 
         within_a_minute(lambda: together(2, work))
         self.assertEqual((len(told), one.look("a"), other.look("b")), (1, 1, 2))
+
+    def test_a_loader_that_runs_a_loop_that_asks_for_its_key_is_told(self):
+        def by_run(asked):
+            return asyncio.run(by_gather(asked))
+
+        def by_run_until_complete(asked):
+            loop = asyncio.new_event_loop()
+            try:
+                return loop.run_until_complete(asked)
+            finally:
+                loop.close()
+
+        for run in (by_run, by_run_until_complete):
+            cache = Cache(entries=10)
+            function = cached(entries=10)(lambda key: run(function.cache.aget((key,), never)))
+            for call in (lambda: cache.get("a", lambda key: run(cache.aget(key, never))),
+                         lambda: cache.get_many("ab", lambda keys: {key: run(cache.aget(key, never)) for key in keys}),
+                         lambda: function("a")):
+                with self.subTest(run.__name__), self.assertRaises(WaitsForItself):
+                    within_a_minute(call)
+            self.holds_exactly(cache, 0)
+            self.holds_exactly(function.cache, 0)
+
+    def test_loaders_of_two_threads_in_a_circle_are_told_if_one_or_both_run_loops(self):
+        def in_loop(cache, key):
+            return asyncio.run(by_gather(cache.aget(key, never)))
+
+        def plainly(cache, key):
+            return cache.get(key, never)
+
+        for ways in ((in_loop, in_loop), (in_loop, plainly), (plainly, in_loop)):
+            cache, gate, told = Cache(entries=10), threading.Barrier(2), []
+
+            def load(key):
+                gate.wait()
+                try:
+                    ways[key](cache, 1 - key)
+                except WaitsForItself:
+                    told.append(key)
+                return key
+
+            with self.subTest([way.__name__ for way in ways]):
+                within_a_minute(lambda: together(2, lambda key: cache.get(key, load)))
+                self.assertEqual((len(told), cache.look(0), cache.look(1)), (1, 0, 1))
+                self.holds_exactly(cache, 2)
+
+    def test_a_task_that_a_loader_s_loop_does_not_wait_for_waits_for_its_load(self):
+        cache, loop = Cache(entries=10), asyncio.new_event_loop()
+
+        def load(key):
+            load.task = loop.create_task(cache.aget(key, never))
+            loop.run_until_complete(asyncio.sleep(0))
+            self.assertEqual(cache.stats().joins, 1)
+            return 7
+
+        self.assertEqual(within_a_minute(lambda: (cache.get("a", load), loop.run_until_complete(load.task))), (7, 7))
+        loop.close()
+        self.holds_exactly(cache, 1)
+
+    def test_a_load_that_a_loop_s_thread_makes_meanwhile_is_no_circle(self):
+        cache, begun, checked = Cache(entries=10), threading.Event(), threading.Event()
+        check = _waits.Waits.check
+
+        def tell(self, load, who, serial):
+            try:
+                return check(self, load, who, serial)
+            finally:
+                if who == (thread.ident, None):
+                    checked.set()
+
+        def load(key):
+            begun.set()
+            while cache.stats().joins < 1 or len(cache._uses()) < 2:
+                pass
+            return cache.get("b", never)
+
+        async def load_in_loop():
+            # It blocks the loop, which runs until a task has "a", whose load waits for this one.
+            return cache.get("b", lambda key: checked.wait() and 7)
+
+        async def work():
+            begun.wait()
+            return await asyncio.gather(cache.aget("a", never), load_in_loop())
+
+        thread = threading.Thread(target=lambda: cache.get("a", load))
+        _waits.Waits.check = tell
+        try:
+            thread.start()
+            self.assertEqual(self.run_in_loop(work), [7, 7])
+        finally:
+            _waits.Waits.check = check
+        thread.join()
+        self.holds_exactly(cache, 2)
 
     def test_of_two_waits_that_begin_at_the_same_time_one_is_told(self):
         cache, gate, both, told, gated = Cache(entries=10), threading.Barrier(2), threading.Barrier(2), [], set()

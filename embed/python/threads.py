@@ -13,6 +13,11 @@ class CacheTest(unittest.TestCase):
             self.assertEqual(numbers["entries"], entries)
 
 
+def never(key):
+    """The loader of a call that joins another's load, or finds a value."""
+    raise AssertionError("%r is loaded" % (key,))
+
+
 def wait_for_joins(cache, joins):
     """Waits until so many callers have joined a load."""
     while cache.stats().joins < joins:

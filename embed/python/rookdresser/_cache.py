@@ -131,11 +131,12 @@ class Cache(Table[K, V]):
         mine: Dict[K, Load[V]] = {}
         others: Dict[K, Load[V]] = {}
         begun: List[Load[V]] = []
+        loop = waits.running_loop()
         try:
             for key in dict.fromkeys(keys):
                 load: Load[V] = Load()
                 begun.append(load)
-                value, of = self._seek(key, load, None, None)
+                value, of = self._seek(key, load, None, loop)
                 if of is None:
                     found[key] = value  # type: ignore[assignment]
                 else:

@@ -5,7 +5,7 @@ from weakref import ReferenceType
 K = TypeVar("K", bound=Hashable)
 V = TypeVar("V")
 D = TypeVar("D")
-Who = Union[asyncio.Future[Any], Tuple[int, Optional[asyncio.AbstractEventLoop]]]
+Who = Union[asyncio.Future[Any], Tuple[int, Optional[asyncio.AbstractEventLoop]], Tuple[int]]
 
 class Load(Generic[V]):
     @property

@@ -3,13 +3,14 @@ from __future__ import annotations
 
 import asyncio
 import functools
+import threading
 from typing import Any, Iterator, List, Optional, Set, Tuple, Union
 
 from . import _native
 
 Loop = asyncio.AbstractEventLoop
-# A task, or of a thread its identifier with the loop that runs in it.
-Who = Union["asyncio.Future[Any]", Tuple[int, Optional[Loop]]]
+# A task; or of a thread its identifier with the loop that runs in it, or alone: then what the thread began before it ran its loop.
+Who = Union["asyncio.Future[Any]", Tuple[int, Optional[Loop]], Tuple[int]]
 
 
 class WaitsForItself(RuntimeError):
@@ -34,17 +35,18 @@ class Waits(_native.Waits):
         """
         if _has_no_maker(load):
             return True
-        seen: Set[int] = set()
+        seen: Set[object] = set()
         left: List[Who] = [who]
         while left:
             at = left.pop()
             if self.leads(load, at):
                 raise WaitsForItself("the load of the key waits for this very caller")
-            if isinstance(at, tuple):
-                left.extend(self._waiters(at, serial))
-            elif id(at) not in seen:
-                seen.add(id(at))
-                left.extend(self._waiters(at, serial))
+            mark = tuple(map(id, at[1:])) + at[:1] if isinstance(at, tuple) else id(at)
+            if mark in seen:
+                continue
+            seen.add(mark)
+            left.extend(self._waiters(at, serial))
+            if not isinstance(at, tuple):
                 left.extend(_awaited_by(at))
         return False
 
@@ -118,24 +120,26 @@ def _has_no_maker(load: _native.Load[Any]) -> bool:
     return task is None or task.done() or task.get_loop().is_closed()
 
 
-def _awaited_by(future: asyncio.Future[Any]) -> List[asyncio.Future[Any]]:
-    """The tasks and futures that asyncio goes on with only once this one is done, as far as it tells."""
+def _awaited_by(future: asyncio.Future[Any]) -> List[Who]:
+    """The tasks and futures that asyncio goes on with only once this one is done, as far as it tells, and a thread that runs a loop for it."""
     known = getattr(future, "_asyncio_awaited_by", None)  # from Python 3.14 on
-    found = list(known) if known else []
+    found: List[Who] = list(known) if known else []
     for callback, *_ in getattr(future, "_callbacks", None) or ():
         found.extend(_set_by(callback, future))
     return found
 
 
-def _set_by(callback: Any, future: asyncio.Future[Any]) -> Iterator[asyncio.Future[Any]]:
+def _set_by(callback: Any, future: asyncio.Future[Any]) -> Iterator[Who]:
     """What a callback of asyncio's own wakes or sets as the future is done: of a task that awaits it, and of gather, shield, wait,
-    wait_for and TaskGroup."""
+    wait_for, TaskGroup and run_until_complete."""
     owner: Any = getattr(callback, "__self__", None)
     if getattr(owner, "_fut_waiter", None) is future:
         yield owner
     elif isinstance(callback, functools.partial):
         # wait_for, below Python 3.12.
         yield from (given for given in callback.args if asyncio.isfuture(given))
+    elif "run_until_complete" in str(getattr(callback, "__qualname__", "")):
+        yield from _run_by(future.get_loop())
     elif _is_asyncio_s(type(owner)) and asyncio.isfuture(getattr(owner, "_parent_task", None)):
         yield owner._parent_task
     elif _is_asyncio_s(callback) and hasattr(callback, "__code__"):
@@ -143,6 +147,13 @@ def _set_by(callback: Any, future: asyncio.Future[Any]) -> Iterator[asyncio.Futu
         cells = {name: cell.cell_contents for name, cell in zip(callback.__code__.co_freevars, callback.__closure__ or ())}
         if cells.get("return_when", asyncio.ALL_COMPLETED) == asyncio.ALL_COMPLETED:
             yield from (cells[name] for name in ("outer", "waiter") if asyncio.isfuture(cells.get(name)))
+
+
+def _run_by(loop: Loop) -> Iterator[Who]:
+    """The thread that runs the loop. Of a loop that isn't asyncio's own only this thread knows."""
+    thread = getattr(loop, "_thread_id", None) or asyncio._get_running_loop() is loop and threading.get_ident()
+    if thread:
+        yield (thread,)
 
 
 def _is_asyncio_s(what: Any) -> bool:

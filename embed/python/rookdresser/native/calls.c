@@ -190,6 +190,7 @@ static PyObject *table_seek(Table *self, PyObject *args) {
         mine->loop = loop;
         if (!mine->task) return NULL;
     }
+    mine->is_below_loop = task == Py_None && loop == Py_None;
     int kind = seek(self, key, mine, &found);
     if (kind < 0) return NULL;
     pair = kind == RD_HIT ? PyTuple_Pack(2, found, Py_None) : PyTuple_Pack(2, Py_None, found);
@@ -270,7 +271,8 @@ PyMethodDef call_methods[] = {
      "close($self)\n--\n\n"
      "Closes the cache, and reports every entry to on_leave as \"explicit\". Closing it again does nothing."},
     {"_seek", METHOD(table_seek), METH_VARARGS,
-     "Looks the key up, and joins a load or opens the given one: (value, None), or (None, the load)."},
+     "Looks the key up, and joins a load or opens the given one, of this task or else of this thread, with the loop that runs in it:\n"
+     "(value, None), or (None, the load)."},
     {"_land", METHOD(table_land), METH_VARARGS, "Ends an open load with a value, and returns that."},
     {"_fail", METHOD(table_fail), METH_FASTCALL,
      "Ends a load, if it is open, with an exception. Returns whether the caller gets the old value."},

@@ -167,9 +167,16 @@ PyObject *failed(Table *self, Load *load) {
     return is_old > 0 ? load->old : NULL;
 }
 
+static PyObject *loaded(PyObject *key, const Loader *loader) {
+    return loader->args ? PyObject_Call(loader->function, loader->args, loader->names)
+                        : PyObject_CallFunctionObjArgs(loader->function, key, NULL);
+}
+
 static PyObject *made(Table *self, PyObject *key, Load *load, const Loader *loader) {
-    PyObject *value = loader->args ? PyObject_Call(loader->function, loader->args, loader->names)
-                                   : PyObject_CallFunctionObjArgs(loader->function, key, NULL);
+    PyObject *loop = PyObject_CallMethod((PyObject *)self->waits, "running_loop", NULL);
+    load->is_below_loop = loop == Py_None;
+    PyObject *value = loop ? loaded(key, loader) : NULL;
+    Py_XDECREF(loop);
     if (value && land(self, load, value) < 0) Py_CLEAR(value);
     return value ? value : failed(self, load);
 }

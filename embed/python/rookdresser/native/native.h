@@ -50,6 +50,7 @@ struct Load {
     Wait *waits;         /* all who wait for it */
     Load *next, *before; /* of the loads that somebody waits for */
     char is_open, is_over, is_refresh;
+    char is_below_loop;  /* a thread makes it, in which no loop ran as it began: so one that runs there now was begun by its loader */
 };
 
 /* A thread or task that waits for a load. */

@@ -160,31 +160,39 @@ int wait_for(Table *self, Load *load, PyObject *timeout) {
     return waited;
 }
 
-/* The graph. `who` is a task, or of a thread the pair of its identifier and the loop that runs in it, or None. */
+/* The graph. */
 
-static int is_led(Load *load, unsigned long thread, void *loop, PyObject *task) {
-    if (!load->task) return !task && load->thread == thread;
+/* Who may keep a load from ending: a task; a thread, with the loop that runs in it; or what a thread began before it ran its loop. In Python
+ * they are the task, (thread, loop or None), and (thread,). */
+typedef struct {
+    PyObject *task, *loop;
+    unsigned long thread;
+    int is_below_loop;
+} Who;
+
+static int is_led(Load *load, const Who *who) {
+    if (!load->task) return !who->task && load->thread == who->thread && (load->is_below_loop || !who->is_below_loop);
     PyObject *leader = PyWeakref_GetObject(load->task); /* borrowed */
-    return leader != Py_None && (task ? leader == task : loop && load->loop == loop);
+    return leader != Py_None && (who->task ? leader == who->task : who->loop && load->loop == who->loop);
 }
 
-/* Takes `who` apart. */
-static int taken_apart(PyObject *who, unsigned long *thread, PyObject **loop, PyObject **task) {
-    *thread = 0, *loop = NULL, *task = who;
-    if (!PyTuple_Check(who)) return 0;
-    *task = NULL;
-    if (!PyArg_ParseTuple(who, "kO", thread, loop)) return -1;
-    if (*loop == Py_None) *loop = NULL;
+/* Takes apart what `who` is in Python. */
+static int taken_apart(PyObject *given, Who *who) {
+    *who = (Who){given, NULL, 0, 0};
+    if (!PyTuple_Check(given)) return 0;
+    *who = (Who){NULL, NULL, 0, PyTuple_Size(given) == 1};
+    if (!PyArg_ParseTuple(given, "k|O", &who->thread, &who->loop)) return -1;
+    if (who->loop == Py_None) who->loop = NULL;
     return 0;
 }
 
 static PyObject *waits_leads(PyObject *self, PyObject *args) {
     (void)self;
-    PyObject *load, *who, *task, *loop;
-    unsigned long thread;
-    if (!PyArg_ParseTuple(args, "OO", &load, &who) || taken_apart(who, &thread, &loop, &task) < 0) return NULL;
+    PyObject *load, *given;
+    Who who;
+    if (!PyArg_ParseTuple(args, "OO", &load, &given) || taken_apart(given, &who) < 0) return NULL;
     if (!is_of(load, Py_tp_new, (void *)load_new)) return PyErr_Format(PyExc_TypeError, "it takes a load");
-    return PyBool_FromLong(is_led((Load *)load, thread, loop, task));
+    return PyBool_FromLong(is_led((Load *)load, &who));
 }
 
 typedef struct {
@@ -193,11 +201,11 @@ typedef struct {
 } Waiting;
 
 /* Copies the waits for loads that are led so and that began before `serial`, as many as there is room for; returns how many there are. */
-static Py_ssize_t copied(Waits *self, PyObject *who[2], unsigned long thread, uint64_t serial, Waiting *all, Py_ssize_t room) {
+static Py_ssize_t copied(Waits *self, const Who *who, uint64_t serial, Waiting *all, Py_ssize_t room) {
     Py_ssize_t count = 0;
     STEP
     for (Load *load = self->first; load; load = load->next) {
-        if (!is_led(load, thread, who[0], who[1])) continue;
+        if (!is_led(load, who)) continue;
         for (Wait *wait = load->waits; wait; wait = wait->next) {
             if (wait->serial >= serial) continue;
             if (count < room) {
@@ -213,14 +221,14 @@ static Py_ssize_t copied(Waits *self, PyObject *who[2], unsigned long thread, ui
 }
 
 static PyObject *waits_behind(Waits *self, PyObject *args) {
-    PyObject *who, *of[2];
-    unsigned long thread;
+    PyObject *given;
+    Who who;
     unsigned long long serial;
-    if (!PyArg_ParseTuple(args, "OK", &who, &serial) || taken_apart(who, &thread, &of[0], &of[1]) < 0) return NULL;
-    Py_ssize_t room = copied(self, of, thread, serial, NULL, 0);
+    if (!PyArg_ParseTuple(args, "OK", &given, &serial) || taken_apart(given, &who) < 0) return NULL;
+    Py_ssize_t room = copied(self, &who, serial, NULL, 0);
     Waiting *all = zeroed((size_t)(room + 1) * sizeof *all);
     if (!all) return PyErr_NoMemory();
-    Py_ssize_t count = copied(self, of, thread, serial, all, room);
+    Py_ssize_t count = copied(self, &who, serial, all, room);
     if (count > room) count = room;
     PyObject *list = PyList_New(count);
     for (Py_ssize_t i = 0; i < count; i++) {
