@@ -12,7 +12,7 @@ from decimal import Decimal
 from fractions import Fraction
 
 from rookdresser import Cache
-from threads import CacheTest, together, within_a_minute
+from threads import CacheTest, never, together, within_a_minute
 
 
 class Whole(int):
@@ -185,14 +185,34 @@ class Keys(CacheTest):
             within_a_minute(lambda: cache.look(Replaces("b")))
         self.holds_exactly(cache, 1)
 
-    def test_a_nested_key_raises_before_the_stack_ends(self):
-        key = ()
-        for _ in range(100_000):
-            key = (key,)
-        with self.assertRaises(RecursionError):
-            Cache(entries=10).put(key, 1)
-        while key:
-            key, = key
+    def test_a_key_may_be_nested_200_levels_deep(self):
+        def nested(wrap, levels):
+            key = 1
+            for _ in range(levels):
+                key = wrap(key)
+            return key
+
+        wraps = (lambda key: (key,), lambda key: frozenset((key,)), lambda key: Pair((key,)))
+        rows = [(nested(wrap, 200), nested(wrap, 200), (nested(wrap, 201), nested(wrap, 20_000))) for wrap in wraps]
+        rows.append([*(nested(lambda key: frozenset(((key,),)), levels) for levels in (100, 100)), (nested(lambda key: frozenset(((key,),)), 101),)])
+
+        def work():
+            for good, same, bad in rows:
+                cache = Cache(entries=10)
+                cache.put(good, 1)
+                self.assertEqual(cache.look(same), 1)
+                for key in bad:
+                    for call in (lambda: cache.put(key, 1), lambda: cache.look(key), lambda: cache.drop(key), lambda: cache.get(key, never)):
+                        with self.assertRaises(RecursionError):
+                            call()
+                self.holds_exactly(cache, 1)
+
+        work()
+        before = threading.stack_size(256 * 1024)
+        try:
+            within_a_minute(work)
+        finally:
+            threading.stack_size(before)
 
     def test_the_same_nan_is_found_and_another_is_not(self):
         cache, nan = Cache(entries=10), float("nan")

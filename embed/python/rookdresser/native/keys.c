@@ -6,8 +6,12 @@
  * are equal stand for the same, whatever their types. */
 #include "native.h"
 
+/* How deep a key may be nested. Python's own limit counts calls, and a thread with a small stack ends before it. */
+enum { DEEPEST = 200 };
+
 typedef struct {
     uint64_t a, b, c, d;
+    int level; /* of the part of the key that is read */
 } Sip;
 
 static inline uint64_t rotated(uint64_t x, int by) { return x << by | x >> (64 - by); }
@@ -21,9 +25,9 @@ static inline void round_of(Sip *s) {
     s->c = rotated(s->c, 32);
 }
 
-static inline Sip begun(Table *self) {
+static inline Sip begun(Table *self, int level) {
     uint64_t one = self->seed[0], two = self->seed[1];
-    return (Sip){one ^ 0x736f6d6570736575u, two ^ 0x646f72616e646f6du, one ^ 0x6c7967656e657261u, two ^ 0x7465646279746573u};
+    return (Sip){one ^ 0x736f6d6570736575u, two ^ 0x646f72616e646f6du, one ^ 0x6c7967656e657261u, two ^ 0x7465646279746573u, level};
 }
 
 static inline void add(Sip *s, uint64_t word) {
@@ -39,6 +43,23 @@ static inline uint64_t ended(Sip *s) {
 }
 
 static int add_key(Table *self, Sip *s, PyObject *key);
+static int seeded_hash_of(Table *self, PyObject *key, int level, uint64_t *hash);
+
+/* Enters a part of a key that has parts itself: 0, or -1 with RecursionError. */
+static int enter(Sip *s) {
+    if (s->level == DEEPEST) {
+        PyErr_Format(PyExc_RecursionError, "a key is nested deeper than %d levels", DEEPEST);
+        return -1;
+    }
+    if (Py_EnterRecursiveCall(" as a key is read")) return -1;
+    s->level++;
+    return 0;
+}
+
+static void leave(Sip *s) {
+    s->level--;
+    Py_LeaveRecursiveCall();
+}
 
 static int add_hash(Sip *s, PyObject *key) {
     Py_hash_t hash = PyObject_Hash(key);
@@ -63,24 +84,26 @@ static int add_bytes(Table *self, Sip *s, PyObject *key) {
 /* The parts in their order, behind a word that nobody can make who doesn't know the secret `mark`: no two tuples are added alike. */
 static int add_tuple(Table *self, Sip *s, PyObject *key) {
     Py_ssize_t length = PyTuple_Size(key);
-    if (Py_EnterRecursiveCall(" as a key is read")) return -1;
+    if (enter(s) < 0) return -1;
     add(s, self->mark ^ ~(uint64_t)length);
     int added = 0;
     for (Py_ssize_t i = 0; i < length && added == 0; i++) added = add_key(self, s, PyTuple_GetItem(key, i));
-    Py_LeaveRecursiveCall();
+    leave(s);
     return added;
 }
 
 /* The sum of the numbers of its parts, which is the same in every order. */
 static int add_set(Table *self, Sip *s, PyObject *key) {
+    if (enter(s) < 0) return -1;
     PyObject *parts = PyObject_GetIter(key), *part;
     uint64_t sum = 0, hash;
     while (parts && (part = PyIter_Next(parts))) {
-        if (hash_of(self, part, &hash) == 0) sum += hash;
+        if (seeded_hash_of(self, part, s->level, &hash) == 0) sum += hash;
         Py_DECREF(part);
         if (PyErr_Occurred()) break;
     }
     Py_XDECREF(parts);
+    leave(s);
     add(s, self->mark + 1);
     add(s, sum);
     return PyErr_Occurred() ? -1 : 0;
@@ -88,11 +111,9 @@ static int add_set(Table *self, Sip *s, PyObject *key) {
 
 /* What `plain` says that the key stands for; None is its hash(). */
 static int add_plain(Table *self, Sip *s, PyObject *key) {
-    if (Py_EnterRecursiveCall(" as a key is read")) return -1;
     PyObject *plain = PyObject_CallFunctionObjArgs(self->plain, key, NULL);
     int added = !plain ? -1 : plain == Py_None ? add_hash(s, key) : add_key(self, s, plain);
     Py_XDECREF(plain);
-    Py_LeaveRecursiveCall();
     return added;
 }
 
@@ -127,14 +148,16 @@ static int add_key(Table *self, Sip *s, PyObject *key) {
     return is_hashed_by_address(key) ? add_hash(s, key) : add_plain(self, s, key);
 }
 
-int hash_of(Table *self, PyObject *key, uint64_t *hash) {
-    if (!self->is_seeded) {
-        Py_hash_t plain = PyObject_Hash(key);
-        *hash = (uint64_t)plain;
-        return plain == -1 ? -1 : 0;
-    }
-    Sip s = begun(self);
+static int seeded_hash_of(Table *self, PyObject *key, int level, uint64_t *hash) {
+    Sip s = begun(self, level);
     if (add_key(self, &s, key) < 0) return -1;
     *hash = ended(&s);
     return 0;
+}
+
+int hash_of(Table *self, PyObject *key, uint64_t *hash) {
+    if (self->is_seeded) return seeded_hash_of(self, key, 0, hash);
+    Py_hash_t plain = PyObject_Hash(key);
+    *hash = (uint64_t)plain;
+    return plain == -1 ? -1 : 0;
 }
