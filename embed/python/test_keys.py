@@ -23,6 +23,54 @@ class Pair(tuple):
     pass
 
 
+class Set(frozenset):
+    def __iter__(self):
+        raise AssertionError("a set's own parts are read")
+
+
+class Id(uuid.UUID):
+    pass
+
+
+class Delta(datetime.timedelta):
+    days = seconds = 7
+
+
+class Number(float):
+    def __float__(self):
+        return 7.0
+
+    as_integer_ratio = __float__
+
+
+class Ratio(Fraction):
+    pass
+
+
+class Angle(float):
+    def __eq__(self, other):
+        return (float(self) - float(other)) % 360 == 0
+
+    def __hash__(self):
+        return hash(float(self) % 360)
+
+
+class Money(Decimal):
+    def __eq__(self, other):
+        return round(Decimal(self), 1) == round(Decimal(other), 1)
+
+    def __hash__(self):
+        return hash(round(Decimal(self), 1))
+
+
+class Modulo(Fraction):
+    def __eq__(self, other):
+        return (self - other) % 7 == 0
+
+    def __hash__(self):
+        return hash(self % 7)
+
+
 class Alike:
     """Keys of one hash, told apart by their names."""
 
@@ -56,6 +104,30 @@ class Keys(CacheTest):
                     cache = Cache(entries=10)
                     cache.put(one, 1)
                     self.assertEqual((cache.look(other), cache.drop(other), len(cache)), (1, True, 0))
+
+    def test_keys_of_subclasses_are_equal_as_python_compares_them(self):
+        kept = ((Set((1, 2)), frozenset((1, 2))), (Id(int=2 ** 100), uuid.UUID(int=2 ** 100)), (Delta(1, 5), datetime.timedelta(1, 5)),
+                (Number(0.5), 0.5, Ratio(1, 2), Decimal("0.5")), (Number(2.0 ** 70), 2 ** 70, Ratio(2 ** 70)))
+        # These compare otherwise than their base does.
+        own = ((Angle(10.5), Angle(370.5)), (Money("1.21"), Money("1.24")), (Modulo(1, 2), Modulo(15, 2)))
+        for equal in kept + own:
+            for wrap in (lambda key: key, lambda key: (key, "a"), lambda key: frozenset((key,))):
+                for one, other in itertools.permutations(map(wrap, equal), 2):
+                    with self.subTest("%s and %s" % (type(one), type(other))):
+                        self.assertEqual((one == other, hash(one)), (True, hash(other)))
+                        cache = Cache(entries=10)
+                        cache.put(one, 1)
+                        self.assertEqual((cache.look(other), cache.drop(other), len(cache)), (1, True, 0))
+
+    def test_numbers_of_numpy_are_one_key_with_python_s(self):
+        try:
+            import numpy
+        except ImportError:
+            self.skipTest("numpy isn't there")
+        for one, other in ((numpy.float64(0.5), 0.5), (numpy.float32(0.5), 0.5), (numpy.int64(-1), -1), (numpy.complex128(0.5), 0.5)):
+            cache = Cache(entries=10)
+            cache.put(one, 1)
+            self.assertEqual((cache.look(other), cache.drop(other), len(cache)), (1, True, 0), one)
 
     def test_keys_that_differ_are_several(self):
         keys = [-1, -2, 1, 2 ** 61 - 1, 2 ** 61, -(2 ** 61), (), ((),), (1,), ((1,),), (1, 2), (2, 1), ((1, 2),), "1", b"1", None, 0.5, float("inf"),

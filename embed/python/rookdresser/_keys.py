@@ -2,14 +2,18 @@
 from __future__ import annotations
 
 import functools
+import math
 import os
 import sys
 from decimal import Decimal
+from fractions import Fraction
 from numbers import Complex, Integral, Number, Rational, Real
+from types import FunctionType
 from typing import Any
 
 # The greatest exponent of a decimal number that is written out.
 WRITTEN_OUT = 300
+NUMBERS = (float, complex, Decimal, Fraction)
 
 
 def hash_is_secret() -> bool:
@@ -30,12 +34,21 @@ def plain(key: Any) -> Any:
         return tuple.__getitem__(key, slice(None)) if _is_equal_as(kind, tuple) else None
     if isinstance(key, (str, bytes, memoryview)):
         return None if SECRET or not any(_is_equal_as(kind, base) for base in (str, bytes, memoryview)) else _bytes_of(key)
-    return _number(key) if isinstance(key, Number) else _known(key, kind)
+    if isinstance(key, frozenset):
+        return frozenset(key) if _is_equal_as(kind, frozenset) else None
+    if isinstance(key, Number):
+        return _number(key) if all(_is_equal_as_number(kind, base) for base in NUMBERS if isinstance(key, base)) else None
+    return _known(key, kind)
 
 
 def _is_equal_as(kind: Any, base: Any) -> bool:
     """Whether keys of this kind are hashed and compared as those of the base are."""
     return kind.__hash__ is base.__hash__ and kind.__eq__ is base.__eq__
+
+
+def _is_equal_as_number(kind: Any, base: Any) -> bool:
+    """The same of a kind of numbers. One that isn't written in Python, as numpy.float64, has an equality of its own that does as the base's."""
+    return _is_equal_as(kind, base) or not isinstance(kind.__eq__, FunctionType)
 
 
 def _bytes_of(key: Any) -> bytes:
@@ -45,14 +58,17 @@ def _bytes_of(key: Any) -> bytes:
 def _number(key: Any) -> Any:
     """A number stands for its value modulo a secret prime, as hash() takes it modulo one that everybody knows."""
     if isinstance(key, Decimal):
-        return _decimal(key) if key.is_finite() else None
+        return _decimal(Decimal(key)) if Decimal.is_finite(key) else None
+    if isinstance(key, float):
+        key = float.__pos__(key)
     if isinstance(key, Integral):
         return int(key)
     if isinstance(key, Rational):
         return _ratio(int(key.numerator), int(key.denominator))
     if isinstance(key, Real):
         # The infinities have one hash() each, and each nan equals nothing but itself.
-        return _ratio(*float(key).as_integer_ratio()) if key - key == 0 else None
+        value = float(key)
+        return _ratio(*value.as_integer_ratio()) if math.isfinite(value) else None
     if isinstance(key, Complex):
         return _number(key.real) if key.imag == 0 else (key.real, key.imag)
     return None
@@ -75,13 +91,14 @@ def _decimal(key: Decimal) -> int:
     return (-number if sign else number) * pow(10, int(exponent), prime) % prime
 
 
-def _known(key: Any, kind: type) -> Any:
+def _known(key: Any, kind: Any) -> Any:
     """Kinds of the standard library whose hash() is made of whole numbers alone."""
-    name = "%s.%s" % (kind.__module__, kind.__qualname__)
-    if name == "uuid.UUID":
-        return int(key.int)
-    if name == "datetime.timedelta":
-        return key.days, key.seconds, key.microseconds
+    for base in kind.__mro__:
+        name = base.__module__, base.__qualname__
+        if name == ("uuid", "UUID"):
+            return int(key.int) if _is_equal_as(kind, base) else None
+        if name == ("datetime", "timedelta"):
+            return (base.days.__get__(key), base.seconds.__get__(key), base.microseconds.__get__(key)) if _is_equal_as(kind, base) else None
     return None
 
 
