@@ -185,6 +185,29 @@ while cache.stats().joins < 4: pass
         done = subprocess.run([sys.executable, "-c", program], cwd=HERE, capture_output=True, text=True, timeout=60)
         self.assertEqual((done.returncode, done.stderr), (0, ""))
 
+    def test_a_finalizer_asks_for_a_key_whose_load_the_interpreter_s_end_has_stopped(self):
+        program = """
+import asyncio, builtins, os, threading
+from rookdresser import Cache
+cache, loop, kept = Cache(entries=10), asyncio.new_event_loop(), []
+class Late:
+    def __del__(self, cache=cache, write=os.write): write(1, b"%%r" %% (cache.%s,))
+async def slow(key): await asyncio.Event().wait()
+def in_thread(): cache.get("a", lambda key: threading.Event().wait())
+def in_thread_s_loop(): asyncio.run(cache.aget("a", slow))
+def in_loop(): kept.append(loop.create_task(cache.aget("a", slow))), loop.run_until_complete(asyncio.sleep(0))
+if %r == "in_loop": in_loop()
+else: threading.Thread(target=%s, daemon=True).start()
+while not cache.numbers()["flights"]: pass
+builtins.late = Late()
+"""
+        calls = {'get("a", lambda key: 7)': "7", 'get("a", lambda key: 7, timeout=60)': "7", 'get_many(["a"], lambda keys: {"a": 7})': "{'a': 7}"}
+        for call, told in calls.items():
+            for load in ("in_thread", "in_thread_s_loop", "in_loop"):
+                with self.subTest(call, load=load):
+                    done = subprocess.run([sys.executable, "-c", program % (call, load, load)], cwd=HERE, capture_output=True, text=True, timeout=60)
+                    self.assertEqual((done.stdout, done.returncode), (told, 0), done.stderr)
+
 
 class Recursion(CacheTest):
     LIMIT = 400

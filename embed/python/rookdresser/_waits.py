@@ -3,7 +3,8 @@ from __future__ import annotations
 
 import asyncio
 import functools
-import threading
+from sys import is_finalizing
+from threading import get_ident
 from typing import Any, Iterator, List, Optional, Set, Tuple, Union
 
 from . import _native
@@ -113,11 +114,14 @@ async def wait_in_loop(load: _native.Load[Any], task: asyncio.Future[Any]) -> bo
 
 
 def _has_no_maker(load: _native.Load[Any]) -> bool:
-    """Whether the task that made the load is done or gone, or its loop is closed."""
+    """Whether the task that made the load is done or gone, or its loop is closed; or its thread will never run again, as Python ends."""
+    ends = is_finalizing()
+    if ends and load.thread != get_ident():
+        return True
     if load.task is None:
         return False
     task = load.task()
-    return task is None or task.done() or task.get_loop().is_closed()
+    return task is None or task.done() or task.get_loop().is_closed() or ends and not task.get_loop().is_running()
 
 
 def _awaited_by(future: asyncio.Future[Any]) -> List[Who]:
@@ -151,7 +155,7 @@ def _set_by(callback: Any, future: asyncio.Future[Any]) -> Iterator[Who]:
 
 def _run_by(loop: Loop) -> Iterator[Who]:
     """The thread that runs the loop. Of a loop that isn't asyncio's own only this thread knows."""
-    thread = getattr(loop, "_thread_id", None) or asyncio._get_running_loop() is loop and threading.get_ident()
+    thread = getattr(loop, "_thread_id", None) or asyncio._get_running_loop() is loop and get_ident()
     if thread:
         yield (thread,)
 
