@@ -371,6 +371,23 @@ class Callbacks(CacheTest):
         with self.assertRaises(TypeError):
             Cache(entries=10.0)
 
+    def test_a_setting_that_opens_the_cache_itself_leaves_it_as_it_opened_it(self):
+        class Opens:
+            def __index__(self):
+                if not opened:
+                    opened.append(True)
+                    cache.__init__(100)
+                    cache.put_many((i, [i]) for i in range(50))
+                return 8
+
+        for settings in ({"entries": Opens()}, {"entries": 10, "shards": Opens()}, {"entries": 10, "refresh": Opens()}):
+            cache, opened = Cache.__new__(Cache), []
+            with self.assertRaises(ValueError):
+                cache.__init__(**settings)
+            self.assertEqual([cache.pop(i) for i in range(50)], [[i] for i in range(50)])
+            cache.put_many((i, i) for i in range(200))
+            self.holds_exactly(cache, 100)
+
     # The page.
 
     def test_the_pages_name_tests_that_are_there(self):

@@ -73,6 +73,8 @@ static PyObject *given_or_null(PyObject *given) {
     return given;
 }
 
+static PyObject *opened_once(void) { return PyErr_Format(PyExc_ValueError, "a cache is opened once, by Cache(..)"); }
+
 static PyObject *table_open(Table *self, PyObject *args) {
     PyObject *given, *of_shards, *seed, *weigh, *clock, *on_leave, *log, *plain, *prime, *load_type, *refusal, *waits;
     int hash_is_secret;
@@ -81,13 +83,16 @@ static PyObject *table_open(Table *self, PyObject *args) {
     if (!PyArg_ParseTuple(args, "O!OOpOOOOOO!O!OO", &PyTuple_Type, &given, &of_shards, &seed, &hash_is_secret, &weigh, &clock, &on_leave,
                           &log, &plain, &PyLong_Type, &prime, &PyType_Type, &load_type, &refusal, &waits))
         return NULL;
-    if (self->load_type || PyTuple_Size(given) != 7 || PyType_GetSlot((PyTypeObject *)load_type, Py_tp_new) != (void *)load_new
+    if (PyTuple_Size(given) != 7 || PyType_GetSlot((PyTypeObject *)load_type, Py_tp_new) != (void *)load_new
         || !is_of(waits, Py_tp_methods, waits_methods))
-        return PyErr_Format(PyExc_ValueError, "a cache is opened once, by Cache(..)");
+        return opened_once();
     Py_INCREF(of_shards);
     if (whole(of_shards, 32, "shards", &shards) < 0) return NULL;
     if (shards < 1 || shards > 4096) return out_of_range(refusal, "shards");
-    if (setup_of(given, shards, &setup) < 0 || take_seed(self, seed) < 0) return NULL;
+    if (setup_of(given, shards, &setup) < 0) return NULL;
+    /* Only now, as a setting's __index__ may have opened the cache. */
+    if (self->load_type) return opened_once();
+    if (take_seed(self, seed) < 0) return NULL;
     uint64_t wrong = rd_check(&setup);
     if (wrong) return out_of_range(refusal, SETTINGS[wrong - 1]);
     if (take_memory(self, &setup, shards) < 0) return NULL;
