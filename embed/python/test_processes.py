@@ -82,6 +82,29 @@ class Forks(CacheTest):
         leader.join()
         self.assertEqual((os.WEXITSTATUS(status), cache.look("a")), (8, 7))
 
+    def test_a_child_has_whole_caches_of_a_subclass_whose_caches_are_equal_or_have_no_hash(self):
+        class Equal(Cache):
+            def __eq__(self, other):
+                return isinstance(other, Equal)
+
+            def __hash__(self):
+                return 7
+
+        class Unhashable(Cache):
+            __hash__ = None
+
+        caches = [Equal(entries=10), Equal(entries=10), Unhashable(entries=10)]
+        begun, may_end = threading.Barrier(4), threading.Event()
+        leaders = [threading.Thread(target=cache.get, args=("a", lambda key: (begun.wait(), may_end.wait()))) for cache in caches]
+        for leader in leaders:
+            leader.start()
+        begun.wait()
+        ended = forked(lambda: sum(cache.get("a", lambda key: 2) for cache in caches))
+        may_end.set()
+        for leader in leaders:
+            leader.join()
+        self.assertEqual(ended, 6)
+
     def test_a_child_that_is_forked_in_a_callback_has_a_whole_cache(self):
         # As a finalizer or a signal handler may fork, in the midst of a call of its thread and beside another thread's load.
         ended, begun, may_end, forks = [], threading.Event(), threading.Event(), []

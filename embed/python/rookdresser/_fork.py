@@ -8,17 +8,18 @@ from typing import Any
 
 from ._native import Table
 
-_caches: weakref.WeakSet[Table[Any, Any]] = weakref.WeakSet()
+# By their id(): a subclass may have an equality of its own, or no hash.
+_caches: weakref.WeakValueDictionary[int, Table[Any, Any]] = weakref.WeakValueDictionary()
 
 
 def watch(cache: Table[Any, Any]) -> None:
     """Ends other threads' loads of this cache in a forked child, too."""
-    _caches.add(cache)
+    _caches[id(cache)] = cache
 
 
 def _after_in_child() -> None:
     ended = SystemExit("the thread that made the load is not in this process")
-    for cache in list(_caches):
+    for cache in list(_caches.values()):
         for _, _, load in cache._uses():
             if load is not None and load.thread != threading.get_ident():
                 # A task of this thread that waits for it asks again.
