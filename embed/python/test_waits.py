@@ -6,11 +6,21 @@ import gc
 import logging
 import sys
 import threading
+import traceback
 import unittest
 import weakref
 
 from rookdresser import Cache, _waits
-from threads import CacheTest, together, wait_for_joins, within_a_minute
+from threads import CacheTest, never, together, wait_for_joins, within_a_minute
+
+
+class Failure(Exception):
+    pass
+
+
+class Failing(dict):
+    def __getitem__(self, key):
+        raise Failure
 
 
 class Waits(CacheTest):
@@ -187,6 +197,110 @@ class Waits(CacheTest):
         leader.join()
         self.assertEqual(_waits.waits.behind((leader.ident, None), 1 << 63), [])
         self.holds_exactly(cache, 1)
+
+    def test_an_exception_that_many_share_gathers_nothing_of_them(self):
+        cache, told = Cache(entries=10), []
+
+        def load(key):
+            wait_for_joins(cache, cache.stats().joins // 20 * 20 + 20)
+            raise Failure
+
+        async def load_in_loop(key):
+            while cache.stats().joins < 40:
+                await asyncio.sleep(0)
+            raise Failure
+
+        def tell(error):
+            told.append((error, error.__context__, [frame.name for frame in traceback.extract_tb(error.__traceback__)]))
+
+        def ask(i):
+            try:
+                raise KeyError(i)
+            except KeyError:
+                try:
+                    cache.get("a", load)
+                except Failure as error:
+                    tell(error)
+
+        async def ask_in_loop(i):
+            try:
+                raise KeyError(i)
+            except KeyError:
+                try:
+                    await cache.aget("b", load_in_loop)
+                except Failure as error:
+                    tell(error)
+
+        async def ask_together():
+            await asyncio.gather(*(ask_in_loop(i) for i in range(21)))
+
+        within_a_minute(lambda: together(21, ask))
+        of_threads, told = told, []
+        self.run_in_loop(ask_together)
+        # All have one exception, whose context is what the caller that loads was handling.
+        for of in (of_threads, told):
+            self.assertEqual((len(of), {(id(row[0]), id(row[1])) for row in of}), (21, {(id(of[0][0]), id(of[0][1]))}))
+            self.assertIsInstance(of[0][1], KeyError)
+        frames = [row[2] for row in told]
+        self.assertEqual((frames.count(["ask_in_loop", "aget", "_make", "load_in_loop"]), len(frames)), (21, 21))
+        # From Python 3.12 on a traceback is the exception's alone, and those of threads that raise at the same time may mix.
+        self.assertLess(max(len(row[2]) for row in of_threads), 10)
+        if sys.version_info < (3, 12):
+            self.assertEqual([row[2] for row in of_threads], [["ask", "load"]] * 21)
+
+    def test_a_call_that_fails_leaves_no_circle_of_references(self):
+        def load(key):
+            raise Failure
+
+        async def load_in_loop(key):
+            await asyncio.sleep(0)
+            raise Failure
+
+        async def load_that_asks_for_itself(key):
+            return await cache.aget(key, never)
+
+        def many(keys):
+            raise Failure
+
+        async def failures(call, callers):
+            tasks = [asyncio.create_task(call()) for _ in range(callers)]
+            await asyncio.wait(tasks)
+            return [weakref.ref(task.exception()) for task in tasks]
+
+        async def cancelled(call):
+            tasks = [asyncio.create_task(call()) for _ in range(3)]
+            await asyncio.sleep(0)
+            waits = [weakref.ref(task) for task in tasks]
+            for task in tasks:
+                task.cancel()
+            await asyncio.wait(tasks)
+            return waits
+
+        def caught(call):
+            try:
+                call()
+            except Failure as error:
+                return [weakref.ref(error)]
+            self.fail("it succeeded")
+
+        cache = Cache(entries=10)
+        rows = (
+            lambda: asyncio.run(failures(lambda: cache.aget("a", load), 1)),
+            lambda: asyncio.run(failures(lambda: cache.aget("a", load_in_loop), 5)),
+            lambda: asyncio.run(failures(lambda: cache.aget("a", load_that_asks_for_itself), 1)),
+            lambda: asyncio.run(cancelled(lambda: cache.aget("a", load_in_loop))),
+            lambda: caught(lambda: cache.get("a", load)),
+            lambda: caught(lambda: cache.get_many("ab", many)),
+            lambda: caught(lambda: cache.get_many("ab", lambda keys: Failing(a=1))),
+        )
+        gc.collect()
+        gc.disable()
+        self.addCleanup(gc.enable)
+        for i, row in enumerate(rows):
+            with self.subTest(i):
+                left = within_a_minute(row)
+                self.assertEqual([ref() for ref in left if ref() is not None], [])
+        self.holds_exactly(cache)
 
     def test_a_time_limit_is_a_number_of_any_size(self):
         cache, begun, may_end = Cache(entries=10), threading.Event(), threading.Event()

@@ -86,25 +86,29 @@ class Cache(Table[K, V]):
         `load` may return an awaitable. To give up a wait, use asyncio.wait_for or asyncio.timeout.
         """
         task, loop = _this_task()
-        while True:
-            mine: Load[V] = Load()
-            try:
-                value, of = self._seek(key, mine, task, loop)
-                if of is None:
-                    return value  # type: ignore[return-value]
-                if of is mine:
-                    return await self._make(key, mine, load)
-            except BaseException as error:
-                # It has ended, unless an interrupt struck.
-                self._fail(mine, error)
-                raise
-            if await wait_in_loop(of, task):
-                self._fail(of, SystemExit("the task that made the load is done, or its loop is closed"))
-            if of.error is None:
-                return of.value  # type: ignore[return-value]
-            if isinstance(of.error, Exception):
-                raise of.error
-            # The task that loaded was told to end, not this one.
+        mine: Optional[Load[V]] = None
+        of: Optional[Load[V]] = None
+        try:
+            while True:
+                mine, of = Load(), None
+                try:
+                    value, of = self._seek(key, mine, task, loop)
+                    if of is None:
+                        return value  # type: ignore[return-value]
+                    if of is mine:
+                        return await self._make(key, mine, load)
+                except BaseException as error:
+                    # It has ended, unless an interrupt struck.
+                    self._fail(mine, error)
+                    raise
+                if await wait_in_loop(of, task):
+                    self._fail(of, SystemExit("the task that made the load is done, or its loop is closed"))
+                if of.error is None or isinstance(of.error, Exception):
+                    return self._shared(of)
+                # The task that loaded was told to end, not this one.
+        finally:
+            # An exception's traceback keeps this frame, and a load and a task keep their exceptions.
+            del task, mine, of
 
     async def _make(self, key: K, mine: Load[V], load: Callable[[K], Union[V, Awaitable[V]]]) -> V:
         """Makes a load in this task."""
@@ -116,6 +120,8 @@ class Cache(Table[K, V]):
             if self._fail(mine, error):
                 return mine.old  # type: ignore[return-value]
             raise
+        finally:
+            del mine
 
     def get_many(self, keys: Iterable[K], load_many: Callable[[List[K]], Mapping[K, V]],
                  timeout: Optional[float] = None) -> Dict[K, V]:
@@ -132,30 +138,35 @@ class Cache(Table[K, V]):
         others: Dict[K, Load[V]] = {}
         begun: List[Load[V]] = []
         loop = waits.running_loop()
+        of: Optional[Load[V]] = None
         try:
-            for key in dict.fromkeys(keys):
-                load: Load[V] = Load()
-                begun.append(load)
-                value, of = self._seek(key, load, None, loop)
-                if of is None:
-                    found[key] = value  # type: ignore[assignment]
-                else:
-                    (mine if of is load else others)[key] = of
-            if mine:
-                self._make_many(mine, begun, load_many, found)
-        except BaseException as error:
-            self._fail_all(begun, error)
-            raise
-        for key, load in others.items():
-            self._wait(load, timeout)
-            if load.error is None:
-                found[key] = load.value  # type: ignore[assignment]
-            elif not isinstance(load.error, Exception):
-                # The thread that loaded was told to end, not this one.
-                found.update(self.get_many([key], load_many, timeout))
-            elif not isinstance(load.error, LeftOut):
-                raise load.error
-        return found
+            try:
+                for key in dict.fromkeys(keys):
+                    begun.append(Load())
+                    value, of = self._seek(key, begun[-1], None, loop)
+                    if of is None:
+                        found[key] = value  # type: ignore[assignment]
+                    else:
+                        (mine if of is begun[-1] else others)[key] = of
+                if mine:
+                    self._make_many(mine, begun, load_many, found)
+            except BaseException as error:
+                self._fail_all(begun, error)
+                raise
+            for key, of in others.items():
+                self._wait(of, timeout)
+                if of.error is not None and not isinstance(of.error, Exception):
+                    # The thread that loaded was told to end, not this one.
+                    found.update(self.get_many([key], load_many, timeout))
+                elif not isinstance(of.error, LeftOut):
+                    found[key] = self._shared(of)
+            return found
+        finally:
+            # An exception's traceback keeps this frame, and a load keeps its exception.
+            del of
+            for loads in (mine, others):
+                loads.clear()
+            begun.clear()
 
     def _make_many(self, mine: Dict[K, Load[V]], begun: List[Load[V]], load_many: Callable[[List[K]], Mapping[K, V]],
                    found: Dict[K, V]) -> None:
@@ -164,16 +175,15 @@ class Cache(Table[K, V]):
             loaded = load_many(list(mine))
         except Exception as error:
             self._fail_all(begun, error)
-            for key, load in mine.items():
-                if not load.is_refresh:
-                    raise
-                found[key] = load.old  # type: ignore[assignment]
+            if not all(load.is_refresh for load in mine.values()):
+                raise
+            found.update((key, load.old) for key, load in mine.items())  # type: ignore[misc]
             return
-        for key, load in mine.items():
+        for key in mine:
             if key in loaded:
-                found[key] = self._land(load, loaded[key])
-            elif self._fail(load, LeftOut(key)):
-                found[key] = load.old  # type: ignore[assignment]
+                found[key] = self._land(mine[key], loaded[key])
+            elif self._fail(mine[key], LeftOut(key)):
+                found[key] = mine[key].old  # type: ignore[assignment]
 
     def put_many(self, values: Union[Mapping[K, V], Iterable[Tuple[K, V]]]) -> None:
         """Stores each value under its key, of a mapping or of pairs, in their order. If one is refused, those before it are stored."""

@@ -3,6 +3,7 @@ from __future__ import annotations
 
 import asyncio
 import functools
+import weakref
 from sys import is_finalizing
 from threading import get_ident
 from typing import Any, Iterator, List, Optional, Set, Tuple, Union
@@ -36,12 +37,19 @@ class Waits(_native.Waits):
         """
         if _has_no_maker(load):
             return True
+        if self._is_circle(load, who, serial):
+            # The traceback keeps this frame, and the load or the task may keep the exception.
+            del load, who
+            raise WaitsForItself("the load of the key waits for this very caller")
+        return False
+
+    def _is_circle(self, load: _native.Load[Any], who: Who, serial: int) -> bool:
         seen: Set[object] = set()
         left: List[Who] = [who]
         while left:
             at = left.pop()
             if self.leads(load, at):
-                raise WaitsForItself("the load of the key waits for this very caller")
+                return True
             mark = tuple(map(id, at[1:])) + at[:1] if isinstance(at, tuple) else id(at)
             if mark in seen:
                 continue
@@ -56,8 +64,8 @@ class Waits(_native.Waits):
         for waiter in self.behind(who, serial):
             if isinstance(waiter, tuple):
                 yield waiter
-            elif waiter.is_waiting():
-                yield waiter.task
+            else:
+                yield from waiter.waiting()
 
 
 class TaskWait(_native.TaskWait):
@@ -66,12 +74,15 @@ class TaskWait(_native.TaskWait):
     __slots__ = ("task", "loop", "future")
 
     def __init__(self, task: asyncio.Future[Any], loop: Loop) -> None:
-        self.task, self.loop = task, loop
+        # Weak, as a task that is cancelled keeps the exception, and its traceback keeps this.
+        self.task, self.loop = weakref.ref(task), loop
         self.future: asyncio.Future[None] = loop.create_future()
 
-    def is_waiting(self) -> bool:
-        """Returns whether the task is suspended by this very wait, and by no other."""
-        return getattr(self.task, "_fut_waiter", self.future) is self.future
+    def waiting(self) -> Iterator[asyncio.Future[Any]]:
+        """Yields the task if it is suspended by this very wait, and by no other."""
+        task = self.task()
+        if task is not None and getattr(task, "_fut_waiter", self.future) is self.future:
+            yield task
 
     def ring(self) -> None:
         """Wakes the task, from any thread."""
@@ -111,6 +122,8 @@ async def wait_in_loop(load: _native.Load[Any], task: asyncio.Future[Any]) -> bo
         return False
     finally:
         wait.end()
+        # An exception's traceback keeps this frame, and a load and a task keep their exceptions.
+        del load, task, wait
 
 
 def _has_no_maker(load: _native.Load[Any]) -> bool:

@@ -237,6 +237,13 @@ static PyObject *table_wait(Table *self, PyObject *args) {
     Py_RETURN_NONE;
 }
 
+static PyObject *table_shared(Table *self, PyObject *given) {
+    Load *load = own(self, given);
+    PyObject *value = load ? shared(load) : NULL;
+    if (!value && !PyErr_Occurred()) PyErr_SetString(PyExc_ValueError, "the load is to be asked for again");
+    return value;
+}
+
 PyMethodDef call_methods[] = {
     {"get", METHOD(table_get), FAST,
      "get($self, key, load, timeout=None)\n--\n\n"
@@ -277,6 +284,7 @@ PyMethodDef call_methods[] = {
     {"_fail", METHOD(table_fail), METH_FASTCALL,
      "Ends a load, if it is open, with an exception. Returns whether the caller gets the old value."},
     {"_fail_all", METHOD(table_fail_all), METH_FASTCALL, "Ends each load of a list that is open with an exception."},
+    {"_shared", METHOD(table_shared), METH_O, "Returns the value of another's load that has ended, or raises what it raised."},
     {"_wait", METHOD(table_wait), METH_VARARGS, "Waits in this thread until the load ends."},
     {NULL, NULL, 0, NULL},
 };

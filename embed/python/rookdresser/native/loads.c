@@ -87,6 +87,7 @@ static int told_of(Table *self, Load *load, Use *left) {
  * an interrupt raised. */
 int fail(Table *self, Load *load, PyObject *error) {
     Use *use = NULL, *left = NULL;
+    PyObject *trace = PyExceptionInstance_Check(error) ? PyException_GetTraceback(error) : NULL;
     STEP
     if (load->is_open && load->table == self) {
         rd_answer answer;
@@ -95,11 +96,12 @@ int fail(Table *self, Load *load, PyObject *error) {
         use = ended(self, load);
         left = load->left, load->left = NULL;
         Py_INCREF(error);
-        load->error = error;
+        load->error = error, load->trace = trace, trace = NULL;
         self->counts.failed++;
         if (!rd_land_failed(cache, load->id, number, load->now, &answer)) take_left(self, cache, &answer, &left);
     }
     END_STEP
+    Py_XDECREF(trace);
     if (!use) return 0;
     int is_old = load->is_refresh && PyErr_GivenExceptionMatches(error, PyExc_Exception);
     free_uses(use);
@@ -181,14 +183,21 @@ static PyObject *made(Table *self, PyObject *key, Load *load, const Loader *load
     return value ? value : failed(self, load);
 }
 
-/* The value of another's load that has ended, or null with its exception; null with none if the caller is to ask again. */
-static PyObject *shared(Load *load) {
-    PyObject *value = load->error ? NULL : load->value;
+/* The value of another's load that has ended, or null with its exception; null with none if the caller is to ask again.
+ *
+ * All who share the load raise one exception. It begins anew with the load's own traceback, and gets no context from what its caller is
+ * handling, so that it gathers nothing of those who share it. */
+PyObject *shared(Load *load) {
+    PyObject *error = load->error, *value = error ? NULL : load->value;
     Py_XINCREF(value);
     /* What told the thread that loaded to end, as SystemExit, isn't for this one. */
-    if (load->error && PyErr_GivenExceptionMatches(load->error, PyExc_Exception))
-        PyErr_SetObject((PyObject *)Py_TYPE(load->error), load->error);
-    return value;
+    if (!error || !PyErr_GivenExceptionMatches(error, PyExc_Exception)) return value;
+    PyObject *type = (PyObject *)Py_TYPE(error);
+    Py_INCREF(type);
+    Py_INCREF(error);
+    Py_XINCREF(load->trace);
+    PyErr_Restore(type, error, load->trace);
+    return NULL;
 }
 
 PyObject *get(Table *self, PyObject *key, const Loader *loader, PyObject *timeout) {
@@ -222,6 +231,7 @@ static int load_traverse(Load *self, visitproc visit, void *arg) {
     Py_VISIT(self->old);
     Py_VISIT(self->value);
     Py_VISIT(self->error);
+    Py_VISIT(self->trace);
     for (Use *use = self->left; use; use = use->next) {
         Py_VISIT(use->key);
         Py_VISIT(use->value);
@@ -237,6 +247,7 @@ static int load_clear(Load *self) {
     Py_CLEAR(self->old);
     Py_CLEAR(self->value);
     Py_CLEAR(self->error);
+    Py_CLEAR(self->trace);
     return 0;
 }
 

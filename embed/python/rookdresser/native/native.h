@@ -45,7 +45,7 @@ struct Load {
     unsigned long thread;
     PyObject *task;      /* a weak reference, or null if a thread makes the load */
     void *loop;          /* the task's; compared, never followed */
-    PyObject *old, *value, *error;
+    PyObject *old, *value, *error, *trace; /* `trace` is the traceback that the error had as the load ended, or null */
     Waits *graph;
     Wait *waits;         /* all who wait for it */
     Load *next, *before; /* of the loads that somebody waits for */
@@ -131,6 +131,7 @@ int seek(Table *self, PyObject *key, Load *mine, PyObject **found);
 int land(Table *self, Load *load, PyObject *value);
 int fail(Table *self, Load *load, PyObject *error);
 PyObject *failed(Table *self, Load *load);
+PyObject *shared(Load *load);
 PyObject *get(Table *self, PyObject *key, const Loader *loader, PyObject *timeout);
 
 /* waits.c: who waits for which load. */
