@@ -25,6 +25,11 @@ class Cached(CacheTest):
         del made[:]
         add.cache_clear()
 
+    def test_cached_without_settings_is_told_what_to_write(self):
+        for wrong in (lambda: cached(len), lambda: cached(1000)):
+            with self.assertRaisesRegex(TypeError, "write @cached\\(entries=1000\\) above the function$"):
+                wrong()
+
     def test_a_cached_function_runs_once_for_equal_arguments(self):
         self.assertEqual((add(1, b=2), add(1, b=2), add(2), add(2), add.__doc__, add.__name__), (3, 3, 2, 2, "Adds.", "add"))
         add.cache.clear()

@@ -1,5 +1,7 @@
 #!/usr/bin/env python3
 """What a loader, weigh, on_leave and clock may do. embed/CALLBACKS.md names these tests."""
+import asyncio
+import inspect
 import logging
 import re
 import threading
@@ -7,7 +9,7 @@ import time
 import unittest
 from pathlib import Path
 
-from rookdresser import Cache, Refused, WaitsForItself
+from rookdresser import Cache, Refused, WaitsForItself, cached
 from threads import CacheTest, together, wait_for_joins, within_a_minute
 
 
@@ -356,6 +358,57 @@ class Callbacks(CacheTest):
         cache.close()
         cache.close()
         self.assertEqual((told, cache.kept()), ([("a", 1, "explicit")], (0, 0)))
+
+    # What isn't a loader.
+
+    def test_a_coroutine_that_a_loader_returns_is_closed_and_not_stored(self):
+        made = []
+
+        async def load(key):
+            raise AssertionError("it runs")
+
+        def plainly(key):
+            made.append(load(key))
+            return made[-1]
+
+        async def by_aget(cache):
+            async def returns_one(key):
+                return plainly(key)
+
+            await cache.aget("a", returns_one)
+
+        for call, why in ((lambda cache: cache.get("a", plainly), "load returned a coroutine: use aget"),
+                          (lambda cache: asyncio.run(by_aget(cache)), "the loaded value is a coroutine, which could be awaited once"),
+                          (lambda cache: cache.get_many("a", lambda keys: {"a": plainly("a")}), "the loaded value is a coroutine, which could be awaited once"),
+                          (lambda cache: cache.get_many("a", plainly), "load_many returned a coroutine, and has to return a mapping"),
+                          (lambda cache: cached(entries=10)(plainly)("a"), "the function returned a coroutine, and isn't an async function")):
+            cache = Cache(entries=10)
+            with self.subTest(why), self.assertRaises(TypeError) as caught:
+                call(cache)
+            self.assertEqual((str(caught.exception), inspect.getcoroutinestate(made[-1])), (why, inspect.CORO_CLOSED))
+            self.holds_exactly(cache, 0)
+
+    def test_a_future_that_a_loader_returns_is_stored_as_many_may_await_it(self):
+        cache = Cache(entries=10)
+
+        async def work():
+            future = cache.get("a", lambda key: asyncio.get_running_loop().create_future())
+            future.set_result(7)
+            return [await cache.get("a", None) for _ in range(2)]
+
+        self.assertEqual(asyncio.run(work()), [7, 7])
+
+    def test_a_default_in_place_of_a_loader_is_told_what_to_call(self):
+        cache, why = Cache(entries=10), "load has to be callable; for a default use look(key, default)"
+        for wrong in (5, None):
+            for call in (lambda: cache.get("a", wrong), lambda: asyncio.run(cache.aget("a", wrong))):
+                with self.assertRaises(TypeError) as caught:
+                    call()
+                self.assertEqual(str(caught.exception), why)
+        with self.assertRaisesRegex(TypeError, "^load_many has to be callable$"):
+            cache.get_many("a", 5)
+        self.assertEqual(cache.get("a", lambda key: 7), 7)
+        self.holds_exactly(cache, 1)
 
     # Settings.
 

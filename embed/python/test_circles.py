@@ -114,7 +114,7 @@ class Circles(CacheTest):
         async def load_in_loop(key):
             await asyncio.get_running_loop().run_in_executor(None, begun.wait)
             try:
-                await by_gather(one.aget("a", None))
+                await by_gather(one.aget("a", never))
             except WaitsForItself:
                 told.append("the task")
             return 2
@@ -267,7 +267,7 @@ class Circles(CacheTest):
             may_end.append(asyncio.create_task(cache.aget("b", load)))
             while len(cache._uses()) < 2:
                 await asyncio.sleep(0)
-            return await cache.aget("b", None)
+            return await cache.aget("b", never)
 
         self.assertEqual(self.run_in_loop(lambda: cache.aget("a", load_later)), "b")
         self.stale.end()
@@ -295,7 +295,7 @@ class Circles(CacheTest):
         cache = Cache(entries=10)
 
         async def load(key):
-            load.task = asyncio.create_task(cache.aget(key, None))
+            load.task = asyncio.create_task(cache.aget(key, never))
             wait_for = asyncio.shield(load.task)  # shielded, and not awaited either
             for _ in range(5):
                 await asyncio.sleep(0)
@@ -312,7 +312,7 @@ class Circles(CacheTest):
         cache = Cache(entries=10)
 
         async def load(key):
-            own = asyncio.create_task(cache.aget(key, None))
+            own = asyncio.create_task(cache.aget(key, never))
             done, _ = await asyncio.wait([own, asyncio.create_task(asyncio.sleep(0, 7))], return_when=asyncio.FIRST_COMPLETED)
             self.assertNotIn(own, done)
             return done.pop().result()

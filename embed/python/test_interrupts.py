@@ -13,7 +13,7 @@ from pathlib import Path
 
 import rookdresser
 from rookdresser import Cache
-from threads import within_a_minute
+from threads import never, within_a_minute
 
 FILES = {str(path) for path in Path(rookdresser.__file__).resolve().parent.glob("*.py")}
 
@@ -280,7 +280,7 @@ class Interrupts(unittest.TestCase):
 
         async def ask(cache):
             await asyncio.gather(*(cache.aget(key, load) for key in ("a", "a", "b", "fails", "fails", "due")), return_exceptions=True)
-            return await cache.aget("a", None), await cache.aget("c", load_at_once)
+            return await cache.aget("a", never), await cache.aget("c", load_at_once)
 
         def work(cache):
             asyncio.run(ask(cache))

@@ -5,7 +5,7 @@ import time
 import unittest
 
 from rookdresser import Cache, LeftOut, Refused, WaitsForItself
-from threads import CacheTest, wait_for_joins, within_a_minute
+from threads import CacheTest, never, wait_for_joins, within_a_minute
 
 
 class Many(CacheTest):
@@ -20,7 +20,7 @@ class Many(CacheTest):
             cache.put_many({1: 2, 2: 4})
             cache.put_many([(3, 6)])
             self.assertEqual(cache.get_many([1, 5, 3, 5, 7, 20], load_many), {1: 2, 5: 10, 3: 6, 7: 14})
-            self.assertEqual((asked, cache.get_many((key for key in (5, 7)), load_many), cache.get_many([], None)), ([[5, 7, 20]], {5: 10, 7: 14}, {}))
+            self.assertEqual((asked, cache.get_many((key for key in (5, 7)), load_many), cache.get_many([], never)), ([[5, 7, 20]], {5: 10, 7: 14}, {}))
             stats = cache.stats()
             self.assertEqual((stats.hits, stats.misses, stats.loads, stats.failed), (4, 3, 2, 1))
             self.holds_exactly(cache, 5)
@@ -56,9 +56,9 @@ class Many(CacheTest):
     def test_many_with_one_that_can_t_be_hashed_leaves_no_load_open(self):
         with Cache(entries=100, flights=2) as cache:
             with self.assertRaises(TypeError):
-                cache.get_many(["a", []], None)
+                cache.get_many(["a", []], never)
             with self.assertRaises(Refused):
-                cache.get_many(["a", "b", "c"], None)
+                cache.get_many(["a", "b", "c"], never)
             with self.assertRaises(TypeError):
                 cache.get_many(["a", "b"], lambda keys: None)
             with self.assertRaises(TypeError):

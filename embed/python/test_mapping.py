@@ -8,7 +8,7 @@ from pathlib import Path
 
 import rookdresser
 from rookdresser import Cache, Refused
-from threads import CacheTest
+from threads import CacheTest, never
 
 HERE = Path(__file__).resolve().parent
 
@@ -154,7 +154,7 @@ class Shards(CacheTest):
         cache = Cache(entries=200, shards=5, bound=200, after_write=100, clock=lambda: now[0], weigh=lambda key, value: 1, on_leave=lambda *of: left.append(of))
         for key in range(20):
             self.assertEqual(cache.get(key, lambda key: -key), -key)
-        self.assertEqual(cache.get_many(range(10), None), {key: -key for key in range(10)})
+        self.assertEqual(cache.get_many(range(10), never), {key: -key for key in range(10)})
         self.assertTrue(all(cache.drop(key) for key in range(5)))
         numbers = cache.numbers()
         self.assertEqual((numbers["entries"], numbers["weight"], numbers["loads"], numbers["lookups"], numbers["hits"]), (15, 15, 20, 30, 10))

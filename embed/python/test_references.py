@@ -7,7 +7,7 @@ import threading
 import unittest
 
 from rookdresser import Cache, Refused, WaitsForItself, cached
-from threads import wait_for_joins
+from threads import never, wait_for_joins
 
 
 class Key:
@@ -97,7 +97,7 @@ def one_round():
     cache.put_many({1: 2}), cache.pop(1), cache.pop(1, 7), cache.drop(2), cache.forget(3)
     cache.get_many(range(60, 70), lambda keys: {key: object() for key in keys if key % 2})
     for call, error in ((lambda: cache["none"], KeyError), (lambda: cache.pop("none"), KeyError), (lambda: cache.put([], 1), TypeError),
-                        (lambda: cache.get("a"), TypeError), (lambda: cache.get_many([[]], None), TypeError), (lambda: Cache(entries=0), Refused),
+                        (lambda: cache.get("a"), TypeError), (lambda: cache.get_many([[]], never), TypeError), (lambda: Cache(entries=0), Refused),
                         (lambda: cache.get("own", lambda key: cache.get(key, None)), WaitsForItself)):
         raised(call, error)
     join(cache)

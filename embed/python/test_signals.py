@@ -7,7 +7,7 @@ import time
 import unittest
 
 from rookdresser import Cache
-from threads import CacheTest, within_a_minute
+from threads import CacheTest, never, within_a_minute
 
 
 class Struck(BaseException):
@@ -40,7 +40,7 @@ class OpenLoads(CacheTest):
 
         cache = Cache(entries=10, clock=clock, on_leave=lambda *of: None)
         return cache, (lambda: cache.look("b"), lambda: cache.put("b", 1), lambda: cache.drop("b"), lambda: cache.get("b", None), cache.clear,
-                       lambda: cache.get_many(["b", "c"], None), lambda: cache.pop("b", None), lambda: cache.forget("b"), cache.clean)
+                       lambda: cache.get_many(["b", "c"], never), lambda: cache.pop("b", None), lambda: cache.forget("b"), cache.clean)
 
     def strike(self, armed, call):
         armed.append(1)

@@ -7,7 +7,7 @@ import time
 import unittest
 
 from rookdresser import Cache, WaitsForItself
-from threads import CacheTest, within_a_minute
+from threads import CacheTest, never, within_a_minute
 
 
 async def joins(cache, number):
@@ -132,7 +132,7 @@ class Tasks(CacheTest):
             return "by a task"
 
         async def work():
-            return await cache.aget("a", None), await cache.aget("b", load_in_loop)
+            return await cache.aget("a", never), await cache.aget("b", load_in_loop)
 
         self.assertEqual(self.run_in_loop(work), ("by a thread", "by a task"))
         thread.join()

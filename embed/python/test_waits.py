@@ -39,7 +39,7 @@ class Waits(CacheTest):
             return 7
 
         threads = [threading.Thread(target=lambda: got.append(cache.get("a", None))) for _ in range(3)]
-        threads += [threading.Thread(target=lambda: got.append(asyncio.run(cache.aget("a", None)))) for _ in range(2)]
+        threads += [threading.Thread(target=lambda: got.append(asyncio.run(cache.aget("a", never)))) for _ in range(2)]
 
         def lead():
             self.assertEqual(cache.get("a", load), 7)
@@ -152,7 +152,7 @@ class Waits(CacheTest):
         logging.getLogger("asyncio").setLevel(logging.CRITICAL)
         for _ in range(20):
             loop = asyncio.new_event_loop()
-            task = loop.create_task(cache.aget("a", None))
+            task = loop.create_task(cache.aget("a", never))
             tasks.append(weakref.ref(task))
             loop.run_until_complete(asyncio.sleep(0))
             loop.close()
@@ -181,7 +181,7 @@ class Waits(CacheTest):
 
         async def cancel(times):
             for _ in range(times):
-                task = asyncio.create_task(cache.aget("a", None))
+                task = asyncio.create_task(cache.aget("a", never))
                 await asyncio.sleep(0)
                 task.cancel()
                 await asyncio.wait([task])

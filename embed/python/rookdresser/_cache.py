@@ -6,6 +6,7 @@ import inspect
 import logging
 import operator
 import os
+from collections.abc import Coroutine
 from typing import Any, Awaitable, Callable, Dict, Hashable, Iterable, List, Mapping, Optional, Tuple, TypeVar, Union
 
 from . import _fork, _keys
@@ -85,6 +86,8 @@ class Cache(Table[K, V]):
 
         `load` may return an awaitable. To give up a wait, use asyncio.wait_for or asyncio.timeout.
         """
+        if not callable(load):
+            raise TypeError("load has to be callable; for a default use look(key, default)")
         task, loop = _this_task()
         mine: Optional[Load[V]] = None
         of: Optional[Load[V]] = None
@@ -133,6 +136,8 @@ class Cache(Table[K, V]):
         and in all who share one of its loads. Loads that others make of these keys are waited for last, each for at most `timeout`
         seconds; if such a load ends by SystemExit or the like, load_many is called once more, for its key.
         """
+        if not callable(load_many):
+            raise TypeError("load_many has to be callable")
         found: Dict[K, V] = {}
         mine: Dict[K, Load[V]] = {}
         others: Dict[K, Load[V]] = {}
@@ -173,6 +178,7 @@ class Cache(Table[K, V]):
         """Makes these loads together. If that fails, due entries keep their old values, and if there are others it is raised."""
         try:
             loaded = load_many(list(mine))
+            self._refuse_coroutine(loaded, "load_many returned a coroutine, and has to return a mapping")
         except Exception as error:
             self._fail_all(begun, error)
             if not all(load.is_refresh for load in mine.values()):
@@ -184,6 +190,12 @@ class Cache(Table[K, V]):
                 found[key] = self._land(mine[key], loaded[key])
             elif self._fail(mine[key], LeftOut(key)):
                 found[key] = mine[key].old  # type: ignore[assignment]
+
+    def _refuse_coroutine(self, value: object, why: str) -> None:
+        """Raises TypeError of a coroutine, which can be awaited once. A Future or a Task is kept, as many may await it."""
+        if isinstance(value, Coroutine):
+            value.close()
+            raise TypeError(why)
 
     def put_many(self, values: Union[Mapping[K, V], Iterable[Tuple[K, V]]]) -> None:
         """Stores each value under its key, of a mapping or of pairs, in their order. If one is refused, those before it are stored."""

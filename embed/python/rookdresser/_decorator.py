@@ -61,7 +61,7 @@ class _Cached(_native.Function):
         return "<cached %r>" % self.__wrapped__  # type: ignore[attr-defined]
 
 
-def cached(*, key: Optional[Callable[..., Hashable]] = None, **settings: Any) -> Callable[[F], F]:
+def cached(*given: Any, key: Optional[Callable[..., Hashable]] = None, **settings: Any) -> Callable[[F], F]:
     """Keeps what a function returns, by its arguments, in a cache of these settings, which are those of Cache.
 
     Of those who call it with equal arguments at once, one runs it, and the others wait. An async function is run by one task, and the
@@ -71,6 +71,9 @@ def cached(*, key: Optional[Callable[..., Hashable]] = None, **settings: Any) ->
 
     The function gets the attributes `cache`, `cache_info`, `cache_clear` and `__wrapped__`.
     """
+    if given:
+        raise TypeError("cached takes settings, by name: write @cached(entries=1000) above the function")
+
     def decorate(function: F) -> F:
         if not callable(function) or isinstance(function, (classmethod, staticmethod)):
             raise TypeError("cached stands below classmethod and staticmethod, right above the function")

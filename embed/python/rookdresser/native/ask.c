@@ -23,6 +23,7 @@ int arguments(PyObject *const *args, Py_ssize_t count, PyObject *names, int leas
     if (count > most) goto wrong;
     for (; at < count; at++) given[at] = args[at];
     for (; at < most; at++) given[at] = NULL;
+    if (!names && count >= least) return 0;
     for (Py_ssize_t i = 0, named = names ? PyTuple_Size(names) : 0; i < named; i++) {
         for (at = 0; at < most && PyUnicode_CompareWithASCIIString(PyTuple_GetItem(names, i), known[at]); at++) {}
         if (at == most || given[at]) goto wrong;
@@ -116,4 +117,12 @@ int tell(Table *self, Use *left) {
     }
     if (type) PyErr_Restore(type, raised, trace);
     return type ? -1 : 0;
+}
+
+/* Closes a coroutine and raises TypeError: of all who would get it, one alone could await it. _cache.py knows which awaitables are such. */
+int refuse_coroutine(Table *self, PyObject *value, const char *why) {
+    if (!PyType_GetSlot(Py_TYPE(value), Py_am_await)) return 0;
+    PyObject *kept = PyObject_CallMethod((PyObject *)self, "_refuse_coroutine", "Os", value, why);
+    Py_XDECREF(kept);
+    return kept ? 0 : -1;
 }

@@ -200,7 +200,9 @@ static PyObject *table_seek(Table *self, PyObject *args) {
 
 static PyObject *table_land(Table *self, PyObject *args) {
     PyObject *load, *value;
-    if (!PyArg_ParseTuple(args, "OO", &load, &value) || !own(self, load) || land(self, (Load *)load, value) < 0) return NULL;
+    static const char why[] = "the loaded value is a coroutine, which could be awaited once";
+    if (!PyArg_ParseTuple(args, "OO", &load, &value) || !own(self, load)) return NULL;
+    if (refuse_coroutine(self, value, why) < 0 || land(self, (Load *)load, value) < 0) return NULL;
     Py_INCREF(value);
     return value;
 }

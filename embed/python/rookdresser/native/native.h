@@ -122,6 +122,7 @@ long long nanoseconds(void);
 int weight_of(Table *self, PyObject *key, PyObject *value, uint64_t *weight);
 void refuse(Table *self, uint64_t fault);
 int tell(Table *self, Use *left);
+int refuse_coroutine(Table *self, PyObject *value, const char *why);
 
 /* keys.c: the number that is made of a key. */
 int hash_of(Table *self, PyObject *key, uint64_t *hash);
@@ -138,6 +139,7 @@ PyObject *get(Table *self, PyObject *key, const Loader *loader, PyObject *timeou
 void link_wait(Waits *self, Load *load, Wait *wait);
 void unlink_wait(Wait *wait);
 int ring(Load *load);
+int abandon(Table *self, Load *load, const char *why);
 int wait_for(Table *self, Load *load, PyObject *timeout);
 
 /* The methods and types, for module.c. */

@@ -108,9 +108,9 @@ static int sleep_on(PyThread_type_lock lock, long long microseconds) {
     return got == PY_LOCK_ACQUIRED;
 }
 
-/* Ends another's load that nobody will end. Those who wait for it ask again. */
-static int abandon(Table *self, Load *load) {
-    PyObject *ended = PyObject_CallFunction(PyExc_SystemExit, "s", "the task that made the load is done, or its loop is closed");
+/* Ends a load that nobody will end. Those who wait for it ask again. */
+int abandon(Table *self, Load *load, const char *why) {
+    PyObject *ended = PyObject_CallFunction(PyExc_SystemExit, "s", why);
     if (!ended) return -1;
     int failed = fail(self, load, ended);
     Py_DECREF(ended);
@@ -123,7 +123,7 @@ static int wait_linked(Table *self, Load *load, Wait *wait, PyObject *timeout) {
     if (end == -2) return -1;
     while (!load->is_over) {
         int left = checked(load->graph, load, wait);
-        if (left) return left < 0 ? -1 : abandon(self, load);
+        if (left) return left < 0 ? -1 : abandon(self, load, "the task that made the load is done, or its loop is closed");
         long long rest = end < 0 ? pause : (end - nanoseconds()) / 1000 + 1;
         int woken = sleep_on(wait->lock, rest < 0 ? 0 : rest < pause ? rest : pause);
         if (woken) return woken < 0 ? -1 : 0;
