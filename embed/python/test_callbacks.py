@@ -413,16 +413,53 @@ class Callbacks(CacheTest):
     # Settings.
 
     def test_settings_out_of_range_are_named(self):
-        for settings, word in (({"entries": 0}, "entries"), ({"entries": 70000}, "entries"), ({"entries": 10, "window": 20}, "window"), ({"entries": 10, "bound": 0}, "bound"), ({"entries": 10, "shards": 0}, "shards"),
-                               ({"entries": 131_073, "shards": 2}, "entries")):
+        rows = (
+            ({"entries": 0}, "entries is 0, and has to be from 1 to 268435456"),
+            ({"entries": -1}, "entries is -1, and has to be from 1 to 268435456"),
+            ({"entries": 268_435_457}, "entries is 268435457, and has to be from 1 to 268435456"),
+            ({"entries": -(1 << 20_000)}, "entries is minus about 2^20000, and has to be from 1 to 268435456"),
+            ({"entries": 70_000, "shards": 1}, "entries is 70000, and has to be from 1 to 65536"),
+            ({"entries": 131_073, "shards": 2}, "entries is 131073, and has to be from 1 to 131072, 65536 for each shard"),
+            ({"entries": 10, "shards": 0}, "shards is 0, and has to be from 1 to 4096"),
+            ({"entries": 10, "shards": 4097}, "shards is 4097, and has to be from 1 to 4096"),
+            ({"entries": 10, "window": 0}, "window is 0, and has to be from 1 to 10, the entries"),
+            ({"entries": 10, "window": 20}, "window is 20, and has to be from 1 to 10, the entries"),
+            ({"entries": 10, "flights": 0}, "flights is 0, and has to be from 1 to 4096"),
+            ({"entries": 10, "flights": 4097}, "flights is 4097, and has to be from 1 to 4096"),
+            ({"entries": 10, "bound": 0}, "bound is 0, and has to be from 1 to 281474976710656"),
+            ({"entries": 10, "bound": 2 ** 48 + 1}, "bound is 281474976710657, and has to be from 1 to 281474976710656"),
+            ({"entries": 10, "bound": 0, "shards": 2}, "bound is 0, and has to be from 1 to 562949953421312, 281474976710656 for each shard"),
+            ({"entries": 10, "after_write": -1}, "after_write is -1, and has to be from 0 to 18446744073709551615"),
+            ({"entries": 10, "after_access": 2 ** 64}, "after_access is 18446744073709551616, and has to be from 0 to 18446744073709551615"),
+            ({"entries": 10, "refresh": -5}, "refresh is -5, and has to be from 0 to 18446744073709551615"),
+            ({"entries": 10, "refresh": 10, "after_write": 5}, "refresh is 10, and has to be below after_write, 5"),
+            ({"entries": 10, "refresh": 5, "after_write": 5}, "refresh is 5, and has to be below after_write, 5"),
+        )
+        for settings, why in rows:
             with self.assertRaises(Refused) as caught:
                 Cache(**settings)
-            self.assertEqual((caught.exception.fault, str(caught.exception)), (2, word + " is out of its range"))
-        for settings in ({"entries": 2 ** 32 + 5}, {"entries": 10, "after_write": -1}):
-            with self.assertRaises(ValueError):
-                Cache(**settings)
-        with self.assertRaises(TypeError):
-            Cache(entries=10.0)
+            self.assertEqual((caught.exception.fault, str(caught.exception)), (2, why))
+        for name in ("entries", "shards", "window", "flights", "bound", "after_write", "after_access", "refresh"):
+            with self.assertRaisesRegex(TypeError, "^%s is 10.0, and has to be a whole number$" % name):
+                Cache(**{"entries": 10, name: 10.0})
+        for settings in ({"entries": 65_536, "shards": 1}, {"entries": 131_072, "shards": 2}, {"entries": 10, "window": 10, "flights": 4096, "bound": 2 ** 48},
+                         {"entries": 1, "window": 1, "flights": 1, "bound": 1, "shards": 4096}, {"entries": 10, "refresh": 4, "after_write": 5},
+                         {"entries": 10, "refresh": 2 ** 64 - 1}, {"entries": 10, "after_write": 2 ** 64 - 1, "after_access": 2 ** 64 - 1}):
+            with Cache(**settings) as cache:
+                cache.put("a", 1)
+                self.assertEqual(cache.look("a"), 1)
+
+    def test_a_cache_has_a_shard_for_each_65536_entries(self):
+        opened = []
+
+        class Tells(Cache):
+            def _open(self, setup, shards, *rest):
+                opened.append((setup[:4], shards))
+                super()._open(setup, shards, *rest)
+
+        for settings in ({"entries": 65_536}, {"entries": 65_537}, {"entries": 131_073, "window": 4}, {"entries": 10, "shards": 3, "bound": 10}):
+            Tells(**settings).close()
+        self.assertEqual(opened, [((65_536, 655, 1024, 2 ** 48), 1), ((32_769, 327, 1024, 2 ** 47), 2), ((43_691, 2, 1024, 93824992236886), 3), ((4, 1, 1024, 4), 3)])
 
     def test_a_setting_that_opens_the_cache_itself_leaves_it_as_it_opened_it(self):
         class Opens:

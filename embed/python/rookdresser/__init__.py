@@ -10,8 +10,9 @@ try:
 except ModuleNotFoundError as error:
     raise ImportError("rookdresser's native module isn't built: run backend.py beside the package, or install it by pip") from error
 
-from ._cache import Cache, LeftOut, Refused
+from ._cache import Cache, LeftOut
 from ._decorator import CacheInfo, cached
+from ._faults import Refused
 from ._stats import Stats
 from ._waits import WaitsForItself
 

@@ -4,13 +4,14 @@ from __future__ import annotations
 import asyncio
 import inspect
 import logging
-import operator
 import os
 from collections.abc import Coroutine
 from typing import Any, Awaitable, Callable, Dict, Hashable, Iterable, List, Mapping, Optional, Tuple, TypeVar, Union
 
 from . import _fork, _keys
+from ._faults import Refused
 from ._native import Load, Table
+from ._settings import setup_of
 from ._stats import Stats
 from ._waits import wait_in_loop, waits
 
@@ -18,16 +19,6 @@ K = TypeVar("K", bound=Hashable)
 V = TypeVar("V")
 log = logging.getLogger("rookdresser")
 NUMBERS = ("lookups", "hits", "misses", "loads", "failed", "evicted", "entries", "weight", "step", "latest", "flights")
-FAULTS = {1: "out of memory", 2: "a setting is out of its range", 3: "the value is heavier than bound", 4: "too many loads are open",
-          5: "2^60 calls were made", 100: "the cache is closed"}
-
-
-class Refused(Exception):
-    """A call was refused, and nothing has changed. `fault` is its number in rookdresser.h."""
-
-    def __init__(self, fault: int, why: Optional[str] = None) -> None:
-        super().__init__(why or FAULTS.get(fault, "fault %d" % fault))
-        self.fault = fault
 
 
 class LeftOut(KeyError):
@@ -38,14 +29,15 @@ class Cache(Table[K, V]):
     """A loading cache for threads and tasks. Keys are whatever can be hashed, values whatever there is.
 
     `entries`       how many it may hold; at most 65,536 for each shard
-    `shards`        of how many caches of the library it is made. Entries, window and bound are shared out among them evenly
+    `shards`        of how many caches of the library it is made, at most 4,096; by default one for each 65,536 entries. Entries, window
+                    and bound are shared out among them evenly
     `window`        how many of the entries the window may hold; by default a hundredth
     `flights`       how many loads each shard may have open at a time; at most 4,096
     `bound`         how much the entries may weigh together
     `weigh`         weigh(key, value) returns a value's weight, a whole number; by default each weighs 1
     `after_write`   an entry expires so many milliseconds after it was written; 0: never
     `after_access`  an entry expires so many milliseconds after it was used; 0: never
-    `refresh`       an entry is due for a further load so many milliseconds after it was written; 0: never
+    `refresh`       an entry is due for a further load so many milliseconds after it was written, fewer than `after_write`; 0: never
     `on_leave`      on_leave(key, value, cause) is called for each entry that leaves, in the thread whose call made it leave, after that
                     call's step and after the load has landed. The cause is "explicit", "replaced", "expired" or "size". What it raises
                     is logged
@@ -56,10 +48,12 @@ class Cache(Table[K, V]):
     def __init__(self, entries: int, window: Optional[int] = None, flights: int = 1024, bound: int = 1 << 48,
                  after_write: int = 0, after_access: int = 0, refresh: int = 0,
                  weigh: Optional[Callable[[K, V], int]] = None, on_leave: Optional[Callable[[K, V, str], object]] = None,
-                 clock: Optional[Callable[[], int]] = None, seeded: bool = True, shards: int = 1) -> None:
-        self._open((entries, window, flights, bound, after_write, after_access, refresh), shards, os.urandom(24) if seeded else None,
-                   _keys.SECRET, weigh, clock, on_leave, _log, _keys.plain, _keys.secret_prime(), Load, Refused, waits)
-        self._entries = operator.index(entries)
+                 clock: Optional[Callable[[], int]] = None, seeded: bool = True, shards: Optional[int] = None) -> None:
+        setup, parts, self._entries = setup_of({
+            "entries": entries, "shards": shards, "window": window, "flights": flights, "bound": bound, "after_write": after_write,
+            "after_access": after_access, "refresh": refresh})
+        self._open(setup, parts, os.urandom(24) if seeded else None, _keys.SECRET, weigh, clock, on_leave, _log, _keys.plain,
+                   _keys.secret_prime(), Load, Refused, waits)
         _fork.watch(self)
 
     def __enter__(self) -> Cache[K, V]:

@@ -10,30 +10,18 @@ PyObject *table_new(PyTypeObject *type, PyObject *args, PyObject *names) {
     return (PyObject *)self;
 }
 
-/* Raises Refused of a setting, and returns null. */
-static PyObject *out_of_range(PyObject *refusal, const char *setting) {
-    PyObject *why = PyUnicode_FromFormat("%s is out of its range", setting);
-    PyObject *error = why ? PyObject_CallFunction(refusal, "iO", RD_BAD_SETUP, why) : NULL;
-    if (error) PyErr_SetObject(refusal, error);
-    Py_XDECREF(why);
-    Py_XDECREF(error);
-    return NULL;
-}
-
-/* The setup of each shard. Entries, window and bound are of all shards together, and are shared out, rounding up. */
-static int setup_of(PyObject *given, uint64_t shards, rd_setup *setup) {
-    uint64_t number[7] = {0};
+/* The setup of each shard. _settings.py says which settings are refused, and names them. */
+static int setup_of(PyObject *given, rd_setup *setup) {
+    uint64_t number[7];
     for (int i = 0; i < 7; i++) {
         PyObject *setting = PyTuple_GetItem(given, i);
-        if (i == 1 && setting == Py_None) continue;
         Py_INCREF(setting);
         if (whole(setting, i < 3 ? 32 : 64, SETTINGS[i], &number[i]) < 0) return -1;
     }
-    uint64_t entries = number[0] / shards + (number[0] % shards != 0), bound = number[3] / shards + (number[3] % shards != 0);
-    uint64_t window = number[1] / shards + (number[1] % shards != 0);
-    if (PyTuple_GetItem(given, 1) == Py_None) window = entries / 100 ? entries / 100 : 1;
-    *setup = (rd_setup){(uint32_t)entries, (uint32_t)window, (uint32_t)number[2], bound, number[4], number[5], number[6]};
-    return 0;
+    *setup = (rd_setup){(uint32_t)number[0], (uint32_t)number[1], (uint32_t)number[2], number[3], number[4], number[5], number[6]};
+    if (!rd_check(setup)) return 0;
+    PyErr_SetString(PyExc_ValueError, "a setting is out of its range");
+    return -1;
 }
 
 static int take_seed(Table *self, PyObject *seed) {
@@ -88,13 +76,11 @@ static PyObject *table_open(Table *self, PyObject *args) {
         return opened_once();
     Py_INCREF(of_shards);
     if (whole(of_shards, 32, "shards", &shards) < 0) return NULL;
-    if (shards < 1 || shards > 4096) return out_of_range(refusal, "shards");
-    if (setup_of(given, shards, &setup) < 0) return NULL;
+    if (shards < 1 || shards > 4096) return PyErr_Format(PyExc_ValueError, "there are 1 to 4,096 shards");
+    if (setup_of(given, &setup) < 0) return NULL;
     /* Only now, as a setting's __index__ may have opened the cache. */
     if (self->load_type) return opened_once();
     if (take_seed(self, seed) < 0) return NULL;
-    uint64_t wrong = rd_check(&setup);
-    if (wrong) return out_of_range(refusal, SETTINGS[wrong - 1]);
     if (take_memory(self, &setup, shards) < 0) return NULL;
     self->hash_is_secret = (char)hash_is_secret;
     self->load_type = given_or_null(load_type), self->refusal = given_or_null(refusal), self->waits = (Waits *)given_or_null(waits);
