@@ -1,5 +1,7 @@
 #!/usr/bin/env python3
 """What README.md shows: its lines of Python are run, its settings and calls are those of the package."""
+import asyncio
+import doctest
 import inspect
 import re
 import subprocess
@@ -50,6 +52,25 @@ class Pages(unittest.TestCase):
         self.assertEqual({field for field in rookdresser.Stats._fields if field not in set(re.findall(r"\w+", README))}, set())
         named = {word for cell in re.findall(r"^\| `(.*?)\|", README.split("| Setting")[1].split("## cached")[0], re.M) for word in re.findall(r"\w+", cell)}
         self.assertEqual(named, settings)
+
+    def test_every_call_has_an_example_that_does_as_it_says(self):
+        def documented():
+            for name in sorted(set(rookdresser.__all__) - {"CacheInfo", "LeftOut", "Stats"}):
+                yield name, getattr(rookdresser, name)
+            for of in (Cache, rookdresser._native.Table, rookdresser._decorator._Info):
+                yield from ((name, call) for name, call in vars(of).items() if not name.startswith("_"))
+
+        given, names = {name: getattr(rookdresser, name) for name in rookdresser.__all__}, []
+        for name, call in documented():
+            examples = doctest.DocTestParser().get_doctest(inspect.getdoc(call), {**given, "asyncio": asyncio, "cache": Cache(entries=10)}, name, name, 0)
+            names.append(name)
+            with self.subTest(name):
+                self.assertGreater(len(examples.examples), 0)
+                told = []
+                doctest.DocTestRunner().run(examples, out=told.append)
+                self.assertEqual("".join(told), "")
+        self.assertEqual(len(names), len(set(names)))
+        self.assertLessEqual({"get", "aget", "get_many", "look", "put", "cached", "cache_info", "Refused"}, set(names))
 
 
 if __name__ == "__main__":

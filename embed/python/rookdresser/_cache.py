@@ -22,11 +22,15 @@ NUMBERS = ("lookups", "hits", "misses", "loads", "failed", "evicted", "entries",
 
 
 class LeftOut(KeyError):
-    """The function that get_many was given returned nothing for the key. Callers that share the key's load get this."""
+    """The function that get_many was given returned nothing for the key. Callers of get or aget that share the key's load get this."""
 
 
 class Cache(Table[K, V]):
     """A loading cache for threads and tasks. Keys are whatever can be hashed, values whatever there is.
+
+    >>> with Cache(entries=1000, after_write=60_000) as cache:
+    ...     cache.get("a", str.upper)
+    'A'
 
     `entries`       how many it may hold; at most 65,536 for each shard
     `shards`        of how many caches of the library it is made, at most 4,096; by default one for each 65,536 entries. Entries, window
@@ -79,6 +83,11 @@ class Cache(Table[K, V]):
         """Returns what get returns, for a task: neither the load nor the wait for another's blocks the loop.
 
         `load` may return an awaitable. To give up a wait, use asyncio.wait_for or asyncio.timeout.
+
+        >>> async def load(key):
+        ...     return key.upper()
+        >>> asyncio.run(cache.aget("a", load))
+        'A'
         """
         if not callable(load):
             raise TypeError("load has to be callable; for a default use look(key, default)")
@@ -129,6 +138,9 @@ class Cache(Table[K, V]):
         A key that load_many leaves out isn't in what is returned, and nothing is stored for it. What load_many raises is raised here,
         and in all who share one of its loads. Loads that others make of these keys are waited for last, each for at most `timeout`
         seconds; if such a load ends by SystemExit or the like, load_many is called once more, for its key.
+
+        >>> cache.get_many(["a", "b"], lambda keys: {key: key.upper() for key in keys})
+        {'a': 'A', 'b': 'B'}
         """
         if not callable(load_many):
             raise TypeError("load_many has to be callable")
@@ -192,16 +204,30 @@ class Cache(Table[K, V]):
             raise TypeError(why)
 
     def put_many(self, values: Union[Mapping[K, V], Iterable[Tuple[K, V]]]) -> None:
-        """Stores each value under its key, of a mapping or of pairs, in their order. If one is refused, those before it are stored."""
+        """Stores each value under its key, of a mapping or of pairs, in their order. If one is refused, those before it are stored.
+
+        >>> cache.put_many({"a": 1, "b": 2})
+        >>> cache["a"], len(cache)
+        (1, 2)
+        """
         for key, value in values.items() if isinstance(values, Mapping) else values:
             self.put(key, value)
 
     def numbers(self) -> Dict[str, int]:
-        """Returns the numbers of the library, by name, of all shards together."""
+        """Returns the numbers of the library, by name, of all shards together.
+
+        >>> cache.put("a", 1)
+        >>> cache.numbers()["entries"]
+        1
+        """
         return dict(zip(NUMBERS, self._numbers()))
 
     def stats(self) -> Stats:
-        """Returns what this side has counted."""
+        """Returns what this side has counted.
+
+        >>> "a" in cache, cache.stats().misses
+        (False, 1)
+        """
         return Stats(*self._counts())
 
 

@@ -30,12 +30,22 @@ class _Info:
         self.cache, self.before = cache, (0, 0)
 
     def cache_info(self) -> CacheInfo:
-        """Returns hits and misses since the cache was opened or cleared, how many entries it may hold, and how many it holds."""
+        """Returns hits and misses since the cache was opened or cleared, how many entries it may hold, and how many it holds.
+
+        >>> upper = cached(entries=10)(str.upper)
+        >>> upper("a"), upper("a"), upper.cache_info()
+        ('A', 'A', CacheInfo(hits=1, misses=1, maxsize=10, currsize=1))
+        """
         stats = self.cache.stats()
         return CacheInfo(stats.hits - self.before[0], stats.misses - self.before[1], self.cache._entries, len(self.cache))
 
     def cache_clear(self) -> None:
-        """Takes every entry out, and begins to count anew."""
+        """Takes every entry out, and begins to count anew.
+
+        >>> upper = cached(entries=10)(str.upper)
+        >>> upper("a"), upper.cache_clear(), upper.cache_info()
+        ('A', None, CacheInfo(hits=0, misses=0, maxsize=10, currsize=0))
+        """
         self.cache.clear()
         stats = self.cache.stats()
         self.before = stats.hits, stats.misses
@@ -70,6 +80,12 @@ def cached(*given: Any, key: Optional[Callable[..., Hashable]] = None, **setting
     caller, so its function is refused with TypeError.
 
     The function gets the attributes `cache`, `cache_info`, `cache_clear` and `__wrapped__`.
+
+    >>> @cached(entries=10)
+    ... def double(number):
+    ...     return 2 * number
+    >>> double(7), double(7)
+    (14, 14)
     """
     if given:
         raise TypeError("cached takes settings, by name: write @cached(entries=1000) above the function")

@@ -7,7 +7,14 @@ FAULTS = {1: "out of memory", BAD_SETUP: "a setting is out of its range", 3: "th
 
 
 class Refused(Exception):
-    """A call was refused, and nothing has changed. `fault` is its number in rookdresser.h."""
+    """A call was refused, and nothing has changed. `fault` is its number in rookdresser.h.
+
+    >>> try:
+    ...     Cache(entries=0)
+    ... except Refused as refused:
+    ...     print(refused.fault, refused)
+    2 entries is 0, and has to be from 1 to 268435456
+    """
 
     def __init__(self, fault: int, why: Optional[str] = None) -> None:
         super().__init__(why or FAULTS.get(fault, "fault %d" % fault))

@@ -20,6 +20,12 @@ class WaitsForItself(RuntimeError):
 
     A load asked for its own key, or loads wait for each other in a circle, or get() in the thread of a loop would wait for a task
     of that loop.
+
+    >>> try:
+    ...     cache.get("a", lambda key: cache.get(key, str.upper))
+    ... except WaitsForItself as error:
+    ...     print(error)
+    the load of the key waits for this very caller
     """
 
 

@@ -253,32 +253,64 @@ PyMethodDef call_methods[] = {
      "The value's age counts from this call, not from the end of the load. If an entry is due for a refresh, the first caller that asks\n"
      "loads it and gets the new value, or the old one if that load fails. What `load` raises is raised in all who share it, but for\n"
      "SystemExit, KeyboardInterrupt and the like: then the others ask again. `timeout` is in seconds, and limits how long another's load\n"
-     "is waited for: then TimeoutError is raised. WaitsForItself is raised if the load waits for this caller."},
+     "is waited for: then TimeoutError is raised. WaitsForItself is raised if the load waits for this caller.\n\n"
+     ">>> cache.get(\"a\", str.upper), cache.get(\"a\", str.lower)\n"
+     "('A', 'A')"},
     {"look", METHOD(table_look), FAST,
      "look($self, key, default=None)\n--\n\n"
-     "Returns the key's value if it is there, else `default`, without any load. It is a use of the entry."},
+     "Returns the key's value if it is there, else `default`, without any load. It is a use of the entry.\n\n"
+     ">>> cache.look(\"a\"), cache.look(\"a\", 7)\n"
+     "(None, 7)"},
     {"put", METHOD(table_put), FAST,
      "put($self, key, value)\n--\n\n"
-     "Stores the value under the key. An open load of the key will store nothing."},
+     "Stores the value under the key. An open load of the key will store nothing.\n\n"
+     ">>> cache.put(\"a\", 1)\n"
+     ">>> cache.look(\"a\")\n"
+     "1"},
     {"pop", METHOD(table_pop), FAST,
      "pop($self, key, default=...)\n--\n\n"
      "Takes the key's entry out, and returns its value; if there is none, `default`, or KeyError. It is counted as a look.\n"
-     "An open load of the key will store nothing."},
+     "An open load of the key will store nothing.\n\n"
+     ">>> cache.put(\"a\", 1)\n"
+     ">>> cache.pop(\"a\"), cache.pop(\"a\", None)\n"
+     "(1, None)"},
     {"drop", METHOD(table_drop), METH_O,
      "drop($self, key, /)\n--\n\n"
-     "Takes the key's entry out; an open load of it will store nothing. Returns whether an entry was there."},
+     "Takes the key's entry out; an open load of it will store nothing. Returns whether an entry was there.\n\n"
+     ">>> cache.put(\"a\", 1)\n"
+     ">>> cache.drop(\"a\"), cache.drop(\"a\")\n"
+     "(True, False)"},
     {"forget", METHOD(table_forget), METH_O,
      "forget($self, key, /)\n--\n\n"
-     "Lets nobody else join an open load of the key, which will store nothing. Returns whether there was one."},
+     "Lets nobody else join an open load of the key, which will store nothing. Returns whether there was one.\n\n"
+     ">>> cache.get(\"a\", cache.forget)\n"
+     "True\n"
+     ">>> \"a\" in cache\n"
+     "False"},
     {"clear", METHOD(table_clear), METH_NOARGS,
      "clear($self)\n--\n\n"
-     "Takes every entry out; the open loads will store nothing."},
+     "Takes every entry out; the open loads will store nothing.\n\n"
+     ">>> cache.put(\"a\", 1)\n"
+     ">>> cache.clear()\n"
+     ">>> len(cache)\n"
+     "0"},
     {"clean", METHOD(table_clean), METH_NOARGS,
      "clean($self)\n--\n\n"
-     "Takes every expired entry out."},
+     "Takes every expired entry out.\n\n"
+     ">>> now = 0\n"
+     ">>> cache = Cache(entries=10, after_write=5, clock=lambda: now)\n"
+     ">>> cache.put(\"a\", 1)\n"
+     ">>> now = 5\n"
+     ">>> cache.clean()\n"
+     ">>> len(cache)\n"
+     "0"},
     {"close", METHOD(table_close), METH_NOARGS,
      "close($self)\n--\n\n"
-     "Closes the cache, and reports every entry to on_leave as \"explicit\". Closing it again does nothing."},
+     "Closes the cache, and reports every entry to on_leave as \"explicit\". Closing it again does nothing.\n\n"
+     ">>> cache = Cache(entries=10, on_leave=print)\n"
+     ">>> cache.put(\"a\", 1)\n"
+     ">>> cache.close()\n"
+     "a 1 explicit"},
     {"_seek", METHOD(table_seek), METH_VARARGS,
      "Looks the key up, and joins a load or opens the given one, of this task or else of this thread, with the loop that runs in it:\n"
      "(value, None), or (None, the load)."},

@@ -128,10 +128,19 @@ PyObject *table_iter(Table *self) {
 PyMethodDef held_methods[] = {
     {"kept", METHOD(table_kept), METH_NOARGS,
      "kept($self)\n--\n\n"
-     "Returns how many values this side keeps, and how many keys, of entries and open loads."},
+     "Returns how many values this side keeps, and how many keys, of entries and open loads.\n\n"
+     ">>> cache.put(\"a\", 1)\n"
+     ">>> cache.kept()\n"
+     "(1, 1)"},
     {"refused", METHOD(table_refused), METH_NOARGS,
      "refused($self)\n--\n\n"
-     "Returns how many calls were refused, by the fault's number."},
+     "Returns how many calls were refused, by the fault's number.\n\n"
+     ">>> cache = Cache(entries=10, bound=5, weigh=lambda key, value: value)\n"
+     ">>> try:\n"
+     "...     cache.put(\"a\", 6)\n"
+     "... except Refused as refused:\n"
+     "...     print(refused, refused.fault, cache.refused())\n"
+     "the value is heavier than bound 3 {3: 1}"},
     {"_numbers", METHOD(table_numbers), METH_NOARGS, "The numbers of the library, of all shards together."},
     {"_counts", METHOD(table_counts), METH_NOARGS, "What this side counted, in the order of Stats."},
     {"_uses", METHOD(table_uses), METH_NOARGS, "(hash, number, load or None) of each key of an entry or an open load."},
