@@ -2,15 +2,17 @@
 """What README.md shows: its lines of Python are run, its settings and calls are those of the package."""
 import asyncio
 import doctest
+import functools
 import inspect
 import re
 import subprocess
 import sys
+import threading
 import unittest
 from pathlib import Path
 
 import rookdresser
-from rookdresser import Cache
+from rookdresser import Cache, Refused, cached
 
 HERE = Path(__file__).resolve().parent
 README = (HERE / "README.md").read_text()
@@ -52,6 +54,63 @@ class Pages(unittest.TestCase):
         self.assertEqual({field for field in rookdresser.Stats._fields if field not in set(re.findall(r"\w+", README))}, set())
         named = {word for cell in re.findall(r"^\| `(.*?)\|", README.split("| Setting")[1].split("## cached")[0], re.M) for word in re.findall(r"\w+", cell)}
         self.assertEqual(named, settings)
+
+    def test_what_the_page_tells_users_of_lru_cache(self):
+        def joined(asked):
+            return hasattr(asked, "cache") and asked.cache.stats().joins
+
+        def runs(decorate):
+            """How often a function runs if a second call with equal arguments begins while the first one runs it."""
+            made = []
+
+            def run(number):
+                made.append(number)
+                if len(made) == 1:
+                    thread.start()
+                    while len(made) == 1 and not joined(asked):
+                        pass
+                return number
+
+            asked = decorate(run)
+            thread = threading.Thread(target=asked, args=(7,))
+            asked(7)
+            thread.join()
+            return len(made)
+
+        self.assertEqual((runs(functools.lru_cache(10)), runs(cached(entries=10))), (2, 1))
+        for decorate in (functools.lru_cache(10), cached(entries=10)):
+            f = decorate(lambda x: x)
+            f(1), f(1), f(2)
+            self.assertEqual((tuple(f.cache_info()), f.__wrapped__(3), f.cache_clear(), tuple(f.cache_info())), ((1, 2, 10, 2), 3, None, (0, 0, 10, 0)))
+        typed, plain = cached(entries=10, key=lambda x: (type(x), x))(lambda x: x), cached(entries=10)(lambda x: x)
+        self.assertEqual([repr(f(x)) for f in (typed, plain) for x in (1, 1.0)], ["1", "1.0", "1", "1"])
+        self.assertEqual((plain.cache.drop((1,)), repr(plain(1.0)), hasattr(plain, "cache_parameters")), (True, "1.0", False))
+
+    def test_what_the_page_tells_users_of_cachetools(self):
+        try:
+            import cachetools
+        except ImportError:
+            self.skipTest("cachetools isn't there")
+        now, left = [0], []
+        theirs = cachetools.TTLCache(10, ttl=60, timer=lambda: now[0])
+        ours = Cache(entries=10, after_write=60_000, clock=lambda: 1000 * now[0], on_leave=lambda *of: left.append(of))
+        theirs.update({"a": 1, "b": 2})
+        ours.put_many({"a": 1, "b": 2})
+        for cache, look in ((theirs, theirs.get), (ours, ours.look)):
+            self.assertEqual((cache["a"], "b" in cache, look("c"), look("c", 7), cache.pop("b"), cache.pop("b", 8), len(cache)), (1, True, None, 7, 2, 8, 1))
+        now[0] = 60
+        self.assertEqual((len(theirs), len(ours), theirs.get("a"), list(theirs)), (0, 1, None, []))
+        theirs.expire(), ours.clean()
+        self.assertEqual((len(ours), left), (0, [("b", 2, "explicit"), ("a", 1, "expired")]))
+        for name in ("setdefault", "popitem", "items", "values", "keys"):
+            self.assertTrue(hasattr(theirs, name) and not hasattr(ours, name), name)
+        with self.assertRaises(ValueError):
+            cachetools.LRUCache(5, getsizeof=lambda value: value)["a"] = 6
+        with self.assertRaises(Refused):
+            Cache(entries=10, bound=5, weigh=lambda key, value: value)["a"] = 6
+        for decorate in (cachetools.cached(cachetools.LRUCache(10), key=lambda x: x // 2), cached(entries=10, key=lambda x: x // 2)):
+            f = decorate(lambda x: x)
+            self.assertEqual((f(2), f(3), f(4)), (2, 2, 4))
 
     def test_every_call_has_an_example_that_does_as_it_says(self):
         def documented():
