@@ -24,7 +24,7 @@ function load() {
 function prepared([kind, title, address, text], at) {
   const name = title.toLowerCase();
   const first = name.split(" ")[0];
-  return { kind, title, address, text, at, name, first, last: first.split("::").pop(), small: text.toLowerCase() };
+  return { kind, title, address, text, at, name, first, last: first.split(/::|\./).pop(), small: text.toLowerCase() };
 }
 
 // A word that is searched for: alone, not as a part of a longer word, and at the beginning of one.

@@ -5,7 +5,7 @@ from multiprocessing.pool import ThreadPool
 from places import TOP, markdown_pages
 from rules import PAGE
 
-from . import markdown, reference
+from . import markdown, reference, wrappers
 from .site import Site, plain
 from .tree import Tree, only_tests
 
@@ -28,6 +28,7 @@ def build(folder):
     site = Site(folder, tree)
     groups = grouped([str(path.relative_to(TOP)) for path in markdown_pages()], tree)
     titles = hand_written(site, [name for names in groups.values() for name in names])
+    wrappers.pages(site)
     reference.reading(tree, site, "../" + site.address_of(PAGE))
     reference.crate_pages(tree, site)
     reference.labels(site)
@@ -72,5 +73,7 @@ def contents(groups, titles, tree):
     rows = [("How to read it", "reference/index.html"), *(("%s: calls" % name, "reference/%s.html" % name) for name in tree.shown),
             ("Labels of clauses", "reference/labels.html"), ("Words of Rattle’s library", "reference/rattle.html")]
     found = {group: [(titles[name], "index.html" if name == "README.md" else name[:-3] + ".html") for name in names] for group, names in groups.items()}
+    calls = {about: ("%s: calls" % language, wrappers.address_of(language)) for language, _, about in wrappers.LANGUAGES}
+    found["Languages"] = [row for name, page in zip(groups["Languages"], found["Languages"]) for row in (page, calls.get(name)) if row]
     first = [(group, found.pop(group)) for group in ("Guides", "Languages")]
     return [*first, ("Calls in Rattle", rows), *found.items()]

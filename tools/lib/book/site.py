@@ -116,15 +116,19 @@ class Site:
 
     def with_links(self, body, source, here):
         """The HTML of a Markdown text of the tree with its links led to the book's pages, and names of calls and types made links."""
-        def led(found):
-            before, href, after, name = found.groups()
-            return before + html.escape(self.led(html.unescape(href), name, source, here)) + after
-
         def named(found):
             return found.group() if found.group(1) else self.link(self.tree.symbol(found.group(2), crate), here, found.group())
 
         crate = crate_of(source)
-        return CODE.sub(named, HREF.sub(led, body))
+        return CODE.sub(named, self.with_links_led(body, source, here))
+
+    def with_links_led(self, body, source, here):
+        """The same with its links alone led."""
+        def led(found):
+            before, href, after, name = found.groups()
+            return before + html.escape(self.led(html.unescape(href), name, source, here)) + after
+
+        return HREF.sub(led, body)
 
     def led(self, href, name, source, here):
         """Where a link of a file of the tree leads in the book. A link whose text is a name leads to the entry of that name, if there is one."""
