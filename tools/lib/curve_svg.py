@@ -210,8 +210,8 @@ def gain_told(curves):
     """The size at which the difference from LRU is greatest, in words."""
     ours = next(iter(curves))
     at = max(curves[ours], key=lambda n: abs(curves[ours][n] - curves["LRU"][n]))
-    return "With {:,} entries {:.0f} % of look-ups hit; LRU {:.0f} %, the optimum {:.0f} %".format(
-        at, *(100 * curves[name][at] for name in (ours, "LRU", "optimum")))
+    told = "With {:,} entries {:.0f} % of look-ups hit; LRU {:.0f} %".format(at, 100 * curves[ours][at], 100 * curves["LRU"][at])
+    return told + (", the optimum {:.0f} %".format(100 * curves["optimum"][at]) if "optimum" in curves else "")
 
 
 def draw(title, told, curves, sweep_at, sweep):

@@ -111,15 +111,21 @@ def read_csv(source, given):
     _, header = next(rows, (0, None)) if given.header else (0, None)
     at = column_at(given.column, header, "column")
     when = None if given.time_column is None else column_at(given.time_column, header, "time column")
+    # Only tools/hit_curve takes weights.
+    named = getattr(given, "weight_column", None)
+    weighs = None if named is None else column_at(named, header, "weight column")
     for before, row in rows:
-        fault, moment = None, 0.0
-        if max(at, when or 0) >= len(row):
+        fault, moment, weight = None, 0.0, 1
+        if max(at, when or 0, weighs or 0) >= len(row):
             fault = "has only %d columns" % len(row)
         elif when is not None:
             moment = moment_of(row[when], given.unit)
             fault = None if moment is not None else "has neither a number nor an ISO 8601 time as its time"
+        if fault is None and weighs is not None:
+            fault = None if is_number(row[weighs].strip().encode("utf-8", "surrogateescape")) else "has no whole number as its weight"
+            weight = int(row[weighs]) if fault is None else 1
         if fault is None:
-            yield row[at].encode("utf-8", "surrogateescape"), moment
+            yield row[at].encode("utf-8", "surrogateescape"), moment, weight
         elif not given.skip_bad:
             raise BadInput("line %d %s: %s" % (before + 1, fault, ",".join(row)[:60]))
 
@@ -162,7 +168,7 @@ class Sample:
     there are too many."""
 
     def __init__(self, most, one_in):
-        self.most, self.one_in, self.pairs, self.words = most, one_in, [], {}
+        self.most, self.one_in, self.rows, self.words = most, one_in, [], {}
 
     def word(self, key):
         """The hash that a sample goes by. A number has the same one with zeros before it."""
@@ -175,17 +181,17 @@ class Sample:
     def keeps(self, key):
         return self.one_in == 1 or self.word(key) % self.one_in == 0
 
-    def add(self, key, moment):
+    def add(self, key, moment, weight=1):
         if self.keeps(key):
-            self.pairs.append((key, moment))
+            self.rows.append((key, moment, weight))
             self.fit(self.most)
 
     def fit(self, most):
-        while len(self.pairs) > most:
+        while len(self.rows) > most:
             if self.one_in > BELOW_64:
                 raise BadInput("one key has more than %d lines, and a trace takes no more" % most)
             self.one_in *= 2
-            self.pairs = [pair for pair in self.pairs if self.keeps(pair[0])]
+            self.rows = [row for row in self.rows if self.keeps(row[0])]
 
 
 class Kinds:
@@ -211,13 +217,14 @@ class Kinds:
 
 
 class Lines:
-    """Keys as a trace writes them, each with its moment; how they are written, and how each is; and of how many keys one was kept."""
+    """Keys as a trace writes them, each with its moment and weight; how they are written, and how each is; of how many keys one was kept."""
 
     def __init__(self, kind, sample):
         self.kind, self.one_in = kind, sample.one_in
-        self.written = {key: text_of(key, kind, number) for number, key in enumerate(dict.fromkeys(key for key, _ in sample.pairs), 1)}
-        self.keys = [self.written[key] for key, _ in sample.pairs]
-        self.moments = [moment for _, moment in sample.pairs]
+        self.written = {key: text_of(key, kind, number) for number, key in enumerate(dict.fromkeys(key for key, _, _ in sample.rows), 1)}
+        self.keys = [self.written[key] for key, _, _ in sample.rows]
+        self.moments = [moment for _, moment, _ in sample.rows]
+        self.weights = [weight for _, _, weight in sample.rows]
         self.different = len(set(self.written.values()))
 
 
@@ -233,16 +240,16 @@ def text_of(key, kind, number):
 def read(source, given, wanted="auto", progress=None):
     """The lines of a trace that other data make: of a form, with options, as `add_arguments` has them."""
     sample, kinds, number = Sample(MOST_LINES, given.sample or 1), Kinds(), 0
-    for number, (key, moment) in enumerate(FORMS[given.form](lines_of(source), given), 1):
+    for number, (key, *more) in enumerate(FORMS[given.form](lines_of(source), given), 1):
         kinds.add(key)
-        sample.add(key, moment)
+        sample.add(key, *more)
         if progress and number % 1000 == 0:
             progress.tell("{:,} keys read".format(number))
     kind = kinds.chosen(wanted)
     if kind == "names":
         # The header is a line too.
         sample.fit(MOST_LINES - 1)
-    if number and not sample.pairs:
+    if number and not sample.rows:
         raise BadInput("no key is left of one in %d" % sample.one_in)
     return Lines(kind, sample)
 
