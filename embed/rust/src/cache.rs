@@ -102,7 +102,8 @@ impl<K: Hash + Eq + Clone, V, S: BuildHasher> Cache<K, V, S> {
     /// ```
     pub fn seek(&mut self, key: &K, now: u64) -> Result<(Found, AllLeft<K, V>), Fault> {
         let place = self.place(key);
-        let found = self.store.tokens.seek(self.store.table.number(&place), now)?;
+        let number = self.store.table.number(&place);
+        let found = self.store.library.made(now, |tokens, now| tokens.seek(number, now))?;
         if matches!(found, Found::Lead(_) | Found::HitLead(..)) {
             self.store.table.open(place);
         }
@@ -198,8 +199,8 @@ impl<K: Hash + Eq + Clone, V, S: BuildHasher> Cache<K, V, S> {
     // No load of the key is open, as the key isn't in use.
     fn land_nothing(&mut self, id: u64, key: &K, now: u64) -> (Landed, AllLeft<K, V>) {
         let number = self.number(key);
-        let landed = self.store.tokens.land_failed(id, number, now).unwrap_or(Landed::Gone);
-        (landed, self.store.left().into_vec())
+        let landed = self.store.library.made(now, |tokens, now| tokens.land_failed(id, number, now));
+        (landed.unwrap_or(Landed::Gone), self.store.left().into_vec())
     }
 
     /// Takes the key's entry out. A load of the key that is open will store nothing.

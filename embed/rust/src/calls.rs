@@ -1,8 +1,9 @@
 //! The calls on a key that load nothing.
-use crate::loading::{Loading, Locked};
+use crate::loading::Loading;
 use crate::panics::{Guarded, Panics};
 use crate::plain::are_plain;
 use crate::shard::{AllGone, Gone};
+use crate::shared::Locked;
 use crate::Fault;
 use std::borrow::Borrow;
 use std::hash::{BuildHasher, Hash};
@@ -42,7 +43,10 @@ impl<K: Hash + Eq, V, E, S: BuildHasher> Loading<K, V, E, S> {
         Q: Hash + Eq + ?Sized,
     {
         let hash = self.hash(key);
-        let mut shard = self.shard(hash).take();
+        let mut shard = match self.hit(hash, key, now) {
+            Ok(value) => return Ok(Some(value)),
+            Err(shard) => shard,
+        };
         if !are_plain::<K, Q>() {
             if let Some((row, at)) = self.only(&shard, hash) {
                 let found = self.looked(shard, Some(at), hash, now);

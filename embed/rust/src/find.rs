@@ -1,8 +1,9 @@
 //! Which row is a key's. Keys of the caller's are compared and cloned while the lock is given back.
-use crate::loading::{Loading, Locked};
+use crate::loading::Loading;
 use crate::panics::{Guarded, Panics};
 use crate::plain::are_plain;
 use crate::several::Several;
+use crate::shared::Locked;
 use crate::table::Place;
 use std::borrow::Borrow;
 use std::hash::{BuildHasher, Hash, Hasher};
@@ -26,6 +27,48 @@ impl<K, V, E, S> Loading<K, V, E, S> {
         let mut hasher = self.hasher.build_hasher();
         key.hash(&mut hasher);
         hasher.finish()
+    }
+
+    /// The key's value, if its shard is open and the call is sure to hit; or else the shard, for the call to be made alone.
+    #[inline(always)]
+    pub(crate) fn hit<Q>(&self, hash: u64, key: &Q, now: u64) -> Result<Arc<V>, Locked<'_, K, V, E>>
+    where
+        K: Borrow<Q>,
+        Q: Eq + ?Sized,
+    {
+        let shard = self.shard(hash);
+        loop {
+            match self.hit_beside_others(hash, key, now) {
+                Some(Some(value)) => return Ok(value),
+                Some(None) => return Err(shard.take()),
+                None => {}
+            }
+            // If the shard has opened since, the call looks again: it would close it.
+            if let Some(shard) = shard.take_for_look() {
+                return Err(shard);
+            }
+        }
+    }
+
+    // The value if the call is sure to hit. Nothing if the shard is closed.
+    #[inline(always)]
+    fn hit_beside_others<Q>(&self, hash: u64, key: &Q, now: u64) -> Option<Option<Arc<V>>>
+    where
+        K: Borrow<Q>,
+        Q: Eq + ?Sized,
+    {
+        if are_plain::<K, Q>() {
+            return self.shard(hash).beside_others(|shard, hits| {
+                let (_, row) = shard.store.table.rows(hash).find(|(_, row)| (*row.key).borrow() == key)?;
+                shard.hit(row, now, hits)
+            });
+        }
+        let found = self.shard(hash).beside_others(|shard, hits| {
+            let row = shard.store.table.row(shard.store.table.only(hash)?);
+            let value = shard.hit(row, now, hits)?;
+            Some((Guarded::of(row.key.clone()), value))
+        })?;
+        Some(found.and_then(|(row, value)| self.is_of(row, key, value)))
     }
 
     /// The row that is alone of its hash. It is nearly always the key's: a call uses it at once, and has the key compared by

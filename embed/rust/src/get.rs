@@ -1,9 +1,10 @@
 //! A look-up that loads what isn't there.
 use crate::flight::{own_thread, Flight, Outcome};
 use crate::lead::Lead;
-use crate::loading::{Loading, Locked};
+use crate::loading::Loading;
 use crate::panics::{Guarded, Panics};
 use crate::plain::are_plain;
+use crate::shared::Locked;
 use crate::table::Place;
 use crate::{Fault, Found, GetError};
 use std::borrow::Borrow;
@@ -121,7 +122,10 @@ impl<K: Hash + Eq, V, E, S: BuildHasher> Loading<K, V, E, S> {
         K: Borrow<Q>,
         Q: Hash + Eq + ToOwned<Owned = K> + ?Sized,
     {
-        let shard = self.shard(hash).take();
+        let shard = match self.hit(hash, key, now) {
+            Ok(value) => return Ok(Sought::Value(value)),
+            Err(shard) => shard,
+        };
         if are_plain::<K, Q>() {
             let (shard, place, _) = self.place(shard, hash, key);
             return self.sought(shard, hash, place, now);

@@ -1,9 +1,9 @@
 //! A load that this thread makes.
 use crate::flight::Outcome;
 use crate::listener::Listener;
-use crate::lock::Lock;
 use crate::panics::Panics;
-use crate::shard::{AllGone, Shard};
+use crate::shard::AllGone;
+use crate::shared::Shared;
 use crate::store::Ended;
 use crate::{GetError, Landed};
 use std::sync::Arc;
@@ -12,7 +12,7 @@ use std::time::Instant;
 /// A load that this thread makes. If it is dropped before it lands, it lands as failed and those who joined ask again.
 pub(crate) struct Lead<'a, K, V, E> {
     pub(crate) listener: &'a Listener<K, V>,
-    pub(crate) shard: &'a Lock<Shard<K, V, E>>,
+    pub(crate) shard: &'a Shared<K, V, E>,
     pub(crate) id: u64,
     /// The place of the load among those of the shard.
     pub(crate) load: u32,

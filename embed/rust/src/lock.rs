@@ -1,6 +1,12 @@
 //! Locks under which no code of the caller's runs.
 use std::sync::{Mutex, MutexGuard, PoisonError, TryLockError};
 
+/// A lock that was taken. In tests, threads may take turns at locks.
+#[cfg(not(test))]
+pub(crate) type Taken<'a, T> = MutexGuard<'a, T>;
+#[cfg(test)]
+pub(crate) use crate::turns::Taken;
+
 /// A lock on two cache lines of its own, which processors fetch together: whoever takes one doesn't slow its neighbours.
 #[repr(align(128))]
 pub(crate) struct Lock<T>(Mutex<T>);
@@ -12,33 +18,65 @@ impl<T> Lock<T> {
 
     /// Takes the lock. It is held for much less than a sleep takes, so a thread that finds it taken tries some times before.
     #[inline]
-    pub(crate) fn take(&self) -> MutexGuard<'_, T> {
-        self.try_take().unwrap_or_else(|| self.wait())
+    pub(crate) fn take(&self) -> Taken<'_, T> {
+        #[cfg(test)]
+        crate::turns::takes(self.address());
+        self.attempt().unwrap_or_else(|| self.wait())
+    }
+
+    /// Takes the lock if nobody has it.
+    #[inline]
+    pub(crate) fn try_take(&self) -> Option<Taken<'_, T>> {
+        #[cfg(test)]
+        crate::turns::uses(self.address());
+        self.attempt()
+    }
+
+    /// What it guards, for whoever has it alone.
+    #[inline(always)]
+    pub(crate) fn get_mut(&mut self) -> &mut T {
+        self.0.get_mut().unwrap_or_else(PoisonError::into_inner)
     }
 
     #[inline]
-    fn try_take(&self) -> Option<MutexGuard<'_, T>> {
+    fn attempt(&self) -> Option<Taken<'_, T>> {
         match self.0.try_lock() {
-            Ok(guard) => Some(guard),
-            Err(TryLockError::Poisoned(poisoned)) => Some(poisoned.into_inner()),
+            Ok(guard) => Some(self.taken(guard)),
+            Err(TryLockError::Poisoned(poisoned)) => Some(self.taken(poisoned.into_inner())),
             Err(TryLockError::WouldBlock) => None,
         }
     }
 
+    #[cfg(not(test))]
+    #[inline(always)]
+    fn taken<'a>(&self, guard: MutexGuard<'a, T>) -> Taken<'a, T> {
+        guard
+    }
+
+    #[cfg(test)]
+    fn taken<'a>(&self, guard: MutexGuard<'a, T>) -> Taken<'a, T> {
+        Taken::of(guard, self.address())
+    }
+
+    #[cfg(test)]
+    fn address(&self) -> usize {
+        std::ptr::from_ref(self) as usize
+    }
+
     // Pauses that grow, 127 in all, then three yields, then std's own wait.
     #[cold]
-    fn wait(&self) -> MutexGuard<'_, T> {
+    fn wait(&self) -> Taken<'_, T> {
         for round in 0..10 {
             if round < 7 {
                 (0..1 << round).for_each(|_| std::hint::spin_loop());
             } else {
                 std::thread::yield_now();
             }
-            if let Some(guard) = self.try_take() {
+            if let Some(guard) = self.attempt() {
                 return guard;
             }
         }
-        locked(&self.0)
+        self.taken(locked(&self.0))
     }
 }
 

@@ -1,9 +1,11 @@
 //! What one lock of a [`Loading`](crate::Loading) guards.
 use crate::flight::Flight;
+use crate::library::Note;
+use crate::shared::Hits;
 use crate::slab::Slab;
 use crate::store::{AllLeft, Store};
-use crate::table::Place;
-use crate::{Fault, Left, OpenError, Setup, Stats};
+use crate::table::{Place, Row};
+use crate::{Fault, Left, Numbers, OpenError, Setup, Stats};
 use std::sync::Arc;
 use std::thread::ThreadId;
 
@@ -25,11 +27,13 @@ pub(crate) struct Shard<K, V, E> {
     /// The open loads. A row names its key's newest one.
     pub(crate) loads: Slab<Load<V, E>>,
     pub(crate) stats: Stats,
+    /// Hits that the library will never hear of.
+    pub(crate) untold: u64,
 }
 
 impl<K, V, E> Shard<K, V, E> {
     pub(crate) fn open(setup: &Setup) -> Result<Self, OpenError> {
-        Ok(Shard { store: Store::open(setup)?, loads: Slab::new(), stats: Stats::default() })
+        Ok(Shard { store: Store::open(setup)?, loads: Slab::new(), stats: Stats::default(), untold: 0 })
     }
 
     /// Looks up the key of a row, or a new key of this hash.
@@ -46,6 +50,16 @@ impl<K, V, E> Shard<K, V, E> {
             }
             Err(fault) => Err(self.stats.refuse(fault)),
         }
+    }
+
+    /// A hit of the row beside others, if it is sure to be one.
+    #[inline]
+    pub(crate) fn hit(&self, row: &Row<K, Arc<V>>, now: u64, hits: &mut Hits) -> Option<Arc<V>> {
+        let value = row.value.as_ref()?;
+        let now = self.store.library.hit_at(now, row.until)?;
+        let value = value.clone();
+        hits.note(Note { number: row.number, now, until: row.until }, self);
+        Some(value)
     }
 
     /// Notes the newest load of the row, which the thread makes. Returns its place.
@@ -67,6 +81,13 @@ impl<K, V, E> Shard<K, V, E> {
     #[inline]
     pub(crate) fn counted<T>(&mut self, made: Result<T, Fault>) -> Result<T, Fault> {
         made.map_err(|fault| self.stats.refuse(fault))
+    }
+
+    /// The library's numbers, as if it had heard of each hit.
+    pub(crate) fn numbers(&mut self) -> Numbers {
+        let (numbers, untold) = (self.store.numbers(), self.untold);
+        let Numbers { lookups, hits, step, .. } = numbers;
+        Numbers { lookups: lookups + untold, hits: hits + untold, step: step + untold, ..numbers }
     }
 
     pub(crate) fn stats(&self) -> Stats {

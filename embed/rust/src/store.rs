@@ -1,8 +1,9 @@
 //! Tokens with the values and the keys that they stand for. No code of the caller's runs here: what leaves is moved out.
+use crate::library::Library;
 use crate::panics::Panics;
 use crate::several::Several;
 use crate::table::{Place, Table};
-use crate::{Fault, Found, Landed, Numbers, OpenError, Setup, Token, Tokens};
+use crate::{Fault, Found, Landed, Numbers, OpenError, Setup, Token};
 use std::sync::Arc;
 
 /// Why an entry left.
@@ -36,7 +37,7 @@ pub(crate) type AllLeft<K, V> = Several<Left<Arc<K>, V>>;
 ///
 /// A call that makes entries leave adds them to what it is handed.
 pub(crate) struct Store<K, V> {
-    pub(crate) tokens: Tokens,
+    pub(crate) library: Library,
     pub(crate) table: Table<K, V>,
     /// How many entries have left, by their cause.
     pub(crate) causes: [u64; 4],
@@ -44,7 +45,7 @@ pub(crate) struct Store<K, V> {
 
 impl<K, V> Store<K, V> {
     pub(crate) fn open(setup: &Setup) -> Result<Self, OpenError> {
-        Ok(Store { tokens: Tokens::open(setup)?, table: Table::new(), causes: [0; 4] })
+        Ok(Store { library: Library::open(setup)?, table: Table::new(), causes: [0; 4] })
     }
 
     #[inline]
@@ -66,7 +67,7 @@ impl<K, V> Store<K, V> {
     pub(crate) fn look(&mut self, at: Option<u32>, hash: u64, now: u64) -> Result<Option<&V>, Fault> {
         let row = at.map(|at| self.table.row(at));
         let number = row.map_or_else(|| self.table.free(hash), |row| row.number);
-        match self.tokens.look(number, now)? {
+        match self.library.made(now, |tokens, now| tokens.look(number, now))? {
             Found::Hit(_) => Ok(row.and_then(|row| row.value.as_ref())),
             _ => Ok(None),
         }
@@ -79,7 +80,7 @@ impl<K, V> Store<K, V> {
             Place::At(at) => (Some(self.table.row(*at)), self.table.row(*at).number),
             Place::New { number, .. } => (None, *number),
         };
-        match self.tokens.seek(number, now)? {
+        match self.library.made(now, |tokens, now| tokens.seek(number, now))? {
             found @ Found::Hit(_) => Ok(row.and_then(|row| row.value.as_ref()).ok_or(found)),
             found => Ok(Err(found)),
         }
@@ -96,9 +97,9 @@ impl<K, V> Store<K, V> {
         left: &mut AllLeft<K, V>,
     ) -> Result<(), (Fault, Place<K>, V)> {
         let (number, token) = (self.table.number(&place), self.table.next_token(&place));
-        match self.tokens.put(number, Token { token, weight }, now) {
+        match self.library.made(now, |tokens, now| tokens.put(number, Token { token, weight }, now)) {
             Ok(()) => {
-                let old = self.table.store(place, value);
+                let old = self.table.store(place, value, self.library.until());
                 self.take_out(old, left);
                 Ok(())
             }
@@ -116,16 +117,18 @@ impl<K, V> Store<K, V> {
     ) -> Ended<K, V> {
         let number = self.table.row(at).number;
         let token = self.table.next_token(&Place::At(at));
-        match self.tokens.land_keep(id, number, Token { token, weight }, now) {
+        let held = Token { token, weight };
+        match self.library.made(now, |tokens, now| tokens.land_keep(id, number, held, now)) {
             Ok(landed @ Landed::Kept(_)) => {
-                let old = self.table.store(Place::At(at), value);
+                let old = self.table.store(Place::At(at), value, self.library.until());
                 let key = self.table.close(at);
                 self.take_out(old, left);
                 Ended { landed, value: None, key }
             }
             Ok(landed) => self.ended(landed, at, Some(value), left),
             Err(_) => {
-                let landed = self.tokens.land_loose(id, number, now).unwrap_or(Landed::Gone);
+                let landed = self.library.made(now, |tokens, now| tokens.land_loose(id, number, now));
+                let landed = landed.unwrap_or(Landed::Gone);
                 self.ended(landed, at, Some(value), left)
             }
         }
@@ -133,8 +136,9 @@ impl<K, V> Store<K, V> {
 
     /// Closes a load that used the row and failed.
     pub(crate) fn fail(&mut self, (id, at): (u64, u32), now: u64, left: &mut AllLeft<K, V>) -> Ended<K, V> {
-        let landed = self.tokens.land_failed(id, self.table.row(at).number, now).unwrap_or(Landed::Gone);
-        self.ended(landed, at, None, left)
+        let number = self.table.row(at).number;
+        let landed = self.library.made(now, |tokens, now| tokens.land_failed(id, number, now));
+        self.ended(landed.unwrap_or(Landed::Gone), at, None, left)
     }
 
     // A load of the row ended, and stored nothing.
@@ -145,31 +149,31 @@ impl<K, V> Store<K, V> {
     }
 
     pub(crate) fn drop_key(&mut self, number: u64, now: u64, left: &mut AllLeft<K, V>) -> Result<(), Fault> {
-        self.tokens.drop_key(number, now)?;
+        self.library.made(now, |tokens, now| tokens.drop_key(number, now))?;
         self.take_out(None, left);
         Ok(())
     }
 
     pub(crate) fn forget(&mut self, number: u64, now: u64, left: &mut AllLeft<K, V>) -> Result<bool, Fault> {
-        let forgot = self.tokens.forget(number, now)?;
+        let forgot = self.library.made(now, |tokens, now| tokens.forget(number, now))?;
         self.take_out(None, left);
         Ok(forgot)
     }
 
     pub(crate) fn clear(&mut self, now: u64, left: &mut AllLeft<K, V>) -> Result<(), Fault> {
-        self.tokens.clear(now)?;
+        self.library.made(now, |tokens, now| tokens.clear(now))?;
         self.take_out(None, left);
         Ok(())
     }
 
     pub(crate) fn clean(&mut self, now: u64, left: &mut AllLeft<K, V>) -> Result<(), Fault> {
-        self.tokens.clean(now)?;
+        self.library.made(now, |tokens, now| tokens.clean(now))?;
         self.take_out(None, left);
         Ok(())
     }
 
     pub(crate) fn numbers(&mut self) -> Numbers {
-        self.tokens.numbers()
+        self.library.numbers()
     }
 
     pub(crate) fn kept(&self) -> (usize, usize) {
@@ -178,8 +182,8 @@ impl<K, V> Store<K, V> {
 
     /// Whether something left by the latest call.
     #[inline]
-    pub(crate) fn has_left(&self) -> bool {
-        self.tokens.has_notices()
+    pub(crate) fn has_left(&mut self) -> bool {
+        self.library.tokens().has_notices()
     }
 
     /// Moves out what left by the latest look or seek.
@@ -193,13 +197,13 @@ impl<K, V> Store<K, V> {
     // Moves out what left by the latest call. If that stored a value in place of an old one, the old one is among it.
     #[inline]
     fn take_out(&mut self, mut old: Option<V>, left: &mut AllLeft<K, V>) {
-        if self.tokens.has_notices() {
+        if self.library.tokens().has_notices() {
             self.take_each_out(&mut old, left);
         }
     }
 
     fn take_each_out(&mut self, old: &mut Option<V>, left: &mut AllLeft<K, V>) {
-        for notice in self.tokens.notices() {
+        for notice in self.library.tokens().notices() {
             let (key, value) = self.table.take(notice.token, old);
             let cause = CAUSES[(notice.cause as usize).wrapping_sub(1) & 3];
             self.causes[cause as usize] += 1;

@@ -68,6 +68,15 @@ pub struct Answer {
     pub notices: u64,
 }
 
+/// One of the look-ups of `rd_look_many`.
+#[repr(C)]
+#[derive(Clone, Copy, Debug, Default, PartialEq, Eq)]
+pub struct Looked {
+    pub key: u64,
+    pub now: u64,
+    pub answer: Answer,
+}
+
 /// A key of at most 24 bytes, in the value itself.
 #[repr(C)]
 #[derive(Clone, Copy, Debug, Default, PartialEq, Eq, Hash)]
@@ -183,6 +192,7 @@ unsafe extern "C" {
     pub fn rd_open_names(setup: *const Setup, cache: *mut Handle) -> u64;
     pub fn rd_close(cache: *mut Handle) -> u64;
     pub fn rd_look(cache: *mut Handle, key: u64, now: u64, answer: *mut Answer) -> u64;
+    pub fn rd_look_many(cache: *mut Handle, looks: *mut Looked, n: usize, made: *mut u64) -> u64;
     pub fn rd_seek(cache: *mut Handle, key: u64, now: u64, answer: *mut Answer) -> u64;
     pub fn rd_land_loose(cache: *mut Handle, id: u64, key: u64, now: u64, answer: *mut Answer) -> u64;
     pub fn rd_land_failed(cache: *mut Handle, id: u64, key: u64, now: u64, answer: *mut Answer) -> u64;

@@ -11,6 +11,8 @@ pub(crate) struct Row<K, V> {
     pub(crate) number: u64,
     /// The entry's value.
     pub(crate) value: Option<V>,
+    /// A look before this moment finds the value, and doesn't find it due.
+    pub(crate) until: u64,
     /// Whoever opened the key's newest load knows it by this.
     pub(crate) newest: u32,
     hash: u64,
@@ -138,7 +140,7 @@ impl<K, V> Table<K, V> {
         }
         let chain = self.chain(hash);
         let next = self.chains[chain];
-        let row = Row { key, number, value: None, newest: NONE, hash, next, loads: 0, turn: true };
+        let row = Row { key, number, value: None, until: 0, newest: NONE, hash, next, loads: 0, turn: true };
         self.chains[chain] = self.rows.insert(row);
         self.chains[chain]
     }
@@ -170,10 +172,11 @@ impl<K, V> Table<K, V> {
     }
 
     /// Stores the value whose token was the next one. Returns the value before.
-    pub(crate) fn store(&mut self, place: Place<K>, value: V) -> Option<V> {
+    pub(crate) fn store(&mut self, place: Place<K>, value: V, until: u64) -> Option<V> {
         let at = self.held(place);
         let row = &mut self.rows[at];
         row.turn = !row.turn;
+        row.until = until;
         row.value.replace(value)
     }
 

@@ -1,7 +1,7 @@
 //! A cache of tokens: safe calls over `rookdresser.h`.
 use crate::key::Key;
 use crate::setup::OpenError;
-use crate::sys::{self, Answer, Handle, Notice, Numbers, Setup, Token};
+use crate::sys::{self, Answer, Handle, Looked, Notice, Numbers, Setup, Token};
 use std::fmt::{Debug, Display, Formatter};
 
 /// Why a call was refused. A refused call changes nothing.
@@ -337,6 +337,17 @@ impl<K: Key> Tokens<K> {
         let mut numbers = Numbers::default();
         unsafe { sys::rd_get_numbers(&mut self.handle, &mut numbers) };
         numbers
+    }
+}
+
+impl Tokens {
+    /// Looks all of them up, one after another, until one is refused or tells that something left. Returns how many were made.
+    pub(crate) fn look_many(&mut self, looks: &mut [Looked]) -> usize {
+        (self.told, self.has_first) = (0, false);
+        let mut made = 0;
+        // SAFETY: as of the calls above. The looks are lent for the call, and there are so many of them.
+        unsafe { sys::rd_look_many(&mut self.handle, looks.as_mut_ptr(), looks.len(), &mut made) };
+        made as usize
     }
 }
 

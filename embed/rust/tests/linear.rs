@@ -4,7 +4,7 @@ mod common;
 mod random;
 use common::within_a_minute;
 use random::Random;
-use rookdresser::{Loading, Setup};
+use rookdresser::{Loading, Reads, Setup};
 use std::hash::{Hash, Hasher};
 use std::sync::atomic::{AtomicU64, Ordering::SeqCst};
 use std::sync::{Arc, Mutex};
@@ -70,11 +70,11 @@ fn calls<K: Hash + Eq + Clone>(cache: &Loading<K, u64, ()>, sources: &[Source], 
 }
 
 fn only_grow<K: Hash + Eq + Clone + Send + Sync + 'static>(key_of: fn(u64) -> K) {
-    for shards in [1, 2] {
+    for (shards, reads) in [(1, Reads::Shared), (2, Reads::Shared), (2, Reads::Exact)] {
         // Four entries for six keys, which are due at times.
         let setup = Setup { refresh: 5, after_write: 40, ..Setup::of(4 / shards) };
         within_a_minute(move || {
-            let cache = Loading::sharded(shards as usize, &setup).unwrap();
+            let cache = Loading::sharded(shards as usize, &setup).unwrap().with_reads(reads);
             let sources: Vec<_> = (0..6).map(|_| Source::default()).collect();
             std::thread::scope(|threads| {
                 for seed in 0..8 {

@@ -1,0 +1,108 @@
+//! The library's cache of a shard, which callers that are beside each other tell their hits.
+use crate::lock::Lock;
+use crate::moment::Moment;
+use crate::sys::Looked;
+use crate::{Fault, Numbers, OpenError, Setup, Tokens};
+
+/// A hit that the library is still to be told.
+#[derive(Clone, Copy)]
+pub(crate) struct Note {
+    pub(crate) number: u64,
+    /// When it was made.
+    pub(crate) now: u64,
+    /// From this moment on it would be none.
+    pub(crate) until: u64,
+}
+
+/// The library's cache, and the latest moment of a call. The library itself may not have heard of that yet.
+///
+/// Each part has cache lines of its own, since a hit beside others reads the moment alone.
+pub(crate) struct Library {
+    inner: Lock<Inner>,
+    latest: Moment,
+    // How long after its moment a value that is stored is sure to be found, and not due.
+    sure_for: u64,
+    // Whether entries expire or get due. If they don't, no moment matters.
+    has_durations: bool,
+}
+
+struct Inner {
+    tokens: Tokens,
+    // Room for the hits that are told.
+    looks: Vec<Looked>,
+}
+
+impl Library {
+    pub(crate) fn open(setup: &Setup) -> Result<Self, OpenError> {
+        let inner = Lock::new(Inner { tokens: Tokens::open(setup)?, looks: Vec::new() });
+        let shortest = [setup.after_write, setup.refresh].into_iter().filter(|&duration| duration != 0).min();
+        // The library has to hear of each use at once if `after_access` is set: a hit it hears of late would keep nothing from expiring.
+        let sure_for = if setup.after_access == 0 { shortest.unwrap_or(u64::MAX) } else { 0 };
+        Ok(Library { inner, latest: Moment::default(), sure_for, has_durations: shortest.is_some() })
+    }
+
+    /// Whether a hit may be sure at all.
+    pub(crate) fn is_ever_sure(&self) -> bool {
+        self.sure_for != 0
+    }
+
+    /// The calls of the library, for whoever has it alone.
+    #[inline(always)]
+    pub(crate) fn tokens(&mut self) -> &mut Tokens {
+        &mut self.inner.get_mut().tokens
+    }
+
+    /// Makes a call at the moment, or at the latest one if that is later. A refused call doesn't change the latest moment.
+    #[inline(always)]
+    pub(crate) fn made<T>(
+        &mut self,
+        now: u64,
+        call: impl FnOnce(&mut Tokens, u64) -> Result<T, Fault>,
+    ) -> Result<T, Fault> {
+        let latest = self.latest.get_mut();
+        let now = now.max(*latest);
+        let made = call(&mut self.inner.get_mut().tokens, now)?;
+        *latest = now;
+        Ok(made)
+    }
+
+    /// Until when a value that the latest call has stored is sure to be found, and not due.
+    #[inline]
+    pub(crate) fn until(&mut self) -> u64 {
+        self.latest.get_mut().saturating_add(self.sure_for)
+    }
+
+    /// The moment of a hit beside others, or the latest moment if that is later; nothing if that isn't before `until`.
+    #[inline]
+    pub(crate) fn hit_at(&self, now: u64, until: u64) -> Option<u64> {
+        if !self.has_durations {
+            return Some(now);
+        }
+        self.latest.raised(now, until)
+    }
+
+    /// Tells of hits, unless another caller is at it. Returns how many of them the library has heard of, if it wasn't busy.
+    pub(crate) fn try_tell(&self, notes: &[Note]) -> Option<usize> {
+        self.inner.try_take().map(|mut inner| self.told(&mut inner, notes))
+    }
+
+    /// The same, as soon as no other caller is at it.
+    pub(crate) fn tell(&self, notes: &[Note]) -> usize {
+        self.told(&mut self.inner.take(), notes)
+    }
+
+    // A hit whose entry has expired by the latest moment isn't told: the library would take the entry out. Whoever raised the library's
+    // own moment had raised this one before.
+    fn told(&self, inner: &mut Inner, notes: &[Note]) -> usize {
+        let latest = if self.has_durations { self.latest.get() } else { 0 };
+        let sure = notes.iter().filter(|note| latest < note.until);
+        inner.looks.clear();
+        inner.looks.extend(sure.map(|note| Looked { key: note.number, now: note.now, ..Looked::default() }));
+        inner.tokens.look_many(&mut inner.looks)
+    }
+
+    pub(crate) fn numbers(&mut self) -> Numbers {
+        let (latest, numbers) = (*self.latest.get_mut(), self.tokens().numbers());
+        Numbers { latest: latest.max(numbers.latest), ..numbers }
+    }
+}

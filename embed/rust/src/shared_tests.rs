@@ -1,0 +1,345 @@
+//! Shards that open give the answers of shards that never do, whatever the order in which threads take their turns.
+use crate::shared::use_stripe;
+use crate::turns::{begin_call, every_order};
+use crate::{Loading, Numbers, Reads, Setup, Stats};
+use std::hash::{BuildHasherDefault, DefaultHasher, Hash, Hasher};
+use std::sync::atomic::{AtomicU64, Ordering::SeqCst};
+use std::sync::Barrier;
+use std::time::Duration;
+
+// A call of a key at a moment.
+#[derive(Clone, Copy, Debug)]
+enum Call {
+    Look(u64, u64),
+    Get(u64, u64),
+    Store(u64, u64),
+    Drop(u64, u64),
+    Count,
+}
+
+type Cache = Loading<u64, u64, (), BuildHasherDefault<DefaultHasher>>;
+
+// Makes a call, which stores or loads the value. Returns the value that was found or left, or a count.
+fn answer(cache: &Cache, call: Call, value: u64) -> Option<u64> {
+    match call {
+        Call::Look(key, now) => cache.look_at(&key, now).unwrap().map(|value| *value),
+        Call::Get(key, now) => Some(*cache.get_at(&key, now, || Ok((value, 1))).unwrap()),
+        Call::Store(key, now) => cache.store_at(&key, value.into(), 1, now).map(|()| None).unwrap(),
+        Call::Drop(key, now) => cache.drop_key_at(&key, now).unwrap().first().map(|left| *left.value),
+        Call::Count => Some(cache.stats().hits),
+    }
+}
+
+// A cache of one shard with two entries, which was looked at so often.
+fn looked_at(setup: &Setup, reads: Reads, looks: u64) -> Cache {
+    use_stripe(0);
+    let cache = Cache::sharded_with_hasher(1, setup, BuildHasherDefault::default()).unwrap().with_reads(reads);
+    cache.store_at(&1, 1.into(), 1, 0).unwrap();
+    cache.store_at(&2, 2.into(), 1, 8).unwrap();
+    (0..looks).for_each(|_| assert!(cache.look_at(&2, 8).unwrap().is_some()));
+    cache
+}
+
+// What can be seen of a cache in which nothing goes on.
+fn seen(cache: &Cache) -> (Stats, Numbers, (usize, usize)) {
+    (Stats { load_time: Duration::ZERO, ..cache.stats() }, cache.numbers(), cache.kept())
+}
+
+// The orders of the calls of two threads, as the thread of each.
+fn merges([a, b]: [usize; 2]) -> Vec<Vec<usize>> {
+    if a + b == 0 {
+        return vec![vec![]];
+    }
+    let then = |first: usize, rest: [usize; 2]| merges(rest).into_iter().map(move |rest| [vec![first], rest].concat());
+    let first = if a > 0 { then(0, [a - 1, b]).collect() } else { vec![] };
+    let second = if b > 0 { then(1, [a, b - 1]).collect() } else { vec![] };
+    [first, second].concat()
+}
+
+// When a call began and ended, and its answer.
+type Made = (u64, u64, Option<u64>);
+
+// Has two threads make their calls in every order. Each time their answers, and what is seen at the end, are those of a cache that
+// tells each hit at once, to which the calls are made one after another: in an order in which none comes before one that had ended
+// when it began.
+fn calls_have_an_order(setup: &Setup, looks: u64, calls: [&[Call]; 2], most: usize) -> u64 {
+    let value = |thread: usize, at: usize| 100 * (thread as u64 + 1) + at as u64;
+    let orders: Vec<_> = merges(calls.map(<[Call]>::len))
+        .into_iter()
+        .map(|order| {
+            let (exact, mut next) = (looked_at(setup, Reads::Exact, looks), [0, 0]);
+            let answers = order.iter().map(|&thread| {
+                let at = next[thread];
+                next[thread] += 1;
+                (thread, at, answer(&exact, calls[thread][at], value(thread, at)))
+            });
+            let answers: Vec<_> = answers.collect();
+            (answers, seen(&exact))
+        })
+        .collect();
+    let time = AtomicU64::new(0);
+    let of = |thread: usize| {
+        let time = &time;
+        move |cache: &Cache| -> Vec<Made> {
+            use_stripe(thread);
+            let call = |(at, &call)| {
+                begin_call();
+                let begun = time.fetch_add(1, SeqCst);
+                let answer = answer(cache, call, value(thread, at));
+                (begun, time.fetch_add(1, SeqCst), answer)
+            };
+            calls[thread].iter().enumerate().map(call).collect()
+        }
+    };
+    let check = |cache: Cache, made: [Vec<Made>; 2]| {
+        let last = seen(&cache);
+        let fits = |(answers, end): &(Vec<(usize, usize, Option<u64>)>, _)| {
+            let mut latest = 0;
+            *end == last
+                && answers.iter().all(|&(thread, at, wanted)| {
+                    let (begun, ended, got) = made[thread][at];
+                    latest = latest.max(begun);
+                    got == wanted && ended > latest
+                })
+        };
+        assert!(orders.iter().any(fits), "{looks} looks, {calls:?}: {made:?}, {last:?}, of {orders:?}");
+    };
+    every_order(most, || looked_at(setup, Reads::Shared, looks), [&of(0), &of(1)], check)
+}
+
+// Entries expire after 10 milliseconds.
+fn aged() -> Setup {
+    Setup { after_write: 10, ..Setup::of(64) }
+}
+
+// The looks that leave a shard about to open, and open.
+const LOOKS: [u64; 2] = [8, 13];
+
+#[test]
+fn three_calls_of_two_threads_have_an_order_whatever_theirs_is() {
+    let firsts = [Call::Look(1, 9), Call::Look(2, 17), Call::Store(1, 5)];
+    let mut orders = 0;
+    for looks in LOOKS {
+        for (first, second) in firsts.into_iter().flat_map(|first| firsts.map(|second| (first, second))) {
+            for other in [Call::Look(2, 17), Call::Drop(2, 9), Call::Count] {
+                orders += calls_have_an_order(&aged(), looks, [&[first, second], &[other]], usize::MAX);
+            }
+        }
+    }
+    assert!(orders > 10_000, "{orders}");
+}
+
+#[test]
+fn six_calls_of_two_threads_have_an_order_if_two_turns_are_lost() {
+    let look = |of| Call::Look(of, 9);
+    let mut orders = 0;
+    for calls in [
+        [[look(2), Call::Store(1, 5), look(1)], [look(1), look(2), Call::Drop(1, 9)]],
+        [[look(2), look(1), Call::Look(2, 17)], [Call::Look(1, 16), Call::Store(2, 9), look(2)]],
+        [[look(2), look(2), look(1)], [look(2), Call::Count, look(2)]],
+    ] {
+        for looks in LOOKS {
+            orders += calls_have_an_order(&aged(), looks, [&calls[0], &calls[1]], 2);
+        }
+    }
+    assert!(orders > 500, "{orders}");
+}
+
+struct Random(u64);
+
+impl Random {
+    fn below(&mut self, limit: u64) -> u64 {
+        self.0 ^= self.0 << 13;
+        self.0 ^= self.0 >> 7;
+        self.0 ^= self.0 << 17;
+        (self.0 >> 16) % limit
+    }
+}
+
+#[test]
+fn a_shard_that_opens_answers_as_one_that_never_does() {
+    for (round, (after_write, refresh)) in [(0, 0), (40, 0), (0, 15), (60, 25)].into_iter().enumerate() {
+        // No entry is evicted: hits that are told late, or never, change no answer.
+        let setup = Setup { after_write, refresh, ..Setup::of(64) };
+        let of =
+            |reads| Cache::sharded_with_hasher(2, &setup, BuildHasherDefault::default()).unwrap().with_reads(reads);
+        let (cache, exact) = (of(Reads::Shared), of(Reads::Exact));
+        let (mut random, mut latest, mut opened) = (Random(round as u64 * 77 + 5), 10, 0);
+        for call in 0..100_000 {
+            latest += random.below(300) / 299;
+            // At times a moment is before the latest one.
+            let (key, now) = (random.below(24), latest - random.below(4) * random.below(3));
+            let made = match random.below(200) {
+                0 => Call::Store(key, now),
+                1 => Call::Drop(key, now),
+                2 => Call::Count,
+                3..=99 => Call::Look(key, now),
+                _ => Call::Get(key, now),
+            };
+            let [got, wanted] = [&cache, &exact].map(|cache| answer(cache, made, call));
+            assert_eq!(got, wanted, "call {call}, {made:?}, {setup:?}");
+            opened += cache.open_shards();
+        }
+        let (mut one, other) = (seen(&cache), seen(&exact));
+        // The library needn't hear of moments if none matters.
+        if after_write == 0 && refresh == 0 {
+            one.1.latest = other.1.latest;
+        }
+        assert_eq!(one, other);
+        assert!(opened > 300 && exact.open_shards() == 0 && (after_write == 0 || refresh != 0 || other.0.expired > 0));
+    }
+}
+
+#[test]
+fn a_hit_of_an_open_shard_makes_its_moment_the_latest() {
+    let cache = looked_at(&aged(), Reads::Shared, 100);
+    assert!(
+        cache.open_shards() == 1 && cache.look_at(&1, 9).unwrap().is_some() && cache.look_at(&2, 17).unwrap().is_some()
+    );
+    assert_eq!((cache.open_shards(), cache.look_at(&1, 9)), (1, Ok(None)), "17 was the latest moment");
+}
+
+#[test]
+fn durations_and_moments_may_be_the_greatest_there_are() {
+    for (after_write, refresh) in [(u64::MAX, 0), (0, u64::MAX), (u64::MAX, u64::MAX - 1), (0, 0)] {
+        let setup = Setup { after_write, refresh, ..Setup::of(64) };
+        let [cache, exact] = [Reads::Shared, Reads::Exact].map(|reads| looked_at(&setup, reads, 13));
+        for now in [0, 9, u64::MAX - 2, u64::MAX - 1, u64::MAX, 5] {
+            for key in [1, 2] {
+                assert_eq!(cache.look_at(&key, now), exact.look_at(&key, now), "{key} at {now} of {setup:?}");
+            }
+        }
+        assert_eq!((exact.kept().0, cache.kept()), (if after_write == 0 { 2 } else { 1 }, exact.kept()));
+    }
+}
+
+#[test]
+fn a_refused_call_leaves_the_latest_moment_as_it_was() {
+    let cache = Loading::<u64, u64, ()>::sharded(1, &Setup { bound: 5, ..aged() }).unwrap();
+    cache.store_at(&1, 1.into(), 1, 0).unwrap();
+    assert_eq!(cache.store_at(&2, 2.into(), 6, 50), Err(crate::Fault::TooHeavy));
+    assert_eq!((cache.numbers().latest, cache.look_at(&1, 9).unwrap().as_deref()), (0, Some(&1)));
+}
+
+#[test]
+fn a_hit_that_is_told_after_later_ones_takes_no_entry_out() {
+    for round in 0..8 {
+        let cache = looked_at(&Setup { after_write: 15, ..Setup::of(64) }, Reads::Shared, 13);
+        let hits = |key: u64, now| (0..400).for_each(|_| assert!(cache.look_at(&key, now).unwrap().is_some()));
+        let barrier = Barrier::new(2);
+        std::thread::scope(|threads| {
+            threads.spawn(|| {
+                use_stripe(round);
+                hits(1, 10);
+                barrier.wait();
+            });
+            threads.spawn(|| {
+                use_stripe(round + 1);
+                barrier.wait();
+                // The first entry has expired by then.
+                hits(2, 20);
+            });
+        });
+        let (stats, numbers, kept) = seen(&cache);
+        assert_eq!((stats.expired, numbers.entries, numbers.hits, kept), (0, 2, stats.hits, (2, 2)));
+        assert_eq!((cache.look_at(&1, 20), cache.kept(), cache.stats().expired), (Ok(None), (1, 1), 1));
+    }
+}
+
+// A key of the caller's, of which two have one hash.
+#[derive(Clone, PartialEq, Eq)]
+struct Coarse(u64);
+
+impl Hash for Coarse {
+    fn hash<H: Hasher>(&self, state: &mut H) {
+        state.write_u64(self.0 / 2);
+    }
+}
+
+// Six threads, each of which alone writes some of the keys. Versions of a key only grow, and the last one is known once its store ended.
+fn finds_nothing_that_was_removed<K: Hash + Eq + Clone + Send + Sync>(key: fn(u64) -> K, counts_each_once: bool) {
+    const KEYS: u64 = 12;
+    for shards in [1, 4] {
+        let cache = Loading::<K, u64, ()>::sharded(shards, &Setup::of(64)).unwrap();
+        let least: Vec<AtomicU64> = (0..KEYS).map(|_| AtomicU64::new(0)).collect();
+        let (next, opened, looks) = (AtomicU64::new(1), AtomicU64::new(0), AtomicU64::new(0));
+        std::thread::scope(|threads| {
+            for thread in 0..6 {
+                let (cache, least, next, opened, looks) = (&cache, &least, &next, &opened, &looks);
+                threads.spawn(move || {
+                    let mut random = Random(thread * 1001 + 7);
+                    for _ in 0..40_000 {
+                        let of = random.below(KEYS);
+                        let before = least[of as usize].load(SeqCst);
+                        if random.below(120) == 0 && of % 6 == thread {
+                            let version = next.fetch_add(1, SeqCst);
+                            if random.below(3) == 0 {
+                                cache.drop_key(&key(of)).unwrap();
+                                assert_eq!(cache.look(&key(of)), Ok(None), "nobody else writes the key");
+                                looks.fetch_add(1, SeqCst);
+                            }
+                            cache.store(&key(of), version.into(), 1).unwrap();
+                            least[of as usize].store(version, SeqCst);
+                        } else {
+                            let found = cache.look(&key(of)).unwrap();
+                            assert!(found.is_none_or(|version| *version >= before), "it had left before");
+                            looks.fetch_add(1, SeqCst);
+                            opened.fetch_add(cache.open_shards() as u64, SeqCst);
+                        }
+                    }
+                });
+            }
+        });
+        let (stats, numbers, looks) = (cache.stats(), cache.numbers(), looks.into_inner());
+        // A call for a key that shares its hash may be counted for the other too.
+        let counted = stats.hits + stats.misses;
+        assert!(counted == looks || (!counts_each_once && counted > looks));
+        assert_eq!((stats.hits, stats.misses, counted), (numbers.hits, numbers.misses, numbers.lookups));
+        assert_eq!(cache.kept(), (numbers.entries as usize, numbers.entries as usize));
+        assert!(opened.into_inner() > 100);
+    }
+}
+
+#[test]
+fn no_value_is_returned_after_the_call_that_removed_it() {
+    finds_nothing_that_was_removed(|of| of, true);
+    // Two of them share a hash.
+    finds_nothing_that_was_removed(|of| Coarse(2 * of - u64::from(of == 11)), false);
+}
+
+#[test]
+fn one_load_for_all_who_miss_in_a_shard_that_was_open() {
+    let (cache, loads) = (Loading::<u64, u64, ()>::sharded(1, &Setup::of(64)).unwrap(), AtomicU64::new(0));
+    let (barrier, opened) = (Barrier::new(6), AtomicU64::new(0));
+    std::thread::scope(|threads| {
+        for thread in 0..6 {
+            let (cache, loads, barrier, opened) = (&cache, &loads, &barrier, &opened);
+            threads.spawn(move || {
+                for round in 0..300 {
+                    for _ in 0..20 {
+                        let got = cache.get(&1, || {
+                            std::thread::yield_now();
+                            Ok((loads.fetch_add(1, SeqCst), 1))
+                        });
+                        assert_eq!(got.as_deref(), Ok(&round));
+                    }
+                    barrier.wait();
+                    if thread == 0 {
+                        opened.fetch_add(cache.open_shards() as u64, SeqCst);
+                        assert_eq!(cache.drop_key(&1).unwrap().len(), 1);
+                    }
+                    barrier.wait();
+                }
+            });
+        }
+    });
+    assert_eq!((loads.into_inner(), cache.stats().loads), (300, 300));
+    assert!(opened.into_inner() > 200);
+}
+
+#[test]
+fn a_cache_whose_entries_expire_unused_never_opens() {
+    let setup = Setup { after_access: 10, ..Setup::of(64) };
+    let cache = looked_at(&setup, Reads::Shared, 100);
+    assert_eq!((cache.open_shards(), cache.look_at(&1, 9)), (0, Ok(Some(1.into()))));
+}
