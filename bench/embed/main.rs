@@ -1,6 +1,6 @@
 //! main CACHE KEYS ROUNDS THREADS [WORK]: hits, puts and read-through of the keys in a file, or the one of them that is named: a line
 //! for each, with the least nanoseconds an operation of some rounds, all threads together, and the misses of the read-through.
-use rookdresser::{Found, Loading, Setup, Token, Tokens};
+use rookdresser::{Found, Loading, Reads, Setup, Token, Tokens};
 use std::cell::RefCell;
 use std::hash::{BuildHasher, Hasher, RandomState};
 use std::sync::Mutex;
@@ -156,9 +156,12 @@ fn made(cache: &str) -> Box<dyn Work + Sync> {
         }
         #[cfg(feature = "lru")]
         "lru" => Box::new(Mutex::new(lru::LruCache::<u64, u64>::new(4096))),
-        // SHARDSxENTRIES, of which each shard has so many; or ENTRIES, divided by the cores.
+        // SHARDSxENTRIES, of which each shard has so many; or ENTRIES, divided by the cores. They may be read exactly.
         _ => {
-            let size = cache.strip_prefix("loading-").expect("a cache");
+            let (reads, size) = match cache.strip_prefix("exact-") {
+                Some(size) => (Reads::Exact, size),
+                None => (Reads::Shared, cache.strip_prefix("loading-").expect("a cache")),
+            };
             let opened = match size.split_once('x') {
                 Some((shards, entries)) => {
                     let setup = Setup::of(entries.parse().expect("a number"));
@@ -166,7 +169,7 @@ fn made(cache: &str) -> Box<dyn Work + Sync> {
                 }
                 None => Loading::open(&Setup::of(size.parse().expect("a number"))),
             };
-            Box::new(opened.expect("the setup is within its ranges"))
+            Box::new(opened.expect("the setup is within its ranges").with_reads(reads))
         }
     }
 }
