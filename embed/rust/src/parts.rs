@@ -3,14 +3,15 @@ use crate::Setup;
 
 // So many that a thread seldom finds its shard's lock taken.
 const SHARDS_FOR_A_CORE: usize = 8;
-// A shard evicts early if the keys' hashes give it more than its part, and 128 keys vary by 11 or so.
-const LEAST_ENTRIES: u32 = 128;
+// A shard evicts early if the keys' hashes give it more than its part: 512 keys vary by 23 or so. Its window has five of them, and
+// with 128 entries it would have one: too little for bursts, of which a cache of 4,096 entries then hit 86 % in place of 91.
+const LEAST_ENTRIES: u32 = 512;
 /// How many entries a shard may hold.
 pub(crate) const MOST_ENTRIES: u32 = 1 << 16;
 /// How many shards there may be.
 pub(crate) const MOST_SHARDS: u32 = 1 << 12;
 
-/// The setup of each shard, for a machine of so many cores: eight shards for each, but no shard of fewer than 128 entries and none of
+/// The setup of each shard, for a machine of so many cores: eight shards for each, but no shard of fewer than 512 entries and none of
 /// more than 65,536. One alone if the weight has a bound. The whole setup is within its ranges.
 pub(crate) fn parts(setup: &Setup, cores: usize) -> Vec<Setup> {
     if setup.has_bound() {
@@ -38,16 +39,16 @@ mod tests {
 
     #[test]
     fn a_setup_is_divided_by_cores_and_entries() {
-        assert_eq!(of(Setup::of(255), 4), (1, vec![(255, 2)]));
-        assert_eq!(of(Setup::of(257), 4), (2, vec![(129, 1), (128, 1)]));
-        assert_eq!(of(Setup::of(1000), 4), (7, vec![(143, 2), (143, 1), (142, 1)]));
+        assert_eq!(of(Setup::of(1023), 4), (1, vec![(1023, 10)]));
+        assert_eq!(of(Setup::of(1025), 4), (2, vec![(513, 5), (512, 5)]));
+        assert_eq!(of(Setup::of(4000), 4), (7, vec![(572, 6), (571, 6), (571, 5)]));
         assert_eq!(of(Setup::of(16_384), 4), (32, vec![(512, 6), (512, 5)]));
         assert_eq!(of(Setup::of(16_384), 1), (8, vec![(2048, 21), (2048, 20)]));
         // More than one cache of the library's may hold.
         assert_eq!(of(Setup::of(1 << 20), 1), (16, vec![(65_536, 656), (65_536, 655)]));
         assert_eq!(of(Setup::of((1 << 20) + 1), 1).0, 17);
         // Each shard has a window.
-        assert_eq!(of(Setup { window: 3, ..Setup::of(8192) }, 4), (32, vec![(256, 1)]));
+        assert_eq!(of(Setup { window: 3, ..Setup::of(8192) }, 4), (16, vec![(512, 1)]));
     }
 
     #[test]
