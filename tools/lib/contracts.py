@@ -5,7 +5,7 @@ import textwrap
 from dataclasses import dataclass, field
 from pathlib import Path
 
-from edits import Guards, paths_of
+from edits import edits_in
 from functions import CLAUSE, FUNCTION, above, braced, functions_of, head_of, owners_of
 from places import CRATES
 from spec_words import PATH, Uses, Words, first_sentence
@@ -70,7 +70,7 @@ class Crate:
             self.read_source(path)
         for path in sorted((self.folder / "specs").rglob("*.antt")):
             self.read_words(path)
-        self.edits = [Guards(path) for path in paths_of(self.folder)]
+        self.edits = edits_in(self.folder)
 
     def read_source(self, path):
         """Adds what one source file has."""

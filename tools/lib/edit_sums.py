@@ -83,7 +83,7 @@ def sum_of(logic, crate, edit):
     every = [*(texts_of(Path(dep.folder)) for dep in crate.below()), own]
     functions = edit.functions()
     asked = [own.parts[one] for one in (own.parts if edit.is_outside or not functions else functions)]
-    texts = [re.sub(r"^test: .*\n", "", edit.text, flags=re.M), *(text for parts in asked for text in (parts.head, *parts.proof))]
+    texts = ["".join(line + "\n" for line in edit.lines if not line.startswith("test: ")), *(text for parts in asked for text in (parts.head, *parts.proof))]
     words = set(re.findall(r"\w+", " ".join(texts)))
     texts += [parts.head for one in every for function, parts in one.parts.items() if function.name in words]
     texts += [text for one in every for text in one.outside]

@@ -1,6 +1,6 @@
 """Tries edits: several stand in one copy of their crate, and the prover is asked for their functions alone.
 
-An edit is refused if a function that it guards or changes has an open goal of its own: a clause that the edit's first lines name, the
+An edit is refused if a function that it guards or changes has an open goal of its own: a clause that the edit names, the
 invariant of a loop that carries the clause, or a clause of an inner function that it changes. An edit that is refused by another goal
 alone, as by what a callee requires, or by a function that it doesn't change, is told apart. That a function calls one that isn't proved
 is no goal of its own.
@@ -16,8 +16,6 @@ import subprocess
 import sys
 import tempfile
 from pathlib import Path
-
-from edits import applied
 
 REFUSED, BY_OTHER, AT_LIMIT, BAD, UNCLEAR, PROVED = "refused", "refused, by another goal", "at a limit of the prover", "bad", "unclear", "NOT REFUSED"
 UNPROVED = re.compile(r"^fn (\S+): (?:not proved|no proof)(.*)$")
@@ -73,7 +71,7 @@ class Trial:
             if os.path.isdir(os.path.join(self.crate.folder, part)):
                 shutil.copytree(os.path.join(self.crate.folder, part), room / part)
         for edit in self.edits:
-            texts, wrong = applied(room, edit.text)
+            texts, wrong = edit.applied(room)
             if wrong:
                 self.wrong[edit.name] = "%r doesn't stand exactly once in its file" % wrong[0]
             for path, text in texts.items():

@@ -1,89 +1,93 @@
-"""Edits, each a wrong body that the prover has to refuse. An edit is a text file:
+"""Edits, each a wrong body that the prover has to refuse. A crate's are in its edits.txt, sorted by call:
 
-    call: Core::put                 what it guards: a call of the crate,
-    clause: state, notices          and the labels of its clauses; `ensures` for a lone one without a label
-    test: a_put_stores              tests of the same rule
-    file: src/steps/put.rt          what it changes
-    old: a text that stands exactly once in the file
-    new: what stands in its place
+    a_put_forgets_every_load          the name
+      call: Core::put                 what it guards: a call of the crate,
+      clause: state, notices          and the labels of its clauses; `ensures` for a lone one without a label
+      test: a_put_stores              tests of the same rule
+      file: src/steps/put.rt          what it changes
+      old: a text that stands exactly once in the file
+      new: what stands in its place
+
+There may be several pairs of `call` and `clause`, and several changes. `clause: of its trait` is of a call whose promise is that of a
+trait. Lines that begin with # are comments.
 """
-import re
 
 
-def paths_of(crate):
-    """The paths of a crate's edits."""
-    return sorted((crate / "edits").glob("*.edit"))
+def file_of(crate):
+    """Where a crate's edits are."""
+    return crate / "edits.txt"
 
 
-def changes_of(text):
-    """The changes of an edit in their order: the file, the old and the new text."""
-    found, file, old = [], "", ""
-    for line in text.split("\n"):
-        kind, _, rest = line.partition(":")
-        if kind == "file":
-            file = rest.strip()
-        elif kind == "old":
-            old = rest.removeprefix(" ")
-        elif kind == "new":
-            found.append((file, old, rest.removeprefix(" ")))
+def blocks_of(crate):
+    """Of each edit of a crate its name, and its lines without the two spaces before them."""
+    path, found = file_of(crate), []
+    for line in path.read_text().split("\n") if path.exists() else ():
+        if line.startswith("  ") and found:
+            found[-1][1].append(line[2:])
+        elif line.strip() and not line.startswith("#"):
+            found.append((line, []))
     return found
 
 
-def applied(folder, text):
-    """The texts of the files that an edit changes, by path, and the old texts that don't stand exactly once in their file."""
-    texts, wrong = {}, []
-    for file, old, new in changes_of(text):
-        path = folder / file
-        texts.setdefault(file, path.read_text() if path.exists() else "")
-        if texts[file].count(old) == 1:
-            texts[file] = texts[file].replace(old, new)
-        else:
-            wrong.append(old.strip())
-    return texts, wrong
+def edits_in(crate):
+    """A crate's edits, in the order of its file."""
+    return [Edit(crate, name, lines) for name, lines in blocks_of(crate)]
 
 
-def replaced(folder, text):
-    """The texts that an edit replaces and that don't stand exactly once in their file."""
-    return applied(folder, text)[1]
+def sorted_text(crate):
+    """The text of a crate's file with its edits sorted by call and name."""
+    comments = [line for line in file_of(crate).read_text().split("\n") if line.startswith("#")]
+    edits = sorted(edits_in(crate), key=lambda edit: (edit.guards[0][0] if edit.guards else "", edit.name))
+    return "\n\n".join(["\n".join(comments), *("\n  ".join([edit.name, *edit.lines]) for edit in edits)]) + "\n"
 
 
-class Guards:
-    """What an edit guards, by its first lines, and the files of the crate that it changes.
+class Edit:
+    """What an edit guards, and what it changes: of each change the file, the old and the new text."""
 
-    A line `call: Type::method` is followed by a line `clause: label, label`, or by `clause: of its trait` if the call's promise is that of
-    a trait; there may be several such pairs. `test: name, name` names tests of the same rules.
-    """
+    def __init__(self, crate, name, lines):
+        self.crate, self.name, self.lines = crate, name, lines
+        self.guards, self.tests, self.changes, self.unread = [], [], [], []
+        file = old = ""
+        for line in lines:
+            kind, _, rest = line.partition(":")
+            items, text = [item.strip() for item in rest.split(",")], rest.removeprefix(" ")
+            if kind == "call":
+                self.guards.append((rest.strip(), []))
+            elif kind == "clause" and self.guards:
+                self.guards[-1][1].extend([] if items == ["of its trait"] else items)
+            elif kind == "test":
+                self.tests += items
+            elif kind == "file":
+                file = rest.strip()
+            elif kind == "old":
+                old = text
+            elif kind == "new":
+                self.changes.append((file, old, text))
+            else:
+                self.unread.append(line)
+        self.files = sorted({file for file, _, _ in self.changes})
 
-    def __init__(self, path):
-        self.path, self.name, self.text = path, path.stem, path.read_text()
-        self.guards, self.tests, self.unread = [], [], []
-        head = ("\n" + self.text).partition("\nfile: ")[0].strip("\n")
-        for line in head.split("\n") if head else []:
-            self.read(line)
-        self.files = sorted(set(re.findall(r"^file: (.*)$", self.text, re.M)))
-
-    def read(self, line):
-        kind, _, rest = line.partition(": ")
-        items = [item.strip() for item in rest.split(",")]
-        if kind == "call":
-            self.guards.append((rest, []))
-        elif kind == "clause" and self.guards:
-            self.guards[-1][1].extend([] if rest == "of its trait" else items)
-        elif kind == "test":
-            self.tests += items
-        else:
-            self.unread.append(line)
+    def applied(self, folder):
+        """The texts of the files that it changes, by path, and the old texts that don't stand exactly once in their file."""
+        texts, wrong = {}, []
+        for file, old, new in self.changes:
+            path = folder / file
+            texts.setdefault(file, path.read_text() if path.is_file() else "")
+            if texts[file].count(old) == 1:
+                texts[file] = texts[file].replace(old, new)
+            else:
+                wrong.append(old.strip())
+        return texts, wrong
 
 
-class Edit(Guards):
-    """An edit of a crate: the functions that it guards, and those whose lines it changes."""
+class PlacedEdit(Edit):
+    """An edit with the functions of its crate that it guards, and those whose lines it changes."""
 
-    def __init__(self, path, sources):
-        super().__init__(path)
-        self.crate = path.parent.parent
+    def __init__(self, crate, name, lines, sources):
+        super().__init__(crate, name, lines)
         self.labels = {label.split(".")[0] for _, labels in self.guards for label in labels or ["of its trait"]}
         self.changed, self.is_outside = [], False
-        for file, old, _ in changes_of(self.text):
+        for file, old, _ in self.changes:
             holder = self.holder(file, old, sources)
             self.is_outside |= holder is None
             if holder and holder not in self.changed:
@@ -100,11 +104,11 @@ class Edit(Guards):
 
     def calls(self, sources):
         """The functions that it guards. A trait's call is that of the impl whose body changes."""
-        files, found = {file for file, _, _ in changes_of(self.text)}, []
+        found = []
         for call, _ in self.guards:
             kind, _, name = call.rpartition("::")
             changed = [one for one in self.changed if one.name == name and (not kind or kind in (one.of_type, one.of_trait))]
-            found += [one for one in changed or sources.named(call, files) if one not in found]
+            found += [one for one in changed or sources.named(call, self.files) if one not in found]
         return found
 
     def functions(self):
@@ -112,18 +116,18 @@ class Edit(Guards):
 
     def goes_alone(self):
         """Whether it changes more than one function can show: something outside functions, or several files."""
-        return self.is_outside or not self.asked or len({file for file, _, _ in changes_of(self.text)}) > 1
+        return self.is_outside or not self.asked or len(self.files) > 1
 
 
-def batches_of(edits, alone=False):
-    """Puts edits into as few batches as a greedy pass finds. No two edits of a batch ask for or change one function."""
+def batches_of(edits, most=None):
+    """Puts edits into as few batches as a greedy pass finds, of at most so many each. No two edits of a batch ask for or change one function."""
     batches = []
     for edit in edits:
         spots = set(edit.functions())
-        fitting = [] if alone or edit.goes_alone() else [batch for batch in batches if batch["open"] and not spots & batch["spots"]]
+        fitting = [] if edit.goes_alone() else [batch for batch in batches if batch["open"] and len(batch["edits"]) != most and not spots & batch["spots"]]
         if fitting:
             fitting[0]["edits"].append(edit)
             fitting[0]["spots"] |= spots
         else:
-            batches.append({"open": not edit.goes_alone() and not alone, "edits": [edit], "spots": spots})
+            batches.append({"open": not edit.goes_alone(), "edits": [edit], "spots": spots})
     return [batch["edits"] for batch in batches]

@@ -6,6 +6,7 @@
     <!-- figures aside -->       in the output that the block below shows, each number may be another
     <!-- file: PATH -->          the block below is written into the file
     <!-- file: PATH, behind: TEXT -->   the block below goes into the file, behind the item that begins with this text
+    <!-- file: PATH, before: TEXT -->  the block below and an empty line go into the file, before the line that begins with this text
     <!-- file: PATH, in place of: LINE -->   the block below takes the place of this line of the file
 """
 import re

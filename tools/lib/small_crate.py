@@ -103,27 +103,34 @@ module _ (key : Nat) where
   abbrev pub inside : Nat → Nat
   inside n = n + key
 """
-EDIT_TEXT = """\
-call: Store::put
-clause: state, room
-call: Page::count
-clause: of its trait
-test: a_put_is_found, two
-guards the key
-file: src/store.rt
-old: a
-new: b
-file: src/lib.rt
-old: call: c
-new: d
-file: src/store.rt
+EDITS = """\
+# Wrong bodies.
+
+stores_nothing
+  call: Store::put
+  clause: state, room
+  call: Page::count
+  clause: of its trait
+  test: a_put_is_found, two
+  guards the key
+  file: src/store.rt
+  old: a
+  new:   b
+  file: src/lib.rt
+  old: call: c
+  new: d
+
+changes_the_root
+  file: src/lib.rt
+  old: mod
+  new: # mod
 """
 
 
 def small_crate(folder):
     crate = Path(folder, "wt_small")
     for name, text in (("src/lib.rt", "mod store;\npub use store::{Store, Counted};\npub use wt_low::Deep;\n"), ("src/store.rt", SOURCE), ("specs/Lib.antt", SPECS),
-                       ("edits/stores_nothing.edit", EDIT_TEXT), ("edits/stores_twice.edit", "file: src/lib.rt\n")):
+                       ("edits.txt", EDITS)):
         path = crate / name
         path.parent.mkdir(parents=True, exist_ok=True)
         path.write_text(text)

@@ -1,7 +1,6 @@
 """The pages of a crate's definitions and edits, of labels, of Rattle's words, and the page that explains them."""
 import html
 
-from edits import changes_of
 from labels import labels_in
 
 from . import markdown
@@ -132,7 +131,7 @@ def edits(tree, site, crate):
         body.append('<section class="edit"><h3 id="%s">%s</h3>' % (edit.name, edit.name.replace("_", " ")))
         for call, names in edit.guards:
             body.append("<p>%s: %s</p>" % (site.link(tree.call(crate.name, call), here, "<code>%s</code>" % html.escape(call)), quoted_names(names) or "its trait’s clause"))
-        body += [changed(tree, site, here, crate, *change) for change in changes_of(edit.text)]
+        body += [changed(tree, site, here, crate, *change) for change in edit.changes]
         tests = [site.link(tree.test(test), here, test.replace("_", " ")) for test in edit.tests]
         body.append("<p>Tests: %s</p></section>" % ", ".join(tests) if tests else "</section>")
     site.add(here, "%s: wrong bodies" % crate.name, "\n".join(body), "reference")

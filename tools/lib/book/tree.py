@@ -3,6 +3,7 @@ import re
 from urllib.parse import quote
 
 from contracts import PROMISE_NOTHING, all_crates
+from edits import file_of
 from labels import labels_in
 from places import CRATES, TOP, stands_on, tests_outside
 from rules import PAGE, linked, rules_in, tests_by_call
@@ -118,8 +119,8 @@ class Tree:
     def entry(self, path, name):
         """The address of a name that a link leads to, in a file of a crate."""
         crate, place, *inside = path.relative_to(CRATES).with_suffix("").parts
-        if path.suffix == ".edit":
-            return self.edit(crate, path.stem) if crate in self.crates else self.source(path)
+        if path == file_of(CRATES / crate):
+            return self.edit(crate, name) if crate in self.crates else self.source(path)
         if place == "specs":
             return self.word(crate, ".".join(inside), name)
         inner = self.crates[crate].calls.get(name) if crate in self.crates else None
