@@ -66,6 +66,10 @@ class Trial:
         self.kit, self.crate, self.edits, self.kept = kit, crate, edits, kept
         self.wrong, self.said, self.status, self.seconds = {}, "", 0, 0.0
 
+    def alone(self, edit):
+        """A run of its own for one of the edits."""
+        return Trial(self.kit, self.crate, [edit], self.kept)
+
     def copy_into(self, room):
         for part in self.kit.PARTS:
             if os.path.isdir(os.path.join(self.crate.folder, part)):

@@ -9,7 +9,7 @@
 set -eu
 top=$(cd "$(dirname "$0")/../.." && pwd)
 . "$top/tools/lib/words.sh"
-# Proofs, tests and tried edits, and nothing of one machine's run.
+# Proofs, tests and verdicts on edits, and nothing of one machine's run.
 kept='^(proof|tests|edits)(-[^/]*)?(/|$)'
 
 if asks_help "$@"; then

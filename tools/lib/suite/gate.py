@@ -1,8 +1,8 @@
 #!/usr/bin/env python3
 """Runs side by side what the gate checks behind `rt ci`, on what that has proved and built: tools/lib/suite/gate.py LAST
 
-Prints what each part printed, as it ends. The last line, 'N passed, M failed', goes to the file LAST: an edit counts as one, and so
-does each other part.
+Prints what each part printed, as it ends. The last line, 'N passed, M failed', goes to the file LAST: each edit that was tried
+counts as one, and so does each other part.
 """
 import os
 import re
@@ -21,6 +21,8 @@ from suite.part import AT_WORK, FAILED, Part
 from words import Parser, end
 
 EDITS, LIBRARY = "the edits that are due", "the library for C, proved as it is built"
+# After a change in a low crate nearly all edits are due, which take hours: later runs try what is left.
+EDIT_SECONDS = 900
 NUMBERS = re.compile(r"^(\d+) passed, (\d+) failed", re.M)
 
 
@@ -28,7 +30,7 @@ def parts_of(library):
     gate = TOP / "tools" / "gate"
     # Libraries with a stamp are a session's own, which `rt ci` put back. `tools/embed` may build them anew, and edits stand on them.
     is_own = any(CRATES.glob("*/out/rlib/stamp"))
-    yield Part(EDITS, [gate / "try_edits", "--empty"], TOP, 400, after=(LIBRARY,) if is_own else ())
+    yield Part(EDITS, [gate / "try_edits", "--empty", "--seconds", str(EDIT_SECONDS)], TOP, EDIT_SECONDS, after=(LIBRARY,) if is_own else ())
     yield Part("refused memory, on the proved tests and the program", python(gate / "refuse_memory"), TOP, 60)
     yield Part("the program beside the model", python(gate / "check_program"), TOP, 40)
     yield Part("the scenarios beside the model", python(gate / "check_scenarios"), TOP, 10)
