@@ -24,7 +24,7 @@ impl Weighs for Page {
     }
 }
 
-// Puts a page, and tells what left for it.
+// Puts a page, and prints the entries that left for it.
 fn put<R: Print>(
     rt: &R,
     alloc: Global,
@@ -40,7 +40,7 @@ fn put<R: Print>(
     Ok(())
 }
 
-// Looks a page up, and tells how often it was seen.
+// Looks a page up, and prints how often it was seen.
 fn look<R: Print>(
     rt: &R,
     alloc: Global,

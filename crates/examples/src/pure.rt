@@ -14,9 +14,9 @@ use wt_core::Config;
 use wt_keys::Fault;
 use wt_shards::Books;
 
-/// Returns the check number of an account, by the cache: in every schedule, whether the number was
-/// there, loaded, shared with another caller's load or due for a refresh, and whatever memory was
-/// refused before.
+/// Returns the check number of an account, by the cache. The number is right in every schedule: if
+/// it was there, loaded, shared with another caller's load or due for a refresh. Earlier refusals
+/// of memory don't change it.
 fn check_number<B: Books, R: Wait>(
     caller: &mut Caller<u64, Check, &Checks, B, R>,
     account: u64,

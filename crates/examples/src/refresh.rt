@@ -24,7 +24,7 @@ impl Weighs for Rate {
     }
 }
 
-// Seeks the rate of currency 7, tells of it, and returns the load that the seek opened.
+// Seeks the rate of currency 7, prints it, and returns the load that the seek opened.
 fn seek<R: Print>(
     rt: &R,
     alloc: Global,

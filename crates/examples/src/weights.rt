@@ -24,7 +24,7 @@ impl Weighs for Picture {
     }
 }
 
-// Puts a picture, and tells what came of it and what left for it.
+// Puts a picture, and prints the result and the entries that left for it.
 fn put<R: Print>(
     rt: &R,
     alloc: Global,

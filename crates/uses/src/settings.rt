@@ -9,8 +9,8 @@ pub fn of() -> Config {
         .with_refresh(30_000)
 }
 
-/// The same with a larger window, with weights up to a million, for pages that expire if nobody
-/// uses them for ten seconds, and with at most 16 loads at once.
+/// The same with a larger window, with weights up to a million, and with at most 16 loads at once.
+/// Pages expire if nobody uses them for ten seconds.
 pub fn with() -> Config {
     of().with_window(100)
         .with_bound(1_000_000)

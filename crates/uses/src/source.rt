@@ -9,7 +9,7 @@ pub type Page = Keyed<u64, u64>;
 pub struct Source {}
 
 impl Source {
-    /// What the source says of a page that it hasn't.
+    /// The source's result for a page that it doesn't have.
     pub const MISSING: u32 = 404;
 }
 

@@ -1,4 +1,4 @@
-// The loading cache, and what is asked of it beside its steps.
+// The loading cache, how it is opened, and its reads.
 ghost use Rattle.std.specs.Prelude.{◌≡◌, ◌+◌, IfOk, IfErr, is_some};
 ghost use Rattle.wt_keys.specs.declared.fault.Fault.TheVariants as fault;
 ghost use Rattle.wt_shards.specs.Passes.{new_pass};
@@ -59,7 +59,7 @@ impl<K: CacheKey, V: Value<K>, L: Loader<K, V> + Drop, B: Books> LoadingCache<K,
         }
     }
 
-    /// Makes a caller's pass, which has made no step.
+    /// Gives out a caller's pass, which counts no step yet.
     ///
     /// `PassesSpent` only after 65,535 of them. Takes no memory, and each shard's lock in turn.
     pub fn pass<R: Wait>(&self, rt: &R, alloc: Global) -> Result<Pass<K, V, B>, Fault>
@@ -94,15 +94,14 @@ impl<K: CacheKey, V: Value<K>, L: Loader<K, V> + Drop, B: Books> LoadingCache<K,
         self.shards.shards()
     }
 
-    /// Returns the line that was handed in, if there was one. Takes no lock. O(1).
+    /// Returns the line of the loads for workers, if the cache has one. Takes no lock. O(1).
     pub fn line(&self) -> Option<&JobLine<K, V>>
         ensures { is_some result ≡ self.now.lined }
     {
         self.line.as_ref()
     }
 
-    /// Ends the cache, and hands its shards back, for `settle`. The loader and the line are
-    /// dropped.
+    /// Ends the cache, and returns its shards, for `settle`. The loader and the line are dropped.
     ///
     /// A load that is in the line still is never run: its ticket then waits for good. Takes no
     /// lock.

@@ -1,4 +1,4 @@
-// A thread's way to a cache: its pass, and the list of what left.
+// A thread's way to a cache: its pass, and the list of entries that left.
 ghost use Rattle.std.specs.Prelude.{◌≡◌, ◌*◌, ◌≤◌, ◌+◌, length};
 
 mod calls;
@@ -13,8 +13,8 @@ use wt_core::{Notice, Notices};
 use wt_keys::CacheKey;
 use wt_shards::{Books, Pass, Value};
 
-/// One thread's way to a cache, lent by `Callers::lend`: the leave to wait, a pass, and a list of
-/// what left the cache in its latest call.
+/// One thread's way to a cache, lent by `Callers::lend`: the permission to wait, a pass, and a list
+/// of the entries that left the cache in its latest call.
 ///
 /// Its calls are those of `LoadingCache`, with these three filled in. It can't be dropped, so that
 /// its pass isn't lost: `give_back` ends it.
@@ -67,7 +67,8 @@ impl<'c, K: CacheKey, V: Value<K>, L: Loader<K, V> + Drop, B: Books, R: Wait> Ca
         }
     }
 
-    /// Gives the pass and the list back, for the next caller that is lent. What left is dropped.
+    /// Gives the pass and the list back, for the next caller that is lent. The entries in the list
+    /// are dropped.
     ///
     /// Takes no memory, and the lock of the lender, under which nothing is dropped. Not promised:
     /// that it returns.
@@ -84,8 +85,8 @@ impl<'c, K: CacheKey, V: Value<K>, L: Loader<K, V> + Drop, B: Books, R: Wait> Ca
         callers.take_back(rt, loan, pass, left);
     }
 
-    /// Returns what left the cache in the latest call that empties this list, the earliest first.
-    /// Takes no memory and no lock. O(1).
+    /// Returns the entries that left the cache in the latest call that empties this list, the
+    /// earliest first. Takes no memory and no lock. O(1).
     ///
     /// In use: `uses::callers::put`.
     pub fn left(&self) -> &[Notice<K, V>]

@@ -2,7 +2,8 @@
 //
 //   lend ──► a pass and a list that came back, or new ones ──► calls ──► give_back
 //
-// A pass is given out once and never taken back by the shards, so what lends callers keeps theirs.
+// Shards give out a pass once, and never take it back. So the lender keeps the passes of its
+// callers.
 ghost use Rattle.std.specs.Prelude.{◌≡◌, ◌⊎◌, ◌+◌, [], IfOk, IfErr, length};
 ghost use Rattle.wt_keys.specs.declared.fault.Fault.TheVariants as fault;
 
@@ -25,7 +26,7 @@ pub struct Callers<K: CacheKey, V: Value<K>, L: Loader<K, V> + Drop, B: Books> {
     cache: LoadingCache<K, V, L, B>,
     // Under its lock no other one is taken.
     idle: Mutex<Idle<K, V, B>>,
-    // For passes, and for the lists of what left.
+    // For passes, and for the lists of entries that left.
     alloc: Global,
 }
 
@@ -67,8 +68,8 @@ impl<K: CacheKey, V: Value<K>, L: Loader<K, V> + Drop, B: Books> Callers<K, V, L
         &self.cache
     }
 
-    /// Lends a caller, until `Caller::give_back`. What its pass counts may be the steps of others
-    /// that had it before.
+    /// Lends a caller, until `Caller::give_back`. Its pass may also count the steps of earlier
+    /// callers that had it.
     ///
     /// `NoMemory` comes before `PassesSpent`, which comes only while 65,535 passes are lent or
     /// were taken by `LoadingCache::pass`. Takes memory only if more are lent than ever before: for
@@ -92,7 +93,7 @@ impl<K: CacheKey, V: Value<K>, L: Loader<K, V> + Drop, B: Books> Callers<K, V, L
         Ok(Caller::new(rt, self, pass, left, loan))
     }
 
-    // Takes back what a caller had.
+    // Takes back a caller's pass and its list.
     pub(crate) fn take_back<R: Wait>(
         &self,
         rt: &R,

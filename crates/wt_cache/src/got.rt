@@ -1,4 +1,4 @@
-// What the calls answer.
+// The results of a get and of a worker.
 
 /// How a value was got.
 #[derive(Clone, Copy, Debug, PartialEq, Eq)]
@@ -25,13 +25,13 @@ pub struct Got<V> {
     pub step: u64,
 }
 
-/// What a worker did.
+/// A worker's count of its jobs.
 #[derive(Clone, Copy, Debug, PartialEq, Eq)]
 pub struct WorkerReport {
     /// The jobs that it took.
     pub jobs: u64,
-    /// The loads among them that answered an error.
+    /// The loads among them that returned an error.
     pub failed: u64,
-    /// What left the cache in its landings. It stays at 2^64 - 1.
+    /// The entries that left the cache in its landings. It stays at 2^64 - 1.
     pub removed: u64,
 }

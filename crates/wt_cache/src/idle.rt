@@ -1,9 +1,10 @@
-// What no caller of a lender has at the moment, and what a caller owes for its pass.
+// The lender's free list, and the token that makes a caller return its pass.
 //
-//   a new pass, or one that came back ──► a caller, with a loan ──► take_in ──► what is idle ──► passes
+//   a new pass, or one that came back ──► a caller, with a `Loan` ──► take_in ──► `Idle` ──► passes
 //
-// A loan, what is idle and what is returned can't be dropped, nor leaked. A loan ends in `take_in`,
-// which keeps the pass that it is handed. What is idle ends in `passes`, which returns all of them.
+// No code can drop or leak a `Loan`, an `Idle` or a `Returned`. A `Loan` ends in `take_in`, which
+// keeps the caller's pass. An `Idle` becomes a `Returned` when the lender ends, and `passes`
+// returns all passes that are in it.
 ghost use Rattle.std.specs.Prelude.{◌≡◌, ◌≤◌, ◌+◌, [], false, length, IfOk, OnErr};
 ghost use Rattle.wt_cache.specs.Idling.{IsBack, IsLentAgain, none_back};
 
@@ -17,7 +18,7 @@ use wt_shards::{Books, Pass};
 // How many passes shards give out.
 const MOST_PASSES: usize = 65_535;
 
-/// What a caller owes its lender: a pass.
+/// The token of a caller that has a pass of the lender: the caller has to return the pass.
 pub(crate) struct Loan {
     // Whether that pass came back before.
     again: bool,
@@ -32,7 +33,7 @@ impl Loan {
     }
 }
 
-/// What no caller has at the moment.
+/// The passes and lists that no caller has at the moment.
 pub(crate) struct Idle<K, V, B: Books> {
     passes: Vec<Pass<K, V, B>>,
     lists: Vec<Notices<K, V>>,
@@ -106,7 +107,8 @@ impl<K: Drop, V: Drop, B: Books> Idle<K, V, B> {
         Ok(None)
     }
 
-    /// Takes back what a caller had. `pass` made the room, so that neither push takes memory.
+    /// Takes back a caller's pass and list. `pass` made the room, so that neither push takes
+    /// memory.
     ///
     /// Each loan was counted, or has its room, so the numbers agree with it. The types can't say so:
     /// if they didn't agree, this would never return.
@@ -139,7 +141,7 @@ impl<K: Drop, V: Drop, B: Books> Idle<K, V, B> {
     }
 }
 
-/// What a lender of callers ends with: the passes that came back to it, for `settle`.
+/// The passes that came back to a lender of callers, once it has ended, for `settle`.
 ///
 /// It can't be dropped, so that no pass is lost unseen: `passes` ends it.
 pub struct Returned<K, V, B: Books> {
@@ -155,7 +157,7 @@ impl<K, V, B: Books> Model for Returned<K, V, B> {
 }
 
 impl<K: Drop, V: Drop, B: Books> Returned<K, V, B> {
-    /// What is idle at the end.
+    /// Keeps the passes that are idle at the end.
     pub(crate) fn of(idle: Idle<K, V, B>) -> Returned<K, V, B>
         ensures state { result ≡ idle }
         ensures back { idle.came ≡ length idle.passes + idle.lent }

@@ -1,9 +1,9 @@
 // The line of loads that wait for a worker.
 //
 // A caller whose seek opened a load may post its lead here and wait; a worker takes it and runs the
-// load. The line is open until it is closed, once and for good. A poster reads the closing
-// mark before the push and after it. If it finds the mark set after the push, maybe no worker comes
-// any more: so it runs what is in the line itself.
+// load. The line is open until it is closed, once and for good. A poster reads the closing mark
+// before the push and after it. If it finds the mark set after the push, no worker may be left: so
+// it runs the loads in the line itself.
 //
 //   worker   look for a while ── lock the bell ── look again ── sleep, giving the lock back ──► look
 //   poster   push ── lock the bell ── wake one worker
@@ -12,8 +12,8 @@
 // A worker first looks for some 20 microseconds, since a sleep and a wake take as long. It looks for
 // the last time under the bell's lock, which a poster takes after its push. A push that this look
 // missed is rung once the worker sleeps, so it isn't slept through. The closer marks under the same
-// lock, so the mark isn't set between a worker's last look and its look at the mark: in whichever
-// order a worker makes the two, it leaves no load behind that its poster doesn't run.
+// lock, so it can't set the mark between a worker's last look and its look at the mark. In
+// whichever order a worker makes the two, its poster runs each load that it leaves behind.
 ghost use Rattle.std.specs.Prelude.{◌≡◌, ◌≤◌, [], IfOk, IfErr, Err, IsOkUnless};
 ghost use Rattle.wt_keys.specs.declared.fault.Fault.TheVariants as fault;
 ghost use Rattle.wt_keys.specs.declared.fault.Field.TheVariants as field;
@@ -41,7 +41,7 @@ pub enum Posted {
 /// A load that wasn't put into the line, and why.
 #[derive(Drop)]
 pub struct Back<K, V> {
-    /// The lead that was handed in. Its holder is to run the load.
+    /// The lead of the post. Its holder has to run the load.
     pub lead: Lead<K, V>,
     /// `LineFull` or `LineClosed`.
     pub fault: Fault,
@@ -98,7 +98,7 @@ impl<K: Copy + Drop, V: Drop> JobLine<K, V> {
         self.first.lock(rt).split()
     }
 
-    /// Puts a load at the end of the line, or hands its lead back.
+    /// Puts a load at the end of the line, or returns its lead.
     ///
     /// Returns `Line` if the line was open still after the put, and wakes a worker if one sleeps;
     /// `Late` if it was closed by then. `LineClosed` comes before `LineFull`. The pass is to be
@@ -174,9 +174,9 @@ impl<K: Copy + Drop, V: Drop> JobLine<K, V> {
         unreachable!()
     }
 
-    /// Closes the line, for good, and wakes the workers that sleep: a later post is handed its lead
-    /// back, a worker ends once it finds nothing more. Takes no memory, and the lock of the line's
-    /// bell.
+    /// Closes the line, for good, and wakes the workers that sleep. A later post gets its lead
+    /// back, and a worker ends once it finds nothing more. Takes no memory, and the lock of the
+    /// line's bell.
     ///
     /// In use: `uses::lines::close`.
     pub fn close<R: Wait>(&self, rt: &R) {
@@ -186,7 +186,7 @@ impl<K: Copy + Drop, V: Drop> JobLine<K, V> {
         drop(gate);
     }
 
-    /// Returns whether the line is closed. Takes no lock. What it returns may be old at once.
+    /// Returns whether the line is closed. Takes no lock. The result may be out of date at once.
     pub fn is_closed(&self) -> bool {
         self.closed.load(Ordering::SeqCst)
     }

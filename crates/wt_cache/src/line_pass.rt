@@ -1,9 +1,10 @@
-// What one caller does with the job line, and the rule that all of them keep.
+// A caller's pass for the job line, and the rule that all passes keep.
 //
-// The line is a queue under a rule over the names of the loads that it holds and over the puts and
-// takes of every pass that was ever made: each put has a number of its own, each take the number
-// and the name of one put, in the order of the puts, and what was put and not taken is in the line.
-// Every push and every pop keeps the rule, so it holds at each atomic step of every schedule.
+// The line is a queue with a rule. The rule speaks of the names of the loads in the line, and of
+// the puts and takes of every pass so far. Each put has a number of its own. Each take has the
+// number and the name of one put, in the order of the puts. A load that was put and not taken is in
+// the line. Every push and every pop keeps the rule, so it holds at each atomic step of every
+// schedule.
 ghost use Rattle.std.specs.Prelude.{◌≡◌, ◌<◌, [], IfOk};
 ghost use Rattle.std.specs.Arc.{arc_value};
 ghost use Rattle.crossbeam_queue.specs.Passes.{view as known_by, IsPassOf};
@@ -29,7 +30,7 @@ impl<K, V> Protocol<Lead<K, V>, Hand<K>> for Numbers {
     ghost first = { hand [] [] };
 }
 
-/// What a put leaves of its pass: one put more, of the load's name.
+/// The pass after a put: one more put, of the load's name.
 pub struct Puts;
 
 impl<K, V> Outcome<Lead<K, V>, Hand<K>> for Puts {
@@ -40,7 +41,7 @@ impl<K, V> Lesson<Lead<K, V>, Hand<K>> for Puts {
     ghost fact = { λ v items. Unit {0} };
 }
 
-/// What a take leaves of its pass: one take more, of the load's name.
+/// The pass after a take: one more take, of the load's name.
 pub struct Takes;
 
 impl<K, V> Outcome<Lead<K, V>, Hand<K>> for Takes {
@@ -54,14 +55,15 @@ impl<K, V> Lesson<Lead<K, V>, Hand<K>> for Takes {
 // The queue of a line.
 pub(crate) type Queue<K, V> = RuledArrayQueue<Lead<K, V>, Hand<K>, Numbers>;
 
-/// What one caller does with the job line. Contracts see what it put and what it took.
+/// A caller's pass for the job line. Contracts see its puts and its takes.
 ///
-/// Each thread has its own; what a pass did stays in the line's rule when the pass is dropped.
+/// Each thread has its own; the puts and takes of a pass stay in the line's rule when the pass is
+/// dropped.
 #[derive(Drop)]
 pub struct LinePass<K, V> {
     // The line's queue, which the pass goes by.
     queue: Arc<Queue<K, V>, Global>,
-    // What this holder put and took, in the queue's own book.
+    // The puts and takes of this holder, in the queue's own book.
     pass: Pass<Lead<K, V>, Hand<K>>,
 }
 
@@ -74,7 +76,7 @@ impl<K, V> Model for LinePass<K, V> {
 }
 
 impl<K: Copy + Drop, V: Drop> LinePass<K, V> {
-    // Pushes a load to the queue's end, or hands it back if the queue is full.
+    // Pushes a load to the queue's end, or returns it if the queue is full.
     pub(crate) fn push<R: Wait>(&mut self, rt: &R, lead: Lead<K, V>) -> Result<(), Lead<K, V>>
         ensures moved { IsPut result (λ back. back) lead self.old self.new }
     {

@@ -1,9 +1,9 @@
-// What loads.
+// The trait of loaders: the user's code that loads the value of a missing key.
 ghost use Rattle.std.specs.Prelude.{IsTrue, IfOk};
 
 use wt_keys::Answers;
 
-/// What loads the value of a key, in the caller's thread or in a worker's.
+/// The user's code that loads the value of a key, in the caller's thread or in a worker's.
 pub trait Loader<K, V: Answers<K>>: Sync {
     /// Loads the value of the key, or returns a code of the loader's own.
     ///

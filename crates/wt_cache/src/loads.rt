@@ -30,9 +30,9 @@ use wt_shards::{Books, Pass, Value};
 pub(crate) struct Ran<K, V> {
     /// Whether the loader returned an error.
     pub failed: bool,
-    /// Whether the landing was made.
+    /// The result of the landing: nothing, or the fault that refused it.
     pub landed: Result<(), Fault>,
-    /// What became of the outcome: the ticket that knows it.
+    /// The result of the publishing: the ticket that knows the outcome.
     pub published: Publish<K, V>,
 }
 
@@ -52,7 +52,7 @@ fn announce<K: CacheKey, V: Share + Answers<K>, R: Wait>(
     published
 }
 
-// Waits for the outcome of a load, and returns a share of its value, or the fault that tells it.
+// Waits for the outcome of a load, and returns a share of its value, or the outcome's fault.
 pub(crate) fn value_of<K: CacheKey, V: Share + Answers<K>, R: Wait>(
     rt: &R,
     ticket: &mut Ticket<K, V>,
@@ -65,7 +65,7 @@ pub(crate) fn value_of<K: CacheKey, V: Share + Answers<K>, R: Wait>(
     value_in(ticket.wait(rt)?)
 }
 
-// The value of an outcome, or the fault that tells it.
+// The value of an outcome, or its fault.
 pub(crate) fn value_in<V>(outcome: Outcome<V>) -> Result<V, Fault>
     ensures { result ≡ value_in outcome }
 {

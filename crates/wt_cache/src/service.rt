@@ -16,18 +16,19 @@ use wt_core::Config;
 use wt_keys::{CacheKey, Fault, NoMemory};
 use wt_shards::{Blanks, Books, Names, Of, Shards, Value};
 
-/// A source of values, and what each thread does with a cache before it.
+/// A source of values, and the work of each thread with a cache before it.
 pub trait Service<K: CacheKey, V: Value<K>>: Loader<K, V> {
     ghost use Rattle.std.specs.Prelude.{⊤, ℕ, Result};
     ghost use Rattle.wt_keys.specs.declared.fault.Fault.{Fault};
 
-    /// What a thread returns.
+    /// The result of a thread's work.
     type Answer: Send + Drop;
 
-    /// What the work of a thread may return, by its number: anything, unless the service says it.
+    /// The results that the work of a thread may have, by its number: all, unless the service
+    /// narrows them.
     ghost gives: { Self → ℕ → Result Self.Answer Fault → Type 0 } = { λ _ _ _. ⊤ };
 
-    /// Does the work of one thread, by its number from 0. What it returns, `serve` returns for it.
+    /// Does the work of one thread, by its number from 0. `serve` returns its result.
     ///
     /// It is called in each thread at once. Not promised: that it returns.
     fn work<B: Books, R: Wait>(
@@ -38,13 +39,13 @@ pub trait Service<K: CacheKey, V: Value<K>>: Loader<K, V> {
         ensures { gives self.now thread result };
 }
 
-/// Makes a cache of `shards` shards before the service, 1, 2 or 4 of them, each for this
-/// configuration, runs `threads` threads over it, and returns what each of them returned.
+/// Makes a cache before the service, runs `threads` threads over it, and returns the result of
+/// each. The cache has `shards` shards, 1, 2 or 4, each for this configuration.
 ///
 /// `BadConfig` of the number of shards first, then as `Config::check` returns it, before memory is
-/// asked for. Where a thread gets no caller, its own answer is the fault, as `Callers::lend` returns
-/// it. Where no thread can be made, the work is done one after another. Takes memory as
-/// `Shards::new` does, and for the answers. Not promised: that it returns.
+/// asked for. If a thread gets no caller, its own result is the fault of `Callers::lend`. If no
+/// thread can be made, the work is done one after another. Takes memory as `Shards::new` does, and
+/// for the results. Not promised: that it returns.
 pub fn serve<K: CacheKey, V: Value<K>, S: Service<K, V>, R: Threads + Wait + Sync>(
     rt: &R,
     alloc: Global,

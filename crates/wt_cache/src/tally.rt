@@ -1,4 +1,4 @@
-// What a caller's calls met, counted for an operator.
+// Counts of a caller's results, for an operator: hits, loads, entries that left, faults.
 ghost use Rattle.std.specs.Prelude.{◌≡◌};
 ghost use Rattle.wt_cache.specs.Tally as spec;
 ghost use Rattle.wt_cache.specs.Tally.{tally_after, tally_sum, tally_of_fault, tally_of_left};
@@ -9,11 +9,11 @@ use wt_core::{Cause, Notice, Reply};
 use wt_keys::Fault;
 use wt_shards::{Done, Sought};
 
-/// What one caller's calls met, counted. The tallies of several callers add up.
+/// Counts of the results of one caller's calls. The tallies of several callers add up.
 ///
-/// The caller feeds it with what its calls return, and nothing else changes it. Each count stays at
-/// 2^64 - 1. Look-ups are `hits` and `misses` together; what left by the cache's own rules is
-/// `expired` and `size` together.
+/// The caller feeds it with the results of its calls, and nothing else changes it. Each count stays
+/// at 2^64 - 1. Look-ups are `hits` and `misses` together. Entries that left by the cache's own
+/// rules are `expired` and `size` together.
 #[derive(Clone, Copy, Debug, PartialEq, Eq)]
 pub struct Tally {
     /// Look-ups that found a value, due ones included.
@@ -27,7 +27,7 @@ pub struct Tally {
     /// Loads that brought a value: landings, and gets that returned their own load's value.
     pub loads: u64,
     /// Landings with a value that wasn't stored, since its key was changed meanwhile, it was too
-    /// heavy, or its share was refused. A get doesn't tell of them.
+    /// heavy, or its share was refused. A get doesn't report them.
     pub loose: u64,
     /// Landings with an error, and gets that returned the fault of a load.
     pub failed: u64,
@@ -49,7 +49,7 @@ pub struct Tally {
     pub other: u64,
 }
 
-/// What a tally counts of a call that returned it.
+/// The result of a call, as a tally counts it.
 pub trait Countable {
     ghost use Rattle.wt_cache.specs.declared.tally.Tally.{Tally};
 
@@ -80,7 +80,7 @@ impl Tally {
         other: 0,
     };
 
-    /// Counts what a call returned, and the entries that left by it.
+    /// Counts the result of a call, and the entries that left by it.
     ///
     /// `left` is the list of its notices, which the caller empties before each call; a notice that
     /// is passed twice is counted twice. Never fails, takes no memory and no lock. O(notices).
@@ -145,7 +145,7 @@ impl fmt::Display for Tally {
     }
 }
 
-// What one call adds, by what it met.
+// The counts that one call adds, by its result.
 const HIT: Tally = Tally {
     hits: 1,
     ..Tally::NOTHING
@@ -259,7 +259,7 @@ impl<K, V> Countable for Sought<K, V> {
     }
 }
 
-/// Of a put, and of a sweep of all shards, only what left is counted.
+/// Of a put, and of a sweep of all shards, only the entries that left are counted.
 impl Countable for () {
     ghost use Rattle.wt_cache.specs.Tally.{no_tally};
 
@@ -270,7 +270,7 @@ impl Countable for () {
     }
 }
 
-/// Of a removal, and of a forget, only what left is counted.
+/// Of a removal, and of a forget, only the entries that left are counted.
 impl Countable for bool {
     ghost use Rattle.wt_cache.specs.Tally.{no_tally};
 

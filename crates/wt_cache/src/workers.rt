@@ -22,11 +22,11 @@ impl<K: CacheKey, V: Value<K>, L: Loader<K, V> + Drop, B: Books> LoadingCache<K,
     /// Ends once the line is closed and it found no load there; after 2^40 loads; or at once if the
     /// cache has no line. While the line is open and empty it looks again for some 20 microseconds,
     /// and then sleeps until a post or the close wakes it. A load whose landing is refused is
-    /// published and rung all the same. What leaves the cache is counted and dropped, and so is
-    /// what the list held before. Any number of workers may run at once, each with passes of its
-    /// own. The pass of the line is to be one of this cache's line. Takes the lock of a key's shard
-    /// for each landing, and that of the line's bell before it sleeps. Not promised: that it is
-    /// woken; that it returns.
+    /// published and rung all the same. Entries that leave the cache are counted and dropped, and
+    /// those that were in the list before are dropped too. Any number of workers may run at once,
+    /// each with passes of its own. The pass of the line is to be one of this cache's line. Takes
+    /// the lock of a key's shard for each landing, and that of the line's bell before it sleeps.
+    /// Not promised: that it is woken; that it returns.
     ///
     /// In use: `uses::lines::run_worker`.
     pub fn run_worker<R: Wait>(
@@ -64,7 +64,7 @@ impl<K: CacheKey, V: Value<K>, L: Loader<K, V> + Drop, B: Books> LoadingCache<K,
         unreachable!()
     }
 
-    // Runs one load of a worker: what leaves the cache is counted and dropped.
+    // Runs one load of a worker: entries that leave the cache are counted and dropped.
     fn work<R: Wait>(
         &self,
         rt: &R,

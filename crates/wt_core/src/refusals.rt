@@ -1,4 +1,5 @@
-// What the state refuses: decided here for the calls, and for a caller that asks beforehand.
+// The checks that refuse a step: the core's calls make them before they change anything, and a
+// shard makes them before it records the step.
 ghost use Rattle.std.specs.Prelude.{◌≡◌, ◌<◌, ◌≤◌, ◌^◌, Some, None, IfOk, IfErr, OnOk, length, true};
 ghost use Rattle.wt_keys.specs.declared.fault.Fault.TheVariants as fault;
 ghost use Rattle.wt_core.specs.declared.calls.Call.TheVariants.{Seek};
@@ -9,10 +10,10 @@ use crate::sequential::Core;
 use wt_keys::{CacheKey, Fault, Share};
 use wt_regions::Weighs;
 
-// From this number on no step is made, but the landing of an open load, so that no count can wrap.
+// From this number on only the landing of an open load is allowed, so that no count can wrap.
 const MAX_STEPS: u64 = 1 << 60;
 
-// `StepsSpent` from the last step on.
+// Refuses a step with `StepsSpent` once `MAX_STEPS` steps are counted.
 #[inline(always)]
 pub(crate) fn unspent(step: u64) -> Result<(), Fault>
     ensures ok { OnOk result (step < 2 ^ 60) }
@@ -24,7 +25,7 @@ pub(crate) fn unspent(step: u64) -> Result<(), Fault>
     Ok(())
 }
 
-// `TooHeavy` for a weight above the bound.
+// Refuses a weight above the bound with `TooHeavy`.
 #[inline(always)]
 pub(crate) fn within(weight: u32, bound: u64) -> Result<(), Fault>
     ensures ok { OnOk result (weight ≤ bound) }

@@ -4,7 +4,7 @@
 //         ──► sketch     how often each key was counted, for the duel
 //         ──► flights    the loads that are open
 //
-// Each of the eight steps (`steps/`) is a function of the whole state.
+// Each of the nine steps (`steps/`) is a function of the whole state.
 ghost use Rattle.std.specs.Prelude.{◌≡◌, ◌==◌, [], IfOk, IsOk, length};
 ghost use Rattle.std.specs.Map.{keys_of};
 ghost use Rattle.std.specs.Option.{option_map};

@@ -1,4 +1,4 @@
-// What C holds of a cache.
+// C's handle of a cache: a pointer to it while it is open.
 ghost use Rattle.std.specs.Prelude.{◌≡◌, Some, None, IsNone, is_some};
 ghost use Rattle.std.specs.Option.{option_map};
 
@@ -8,8 +8,8 @@ use crate::raw_box::RawBox;
 use std::alloc::Global;
 use std::{mem, ptr};
 
-// What a call returns if the cache is closed, if it is open already, if there is no such
-// notice, if the cache has keys of the other kind, and if a name is longer than 24 bytes.
+// The numbers that calls return for a closed cache, an open one, a missing notice, keys of the
+// other kind, and a name longer than 24 bytes.
 pub(crate) const CLOSED: u64 = 100;
 
 pub(crate) const OPEN: u64 = 101;
@@ -20,7 +20,7 @@ pub(crate) const OTHER_KEYS: u64 = 103;
 
 pub(crate) const TOO_LONG: u64 = 104;
 
-/// What C holds of a cache: `rd_cache` of the header. All bytes zero, it is closed.
+/// C's handle of a cache: `rd_cache` of the header. If all its bytes are zero, it is closed.
 #[repr(C)]
 #[derive(Drop)]
 pub struct Handle {
@@ -49,7 +49,7 @@ impl Handle {
         Some(handle.pointer.into_raw_box().into_box())
     }
 
-    // Puts a cache in. The handle is to be closed: what was there would never be freed.
+    // Puts a cache in. The handle has to be closed: an open cache in it would never be freed.
     #[inline(always)]
     pub(crate) fn give(&mut self, opened: Box<Opened, Global>)
         requires { IsNone self.old.pointer.cache }

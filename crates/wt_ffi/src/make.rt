@@ -1,4 +1,4 @@
-// The one step that each of C's calls by number makes.
+// Makes the one step of each of C's calls by number.
 ghost use Rattle.std.specs.Prelude.{◌≡◌, ◌<◌};
 ghost use Rattle.wt_ffi.specs.Handle.{HasNumbers, IfNumbers, IsIdleIfClosed, IsIdleIfNames};
 ghost use Rattle.wt_ffi.specs.Numbered.{after, number_after, answer_after, IsRefused, IsFree};

@@ -10,7 +10,7 @@ use std::marker::Model;
 
 /// A pointer to a box of an open cache, which it owns, or to nothing.
 ///
-/// What the pointer leads to is no type of C's, so its own type is that of a byte.
+/// C has no type for the box behind the pointer, so the pointer's type is that of a byte's.
 #[repr(C)]
 #[derive(Drop)]
 pub struct Pointer {

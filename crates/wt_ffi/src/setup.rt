@@ -14,7 +14,7 @@ use wt_core::{Config, Core};
 use wt_keys::{CacheKey, Fault, Field};
 use wt_regions::Notices;
 
-/// What a cache is opened for: `rd_setup` of the header.
+/// The settings of a cache that C opens: `rd_setup` of the header.
 #[repr(C)]
 #[derive(Clone, Copy, PartialEq, Eq)]
 pub struct Setup {
@@ -93,8 +93,8 @@ pub(crate) fn hold(alloc: Global, handle: &mut Handle, opened: Opened) -> u64
 
 /// Opens an empty cache whose keys are numbers, and returns 0.
 ///
-/// 101 if the handle is open already, 2 if the setup is out of its ranges, 1 if memory is
-/// refused, in this order; the handle is then as it was. Takes memory for all the entries.
+/// Returns 101 if the handle is open already, 2 if the setup is out of its ranges, 1 if an
+/// allocation fails, in this order. The handle is then as it was. Takes memory for all the entries.
 #[unsafe(no_mangle)]
 pub extern "C" fn rd_open(alloc: Global, setup: &Setup, handle: &mut Handle) -> u64
     ensures made { IsOpening empty_numbers setup.now handle.old handle.new result }
@@ -108,9 +108,9 @@ pub extern "C" fn rd_open(alloc: Global, setup: &Setup, handle: &mut Handle) -> 
     }
 }
 
-/// Closes the cache and returns 0; 100 if it is closed already. No notice tells of what it held.
+/// Closes the cache and returns 0; 100 if it is closed already. Its entries have no notices.
 ///
-/// That its memory is freed is in no clause.
+/// No clause promises that its memory is freed.
 #[unsafe(no_mangle)]
 pub extern "C" fn rd_close(alloc: Global, handle: &mut Handle) -> u64
     ensures state { cache_of handle.new ≡ None }

@@ -1,4 +1,4 @@
-// What C may read of a cache.
+// The reads of C: a cache's numbers, and the notices of its latest call.
 ghost use Rattle.std.specs.Prelude.{◌≡◌};
 ghost use Rattle.wt_ffi.specs.Contract.{IsNoticeRead};
 ghost use Rattle.wt_ffi.specs.Handle.{cache_of, IfOpen, IsIdleIfClosed};
@@ -31,9 +31,9 @@ pub struct Numbers {
     pub evicted: u64,
     /// Entries held now.
     pub entries: u64,
-    /// What they weigh together.
+    /// Their weight together.
     pub weight: u64,
-    /// How many steps were made.
+    /// The number of steps so far.
     pub step: u64,
     /// The latest moment.
     pub latest: u64,
@@ -66,7 +66,7 @@ pub(crate) fn cause_number(cause: Cause) -> u32
     }
 }
 
-// The notice, as it is told to C.
+// The notice that C gets for one of the cache's.
 pub(crate) fn left_of(notice: &Notice<u64, Token>) -> Left
     ensures { result ≡ left_of notice.now }
 {
@@ -124,7 +124,7 @@ pub extern "C" fn rd_get_numbers(alloc: Global, handle: &mut Handle, numbers: &m
     0
 }
 
-// What a reading of a notice returns, and writes if there is one.
+// Writes the notice if there is one, and returns the number for C.
 pub(crate) fn tell<L: Copy>(found: Option<L>, left: &mut L) -> u64
     ensures { Reads found result left.old left.new }
 {
@@ -137,7 +137,7 @@ pub(crate) fn tell<L: Copy>(found: Option<L>, left: &mut L) -> u64
     }
 }
 
-/// Tells a notice of the latest call on a cache of numbers, by its place from 0, and returns 0.
+/// Writes a notice of the latest call on a cache of numbers, by its place from 0, and returns 0.
 ///
 /// 100 if the cache is closed, 103 if its keys are names, 102 if there is no such notice.
 /// Takes no memory. O(1).

@@ -1,4 +1,4 @@
-// The one step that a clear or a clean of C makes, whichever keys the cache has.
+// Makes the one step of C's clear or clean, whichever keys the cache has.
 ghost use Rattle.std.specs.Prelude.{◌≡◌, ◌<◌, IsSome};
 ghost use Rattle.wt_ffi.specs.Sweeps.{sweep_call, after, number_after, answer_after, IsRefused};
 ghost use Rattle.wt_ffi.specs.Handle.{cache_of, Has, IfOpen, IsIdleIfClosed};
@@ -10,7 +10,7 @@ use crate::token::Token;
 use std::alloc::Global;
 use wt_core::Call;
 
-/// What becomes of all entries.
+/// The two calls that sweep all entries.
 #[derive(Clone, Copy)]
 pub enum Sweep {
     /// Every one leaves.

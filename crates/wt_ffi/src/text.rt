@@ -1,4 +1,4 @@
-// A name as C hands it in.
+// A name as C passes it.
 ghost use Rattle.std.specs.Prelude.{◌≡◌};
 ghost use Rattle.wt_ffi.specs.Names.{name_of, text_of};
 

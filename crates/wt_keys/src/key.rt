@@ -1,4 +1,4 @@
-// What a key is.
+// The trait of keys, and numbers as keys.
 ghost use Rattle.std.specs.Prelude.{◌≡◌, ℕ, true};
 
 use std::hash::Hash;

@@ -1,4 +1,4 @@
-//! What every layer of the cache speaks of: keys, what a value offers, and why a call is refused.
+//! The types that every layer of the cache uses: keys, the traits of values, and the faults.
 #![tactic(auto)]
 
 mod fault;

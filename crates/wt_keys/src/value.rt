@@ -1,4 +1,4 @@
-// What a value offers.
+// The traits of values: how a cache shares a value, and which keys the value may stand for.
 ghost use Rattle.std.specs.Prelude.{◌≡◌, IfOk, IsOk, IsTrue, Bool, true, false};
 
 use crate::fault::NoMemory;

@@ -1,4 +1,4 @@
-// The limits of the regions: what they allow, and what is expired by them.
+// The limits of the regions: their ranges, and the age at which an entry expires or is due.
 ghost use Rattle.std.specs.Prelude.{◌≡◌, ◌&&◌, ◌||◌, not, is_some, if◌then◌else◌};
 ghost use Rattle.wt_regions.specs.declared.notices.Cause.TheVariants.{Expired};
 ghost use Rattle.wt_regions.specs.Lists.{gone_by, is_expired, is_due, main_cap, protected_cap};
@@ -11,21 +11,27 @@ use wt_keys::Field;
 /// The limits of the three regions. Durations are in milliseconds; `None` for none.
 #[derive(Clone, Copy, Debug, PartialEq, Eq)]
 pub struct Caps {
-    /// How many entries all regions may hold: 1 to 65,536.
+    /// How many entries all regions may hold: 1 to 65,536. For example, 10,000 pages of 2 KB take
+    /// about 20 MB.
     pub entries: u32,
-    /// How many of them window may hold: 1 to `entries`.
+    /// How many of them window may hold: 1 to `entries`. With 100 of 10,000, main may hold 9,900,
+    /// and protected 7,920 of these.
     pub window: u32,
-    /// How much all entries may weigh together: 1 to 2^48.
+    /// How much all entries may weigh together: 1 to 2^48. For example, 67,108,864 is 64 MiB, if
+    /// each value weighs its size in bytes.
     pub bound: u64,
-    /// How long after it was written an entry expires, in milliseconds.
+    /// How long after it was written an entry expires, in milliseconds. With 60,000 an entry that
+    /// was written at 5,000 is expired from 65,000 on.
     pub after_write: Option<u64>,
-    /// How long after it was used an entry expires, in milliseconds.
+    /// How long after it was used an entry expires, in milliseconds. With 60,000 an entry that was
+    /// last used at 5,000 is expired from 65,000 on.
     pub after_access: Option<u64>,
-    /// How long after it was written an entry is due for a further load, in milliseconds.
+    /// How long after it was written an entry is due for a further load, in milliseconds. With
+    /// 45,000 an entry that was written at 5,000 is due from 50,000 on, until it expires.
     pub refresh: Option<u64>,
 }
 
-// Ours: more would make one shard's tables large, and shards are to be many.
+// Ours: a cache with more entries should have more shards, and not larger tables in one.
 const MOST_ENTRIES: u32 = 65_536;
 
 // 2^48, so that a sum of weights and one more value's never wraps.

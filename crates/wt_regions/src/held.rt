@@ -1,16 +1,16 @@
-// What a region holds, and shares of it: a move puts a share in the new place before the old one
-// goes.
+// An entry of a region without its key, and shares of it. A move first puts a share in the new
+// place, and then removes the old one.
 ghost use Rattle.std.specs.Prelude.{◌≡◌, IfOk, IsOk, IsTrue};
 ghost use Rattle.wt_regions.specs.Lists.{used};
 
 use wt_keys::{NoMemory, Share};
 
-/// What a region holds beside a key. Contracts see it; callers get its value alone.
+/// An entry of a region, without its key. Contracts see all of it; callers get its value alone.
 #[derive(Drop)]
 pub struct Held<V> {
     /// The value.
     pub value: V,
-    /// What the value weighs, as it said when it was stored.
+    /// The value's weight when it was stored.
     pub weight: u32,
     /// The number of the step that stored it.
     pub stamp: u64,

@@ -14,9 +14,9 @@ use crate::weighs::Weighs;
 use lru::LruCache;
 use wt_keys::{CacheKey, Share};
 
-// Every expired entry of the region leaves, from last to first. Of the weight before it answers
-// what is left. It looks at the last once for each entry: one that stays comes to the front, so
-// that all have their old order again after the last turn.
+// Removes every expired entry of the region, from last to first, and returns the remaining weight.
+// It looks at the last entry once for each entry of the region. One that stays moves to the front,
+// so that all are in their old order again at the end.
 fn clean_in<K: CacheKey, V: Drop>(
     caps: &Caps,
     cache: &mut LruCache<K, Held<V>>,
@@ -68,7 +68,7 @@ fn clear_in<K: CacheKey, V: Drop>(
 }
 
 impl<K: CacheKey, V: Share + Weighs> Caches<K, V> {
-    // Takes what is held for the key out of its region.
+    // Takes the key's entry out of its region.
     pub(crate) fn take_out(&mut self, key: K) -> Option<Held<V>>
         ensures held { result ≡ held_for K.eq key self.old }
         ensures state { self.new ≡ without K.eq key self.old }
@@ -81,7 +81,7 @@ impl<K: CacheKey, V: Share + Weighs> Caches<K, V> {
         }
     }
 
-    // Every expired entry leaves. Of the weight before it answers what is left.
+    // Removes every expired entry, and returns the remaining weight.
     pub(crate) fn clean(&mut self, now: u64, weight: u64, notices: &mut Notices<K, V>) -> u64
         requires placed { IsPlaced K.eq V.weight self.old }
         requires weight { weight ≡ weight_of self.old }
@@ -96,7 +96,7 @@ impl<K: CacheKey, V: Share + Weighs> Caches<K, V> {
         clean_in(&self.caps, &mut self.protected, now, weight, notices)
     }
 
-    // Every entry leaves.
+    // Removes every entry.
     pub(crate) fn clear(&mut self, now: u64, notices: &mut Notices<K, V>)
         requires placed { IsPlaced K.eq V.weight self.old }
         requires room { self.old.caps.entries ≤ notices.old.room }

@@ -1,9 +1,9 @@
-// What a value weighs.
+// The trait by which a cache asks a value for its weight.
 ghost use Rattle.std.specs.Prelude.{◌≡◌, ℕ};
 
 use wt_keys::Shared;
 
-/// A value that knows what it weighs, in the caller's own unit.
+/// A value that knows its weight, in the caller's own unit.
 pub trait Weighs {
     ghost weight: { Self → ℕ };
 
@@ -12,7 +12,7 @@ pub trait Weighs {
         ensures { result ≡ weight self.now };
 }
 
-/// A shared value weighs what the value weighs that it points to.
+/// A shared value weighs as much as the value behind it.
 impl<T: Weighs> Weighs for Shared<T> {
     ghost weight = { T.weight };
 

@@ -1,4 +1,4 @@
-// What the tests share: regions that are run as a cache runs them.
+// Regions under a harness that runs them as a cache does, which all tests of the regions use.
 mod beside_lists;
 mod compare;
 mod parts;

@@ -1,4 +1,4 @@
-//! Replays a trace on a cache, and reports what came of each line.
+//! Replays a trace on a cache, and reports the result of each line.
 #![tactic(auto)]
 
 ghost use Rattle.std.specs.Prelude.{◌≡◌, IfOk, is_ok, if◌then◌else◌};
@@ -12,7 +12,7 @@ use wt_trace::{
 };
 use wt_turns::replay_by_turn;
 
-// What `--version` prints.
+// The text of `--version`.
 const VERSION: &str = "0.2.0-dev";
 
 // Each option with what it does, its range and its default, in the order in which the ranges are

@@ -1,4 +1,4 @@
-//! Plays a scenario, calls in a fixed order, on one layer of the cache, and prints what each told.
+//! Plays a scenario, calls in a fixed order, on one layer of the cache, and prints each result.
 #![tactic(auto)]
 
 mod line;

@@ -19,7 +19,7 @@ use wt_tests::Loaded;
 // The cache.
 type Cache<'s, B> = LoadingCache<u64, Loaded, &'s Source, B>;
 
-// What left.
+// The entries that left.
 type Left = Notices<u64, Loaded>;
 
 /// Plays the lines with one pass.
@@ -69,7 +69,7 @@ fn play_line<'s, B: Books, R: Print + Wait>(
     }
 }
 
-// A call at every shard. It tells how many steps the pass made at the first.
+// A call at every shard. It reports how many steps the pass made at the first.
 fn play_sweep<'s, B: Books, R: Print + Wait>(
     rt: &R,
     alloc: Global,

@@ -11,7 +11,7 @@ use wt_tests::Loaded;
 // The cache.
 type Cache = Core<u64, Loaded>;
 
-// What left.
+// The entries that left.
 type Left = Notices<u64, Loaded>;
 
 /// Plays the lines on a new `Core`.
@@ -67,7 +67,7 @@ fn landing(load: Load) -> Land<Loaded> {
     }
 }
 
-// What a get of an absent key returns.
+// The result of a get of an absent key.
 fn loaded(load: Load) -> Said {
     match load {
         Load::Value(value) => Said::Got(How::Loaded, value),
@@ -75,7 +75,7 @@ fn loaded(load: Load) -> Said {
     }
 }
 
-// What a get returns by its seek's reply, and the load that the seek opened.
+// The result of a get by its seek's reply, and the load that the seek opened.
 fn got_by(reply: Reply<Loaded>, load: Load) -> (Said, Option<u64>) {
     match reply {
         Reply::Hit(value) => (Said::Got(How::Hit, value), None),

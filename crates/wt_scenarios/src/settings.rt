@@ -1,4 +1,4 @@
-// What a scenario's cache is made for.
+// The settings of a scenario's cache.
 use crate::words::{number, small};
 use wt_core::Config;
 

@@ -4,7 +4,7 @@ use std::sync::atomic::{AtomicBool, AtomicU32, AtomicU64, Ordering};
 use wt_cache::Loader;
 use wt_tests::Loaded;
 
-/// A source that returns what it was told last.
+/// A source that returns the result that was set last.
 #[derive(Drop)]
 pub struct Source {
     fails: AtomicBool,
@@ -14,7 +14,7 @@ pub struct Source {
 }
 
 impl Source {
-    /// Makes a source that was told nothing yet: it fails with code 0.
+    /// Makes a source without a result: it fails with code 0.
     pub fn new() -> Source {
         Source {
             fails: AtomicBool::new(true),

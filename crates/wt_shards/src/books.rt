@@ -1,4 +1,5 @@
-// The ledgers of the shards' books, and what they and the shards' histories are made of.
+// The ledgers of the shards' books, and the fresh parts from which shards make their books and
+// histories.
 use crate::shard_ledger::ShardLedger;
 use std::marker::PhantomData;
 use std::sync::ledger::{Blank, Ledger};

@@ -1,4 +1,4 @@
-// A shard's closed books.
+// The final counts of a shard, with its closed books.
 ghost use Rattle.std.specs.Prelude.{◌≡◌, ◌≤◌};
 
 use crate::shares::Shares;
@@ -6,8 +6,8 @@ use crate::total::Total;
 use std::marker::Model;
 use std::sync::ledger::{Book, Ledger, Total as Fixed};
 
-/// What a shard ends with, beside its books, which are closed: no body that doesn't look at them
-/// can make one.
+/// The final counts of a shard, with its closed books: only code that closed the ledgers can make
+/// one.
 #[derive(Drop)]
 pub struct Closed<S: Ledger, H: Ledger> {
     total: Total,
@@ -27,7 +27,7 @@ impl<S: Ledger, H: Ledger> Model for Closed<S, H> {
 }
 
 impl<S: Ledger, H: Ledger> Closed<S, H> {
-    /// Closes the books of a total.
+    /// Closes both books, and keeps the counts, which equal the sums of the books.
     pub(crate) fn of(total: Total, steps: Book<S>, hits: Book<H>) -> Closed<S, H>
         requires { (steps.total ≡ total.steps) × (hits.total ≡ total.hits) }
         ensures { result ≡ total }
@@ -39,14 +39,14 @@ impl<S: Ledger, H: Ledger> Closed<S, H> {
         }
     }
 
-    /// What the shard ended with.
+    /// Returns the final counts of the shard.
     pub fn total(&self) -> Total
         ensures { result ≡ self.now }
     {
         self.total
     }
 
-    /// No caller made more steps or hits than the books have.
+    /// Shows that the caller made no more steps and hits than the books have.
     pub fn audit(&self, mine: &mut Shares<S, H>)
         ensures same { mine.new ≡ mine.old }
         ensures within { (mine.old.steps ≤ self.now.steps) × (mine.old.hits ≤ self.now.hits) }

@@ -1,4 +1,4 @@
-// A caller's part at each shard.
+// A caller's pass: its own counts at each shard, and the histories that it has seen.
 ghost use Rattle.std.specs.Prelude.{◌≡◌, ◌↔◌, IsSome};
 ghost use mathlib.Core.List.{IsPrefix};
 ghost use Rattle.wt_shards.specs.Passes.{SeenMore, steps_in, hits_in, counts_of, front_of};
@@ -71,8 +71,8 @@ impl<K, V, B: Books> Pass<K, V, B> {
         }
     }
 
-    /// Takes over what the holder of the other pass has seen. So this one's next call at a shard
-    /// stands in the shard's history behind all calls that the other holder had made there.
+    /// Takes over all that the holder of the other pass has seen. So this one's next call at a
+    /// shard stands in the shard's history behind all calls that the other holder had made there.
     ///
     /// Takes no memory, takes no lock, and does nothing at run time.
     pub fn meet(&mut self, other: &Pass<K, V, B>)
@@ -87,7 +87,7 @@ impl<K, V, B: Books> Pass<K, V, B> {
     }
 }
 
-// Takes over what was seen of a shard, if there is one.
+// Takes over the seen history of a shard, if there is one.
 fn learn<K, V, S: ShardLedger, H: Ledger>(
     mine: &mut Option<Mine<K, V, S, H>>,
     other: &Option<Mine<K, V, S, H>>,

@@ -1,8 +1,8 @@
 // A shard with the history of its calls, as it lies behind its lock.
 //
-// What is behind a lock has to be described by its type alone. So the shard's state isn't known to
-// a caller, but that it is the outcome of the history is, and the caller's own front shows a
-// beginning of that.
+// A contract knows only the type of a value behind a lock. So a caller doesn't know the shard's
+// state, but that it is the outcome of the history. The caller's own front is a beginning of that
+// history.
 ghost use Rattle.std.specs.Prelude.{◌≡◌, ◌+◌, ◌≤◌, length, IfOk, IfErr, false};
 ghost use Rattle.wt_keys.specs.declared.fault.Fault.TheVariants as fault;
 ghost use Rattle.wt_core.specs.declared.calls.Call.TheVariants as call;

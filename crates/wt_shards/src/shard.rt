@@ -4,11 +4,11 @@
 //     lagging    its outline, as many steps ago as the ring holds
 //     ring       the steps since then, the oldest first; a place for each open load is kept free
 //     landings   where the outcome of each open load will stand, in the order of opening
-//     books      how many steps were made and how many of them hit, as sums of what callers hold
+//     books      the number of steps, and of hits among them, as sums of the callers' shares
 //
-// A step (`shard/stepping.rt`) decides whether it is refused, then moves the fewest oldest records
-// over to the lagging copy, then makes the cache's step and records it. So what may be refused for
-// memory comes before the cache changes.
+// A step (`shard/stepping.rt`) first decides whether it is refused. Then it moves the oldest
+// records over to the lagging copy, as few as it can. Then it makes the cache's step and records
+// it. So every allocation comes before the cache changes.
 ghost use Rattle.std.specs.Prelude.{◌≡◌, ◌+◌, ◌<◌, ◌≤◌, ◌==◌, None, Some, IsOk, IfOk, OnOk, OnErr, IsOkUnless, MatchOption, Ok, Err, length, if◌then◌else◌};
 ghost use Rattle.wt_keys.specs.declared.fault.Fault.TheVariants as fault;
 ghost use Rattle.wt_core.specs.State.{config_fault, stats_of};
@@ -41,7 +41,7 @@ use wt_keys::{Answers, CacheKey, Fault, NoMemory, Share};
 /// steps.
 #[derive(Drop)]
 pub struct Shard<K: CacheKey, V: Share + Weighs + Answers<K>, S: ShardLedger, H: Ledger> {
-    // What each step writes comes first, beside the lock.
+    // The fields that each step writes come first, beside the lock.
     pub(crate) steps: Book<S>,
     pub(crate) hits: Book<H>,
     pub(crate) steps_left: Part<S>,
@@ -55,7 +55,7 @@ pub struct Shard<K: CacheKey, V: Share + Weighs + Answers<K>, S: ShardLedger, H:
     // The notices of the lagging copy, which nobody reads.
     pub(crate) aside: Notices<K, Shade>,
     pub(crate) alloc: Global,
-    // What it was made for; never changes.
+    // Its settings; never changes.
     pub(crate) config: Config,
 }
 
@@ -120,7 +120,7 @@ impl<K: CacheKey, V: Share + Weighs + Answers<K>, S: ShardLedger, H: Ledger> Sha
         requires hits { IsBlankOf hits H.name H.parts }
 
         ensures ok { IfOk result (λ shard. shard ≡ new_shard config.now) }
-        // What the configuration refuses is refused whatever the memory does.
+        // The refusals of a configuration don't depend on memory.
         ensures refusal { MatchOption (config_fault config.now)
             (IsOkUnless result fault.NoMemory) (λ field. result ≡ Err (fault.BadConfig field)) }
     {

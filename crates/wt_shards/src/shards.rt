@@ -18,12 +18,12 @@ use wt_keys::CacheKey;
 /// Audited shards of a cache, 1, 2 or 4 of them, each with the history of its calls behind a lock of
 /// its own.
 ///
-/// Shared by all threads. The numbers in use are those below `shards`; the other fields are None.
-/// Which shard stands in a field is in the types of its ledgers, since of a value behind a lock
-/// nothing else is known.
+/// Shared by all threads. The numbers in use are those below `shards`; the other fields are None. A
+/// contract knows only the type of a value behind a lock, so the types of a field's ledgers carry
+/// the number of its shard.
 #[derive(Drop)]
 pub struct Shards<K: CacheKey, V: Value<K>, B: Books> {
-    // How many are in use, and what each was made for; never change.
+    // How many are in use, and the settings of each; never change.
     pub(crate) shards: usize,
     pub(crate) config: Config,
     pub(crate) zero: Option<Mutex<Recorded<K, V, B::S0, B::H0>>>,

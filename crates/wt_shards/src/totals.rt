@@ -1,4 +1,4 @@
-// What the shards end with.
+// The final counts of all shards, with the closed ledgers that vouch for them.
 ghost use Rattle.std.specs.Prelude.{◌≡◌, ◌<◌, IsSome};
 
 use crate::books::Books;
@@ -7,7 +7,7 @@ use crate::total::Total;
 use std::marker::Model;
 use std::sync::ledger::Ledger;
 
-/// What each shard ends with, beside its closed books.
+/// The final counts of each shard, with its closed books.
 #[derive(Drop)]
 pub struct Totals<B: Books> {
     pub(crate) shards: usize,
@@ -39,7 +39,7 @@ impl<B: Books> Model for Totals<B> {
 impl<B: Books> Totals<B> {
     ghost use Rattle.wt_shards.specs.Totals.{total_at};
 
-    /// Returns what the shard of this number ended with: `Some` for each number below `shards`.
+    /// Returns the final counts of the shard of this number: `Some` for each number below `shards`.
     pub fn of(&self, shard: usize) -> Option<Total>
         ensures total { result ≡ total_at shard self.now }
         ensures there { shard < self.now.shards → IsSome result }

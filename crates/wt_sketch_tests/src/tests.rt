@@ -8,7 +8,7 @@ use std::test::Fail;
 use wt_keys::{Fault, Field, places};
 use wt_sketch::{Sketch, halve};
 
-// What a call requires of its places is proved here once, and in no loop of a test.
+// The requirement of a call on its places is proved here once, and in no loop of a test.
 fn count_word(sketch: &mut Sketch, word: u64) -> bool {
     let bits = sketch.bits();
     sketch.count(&places(word, bits))

@@ -8,7 +8,8 @@ use std::thread;
 use wt_keys::{Answers, NoMemory, Share};
 use wt_regions::Weighs;
 
-/// Where a share or a drop waits. It tells that one has begun, and lets it go on once it is opened.
+/// A gate at which a share or a drop waits. It shows that one has begun, and lets it go on once it
+/// is opened.
 #[derive(Drop)]
 pub struct Gate {
     begun: AtomicBool,

@@ -1,6 +1,6 @@
-//! What the tests of several crates share: a value, one whose shares can be refused, one whose
-//! shares wait, what is done and said as rows of a table, random numbers, and the rules of the
-//! regions once more over plain lists. Its contracts promise nothing.
+//! The types that the tests of several crates share. Among them are values whose shares can be
+//! refused or wait, calls and replies as rows of a table, and random numbers. The rules of the
+//! regions stand here once more over plain lists. Its contracts promise nothing.
 #![tactic(auto)]
 
 mod acts;

@@ -2,7 +2,7 @@
 use wt_keys::{Answers, NoMemory, Share};
 use wt_regions::Weighs;
 
-/// A value that tells its versions apart, with a weight. It answers each key.
+/// A value with a version and a weight. It answers each key.
 #[derive(Clone, Copy, Debug, PartialEq, Eq)]
 pub struct Loaded {
     /// Which value it is.

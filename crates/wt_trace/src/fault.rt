@@ -76,7 +76,8 @@ impl ReplayFault {
 }
 
 /// Returns the exit status of a run that ended by this fault, which is 1, and the line for standard
-/// error: `fault <number>`, then for an option ` field <name>`, for a line ` line <n>`.
+/// error. The line is `fault <number>`, followed by ` field <name>` for an option, or ` line <n>`
+/// for a line.
 ///
 /// `NoMemory` if the line finds no memory; the status is 1 all the same.
 pub fn status_and_line(alloc: Global, fault: &ReplayFault) -> Result<(u8, String), NoMemory>

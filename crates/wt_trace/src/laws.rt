@@ -11,11 +11,11 @@ pub fn a_get_leaves_no_load_open<K: TraceKey>()
     ensures { GetsLeaveLoads (keys_of K.TraceKey) }
 {}
 
-/// The lines of a trace leave a shard in the state in which a run of the cache ends, from its
-/// opening, of the calls that they make; its numbers in the report are those of that state.
+/// The lines of a trace leave a shard in the state in which a run of their calls ends, from the
+/// opening of a cache. The shard's numbers in the report are those of that state.
 ///
-/// So what is true of every run of the cache is true of each shard of a replay. A law of the
-/// definition: the function does nothing, and takes no memory.
+/// So each law of the cache's runs holds for each shard of a replay. A law of the definition: the
+/// function does nothing, and takes no memory.
 pub fn a_shard_is_a_run_of_its_calls<K: TraceKey>()
     ensures { AreRuns (keys_of K.TraceKey) }
 {}

@@ -1,5 +1,5 @@
 //! Replays a trace on the sequential cache, on one thread or shard by shard on many, and reports
-//! what came of each line.
+//! the result of each line.
 #![tactic(auto)]
 
 mod fault;

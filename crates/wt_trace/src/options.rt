@@ -175,7 +175,7 @@ impl Options {
         }
     }
 
-    /// Returns what each shard is made for, if each option is in its range. Takes no memory.
+    /// Returns the configuration of each shard, if each option is in its range. Takes no memory.
     pub fn config(&self) -> Config
         requires { option_fault self.now ≡ None }
         ensures { result ≡ config_of self.now }

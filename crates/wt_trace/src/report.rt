@@ -2,12 +2,12 @@
 //
 //     bytes  ──► behind_header   whether its keys are numbers or names
 //            ──► cut, checked    one line after another, up to the first fault
-//     line n ──► show_line       all shards do it; its number and what they add are appended
-//     shards ──► totals          what they counted, added up, if no line was at fault
+//     line n ──► show_line       all shards do it; its number and their texts are appended
+//     shards ──► totals          the sums of their counts, if no line was at fault
 //            ──► show_numbers    the summary, behind the lines
 //
-// What comes out is the text, and the verdict: what is wrong with the first faulty line. A line is
-// done, and its text appended, before the next one is read.
+// The result is the text, and the verdict: the fault of the first faulty line. A line is done, and
+// its text appended, before the next one is read.
 ghost use Rattle.std.specs.Prelude.{◌≡◌, ◌≤◌, ◌++◌, IfOk, IfErr, OnOk, length, map, vec_len, None};
 ghost use Rattle.wt_core.specs.State.{stats_of};
 ghost use Rattle.wt_core.specs.Sums.{AreSums};
@@ -75,8 +75,8 @@ fn show_line<K: TraceKey>(
 }
 
 // Does the lines of the bytes, the first of which is line `first`, at all shards, up to the first
-// fault, and appends the lines of the report. Returns what is wrong with the line behind them, if
-// something is.
+// fault, and appends the lines of the report. Returns the fault of the line behind them, if it has
+// one.
 fn show_lines<K: TraceKey>(
     shards: &mut [Shard<K>],
     first: u64,
@@ -134,8 +134,8 @@ fn report_of<K: TraceKey>(
     Ok((out, verdict))
 }
 
-/// Returns the report of the bytes of a trace, and the verdict: what is wrong with the first faulty
-/// line, if there is one. Where the first line is `wt 2` the keys are names, else numbers.
+/// Returns the report of the bytes of a trace, and the verdict: the fault of the first faulty line,
+/// if there is one. If the first line is `wt 2` the keys are names, else numbers.
 ///
 /// Takes memory for each shard's cache, for two lists of notices with room for its entries, and for
 /// the report.

@@ -25,8 +25,8 @@ pub const MOST_BYTES: usize = 65_000_001;
 /// Returns all that the reader gives, or its first bytes up to a limit, which takes memory for
 /// them.
 ///
-/// `ReadFault` exactly if the reader failed; `NoMemory`, after which what was read is lost. The
-/// reader is asked at most once for each byte of the limit, and once more.
+/// `ReadFault` exactly if the reader failed; `NoMemory`, after which the bytes that were read are
+/// lost. The reader is asked at most once for each byte of the limit, and once more.
 pub fn read_up_to<R: Read>(
     alloc: Global,
     reader: &mut Tallied<R>,
@@ -86,11 +86,11 @@ fn write_pieces<W: Write>(writer: &mut Tallied<W>, text: &Texts) -> Result<(), R
 /// Replays the trace that a reader gives, and writes the report.
 ///
 /// Reads until the reader's end, its failure or 65,000,001 bytes, and makes the whole report before
-/// it writes. Faults in their order: an option out of its range (nothing was read or written);
-/// `ReadFault`, exactly if the reader failed, and no memory (nothing was written); `WriteFault`,
-/// exactly if the writer failed or took nothing (a prefix of the report was written); then the
-/// fault of the first faulty line (the report of the lines before it was written). Takes memory for
-/// the bytes, the shards and the report.
+/// it writes. Faults come in this order. An option out of its range: nothing was read or written.
+/// `ReadFault`, exactly if the reader failed, and `NoMemory`: nothing was written. `WriteFault`,
+/// exactly if the writer failed or took nothing: a prefix of the report was written. The fault of
+/// the first faulty line: the report of the lines before it was written. Takes memory for the
+/// bytes, the shards and the report.
 pub fn replay<R: Read, W: Write>(
     alloc: Global,
     reader: &mut Tallied<R>,
@@ -115,9 +115,9 @@ pub fn replay<R: Read, W: Write>(
 ///
 /// A line that the gate doesn't let through ends the run with `GateShut` of such a line, after all
 /// threads have ended; nothing was written. If several threads fail, the fault is that of the least
-/// shard. Takes memory as `replay` does, and for the lines, what the shards answer to them,
-/// and the threads. It isn't promised that the threads run at the same time: if one can't be made,
-/// its lines are run after those of another.
+/// shard. Takes memory as `replay` does, and for the lines, the shards' answers and the threads.
+/// Not promised: that the threads run at the same time. If one can't be made, its lines are run
+/// after those of another.
 pub fn replay_by_shard<H: Threads + Sync, R: Read, W: Write, G: Gate>(
     rt: &H,
     alloc: Global,

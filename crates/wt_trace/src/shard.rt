@@ -1,4 +1,4 @@
-// One shard of a replay: does the lines of the trace, and makes what they add to the report.
+// One shard of a replay: it does its lines of the trace, and writes their part of the report.
 ghost use Rattle.std.specs.Prelude.{◌≡◌, ◌++◌, [], ◌∷◌, IfOk, IfErr, OnOk, length, vec_len, None, true, false};
 ghost use Rattle.wt_trace.specs.Keys.{keys_of};
 ghost use Rattle.wt_core.specs.State.{opening};
@@ -31,18 +31,18 @@ use std::marker::Model;
 use wt_core::{Call, Core, Notices, Reply, Stats};
 use wt_keys::{NoMemory, shard_of};
 
-// Bytes that are asked for at once for what a shard adds to a line: some 10 to a line that belongs
-// to it, which of four shards is every fourth. More are asked for if they are needed.
+// Bytes that a shard's text takes at once for each line: a line that belongs to the shard adds some
+// 10, and with four shards every fourth line does. More are taken if they are needed.
 const TEXT_A_LINE: usize = 4;
 
-// A shard with its cache, and what its latest call told.
+// A shard with its cache, and the notices of its latest call.
 #[derive(Drop)]
 pub(crate) struct Shard<K: TraceKey> {
     options: Options,
     number: usize,
     core: Core<K, Version<K>>,
     told: Notices<K, Version<K>>,
-    // What the landing tells that follows a seek on a line of letter G.
+    // The notices of the landing on a `G` line.
     later: Notices<K, Version<K>>,
 }
 
@@ -177,7 +177,7 @@ impl<K: TraceKey> Shard<K> {
         }
     }
 
-    // Does what line n asks for, and appends what the shard adds to it.
+    // Does line n, and appends the shard's text for it.
     fn act(&mut self, n: u64, line: &Line<K>, out: &mut Vec<u8>) -> Result<(), NoMemory>
         ensures { Adds (spec.done_by (keys_of K.TraceKey) self.old n line.now.moment line.now.act)
             self.old self.new out.old.items out.new.items result }
@@ -199,8 +199,8 @@ impl<K: TraceKey> Shard<K> {
         }
     }
 
-    // Does line n, if it belongs to the shard and the gate lets it through, and appends what the
-    // shard adds to it.
+    // Does line n, if it belongs to the shard and the gate lets it through, and appends the shard's
+    // text for it.
     #[tactic(auto, unfolding(crate::specs::Answers::line_step))]
     pub(crate) fn do_line<G: Gate>(
         &mut self,
@@ -249,7 +249,8 @@ impl<K: TraceKey> Shard<K> {
     }
 }
 
-// Whether what a line asks for belongs to the shard: to that of its key, or to each.
+// Whether the call of a line belongs to the shard: a call on a key to its key's shard, others to
+// each.
 fn belongs<K: TraceKey>(options: &Options, shard: usize, act: &Act<K>) -> bool
     requires { option_fault options.now ≡ None }
     ensures { result ≡ spec.belongs (keys_of K.TraceKey) options.now shard act.now }
@@ -307,8 +308,8 @@ fn answers_of<K: TraceKey, G: Gate>(
 ///
 /// The first line that the gate doesn't let through ends it with `GateShut`. Takes memory for the
 /// shard, for two lists of notices with room for its entries, and for the texts. Texts of 2^32 bytes
-/// or more count as refused memory. No trace makes them: a line stores at most one entry, so that a
-/// shard tells of at most 1,000,000 that left.
+/// or more count as refused memory. No trace makes them: a line stores at most one entry, so a
+/// shard reports at most 1,000,000 entries that left.
 pub fn shard_answers<K: TraceKey, G: Gate>(
     job: &Job<'_, G>,
     number: usize,

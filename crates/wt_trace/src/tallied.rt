@@ -1,4 +1,4 @@
-// A reader or a writer that counts what it is asked and how often it fails.
+// A reader or a writer that counts its reads and its failures.
 ghost use Rattle.std.specs.Prelude.{◌≡◌};
 ghost use Rattle.wt_trace.specs.Tally.{IsTalliedRead, IsTalliedWrite};
 
@@ -9,13 +9,12 @@ use std::marker::Model;
 /// A reader or a writer that counts its reads, and its failures: errors, and writes that take
 /// nothing of something.
 ///
-/// By the failures a caller knows whether a fault that it is told came from there, by the reads how
-/// often it was asked. Both counts stay at 2^64 - 1. That its answers are those of the reader or
-/// writer inside is tested.
+/// `failures` shows whether an error came from here, `reads` how often it was read. Both counts
+/// stay at 2^64 - 1. Only tests show that its results are those of the reader or writer inside.
 #[derive(Drop)]
 pub struct Tallied<T> {
     inner: T,
-    // How many reads were asked for.
+    // How many times it was read.
     reads: u64,
     // How many reads and writes failed.
     failures: u64,

@@ -28,11 +28,11 @@ const MOST_LENGTH: usize = 64;
 pub struct Lines<K> {
     /// The lines.
     pub lines: Vec<Line<K>>,
-    /// What is wrong with the line behind them, if something is.
+    /// The fault of the line behind them, if it has one.
     pub verdict: Result<(), ReplayFault>,
 }
 
-// Line n, or what is wrong with it: too many lines, too long a line, no line, in this order.
+// Line n, or its fault: too many lines, too long a line, no line, in this order.
 #[tactic(auto, unfolding(crate::specs::Trace::checked))]
 pub(crate) fn checked<K: TraceKey>(n: u64, bytes: &[u8]) -> Result<Line<K>, ReplayFault>
     ensures { result ≡ spec.checked K.read n bytes.now }

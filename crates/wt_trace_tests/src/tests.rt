@@ -1,4 +1,4 @@
-// What the tests share: options, inputs, and what a replay writes.
+// Options, inputs and outputs of a replay, which all tests of the trace use.
 mod compare;
 mod options;
 mod pieces;
@@ -18,7 +18,7 @@ fn of(entries: u64) -> Options {
     }
 }
 
-// What is written for an input, and how the run ends.
+// The output for an input, and how the run ends.
 fn replayed(alloc: Global, input: &[u8], options: &Options) -> (Vec<u8>, Result<(), ReplayFault>) {
     let mut reader = Tallied::new(input);
     let mut writer = Tallied::new(Vec::new(alloc));

@@ -239,10 +239,10 @@ fn sums_of_trace<K: TraceKey, G: Gate, R: Threads + Wait + Sync>(
 /// Does the lines of a trace turn by turn, and returns the sums of the numbers of all shards: hits
 /// and misses are the look-ups.
 ///
-/// Where a line of it is at fault, or leaves a load open or lands one, no line is done, and the
-/// fault is that line's. `GateShut` of a line before which the gate was shut. Of several threads
-/// that fail, the first by its number tells its fault, after all have ended. Takes memory for the
-/// lines, the cache, the passes and the threads.
+/// If a line is at fault, or leaves a load open or lands one, no line is done, and the fault is
+/// that line's. `GateShut` of a line before which the gate was shut. If several threads fail, the
+/// fault is that of the least thread, after all have ended. Takes memory for the lines, the cache,
+/// the passes and the threads.
 pub fn sums_by_turn<G: Gate, R: Threads + Wait + Sync>(
     rt: &R,
     alloc: Global,

@@ -18,16 +18,19 @@ use wt_trace::{
 /// its own: line n is done by thread (n - 1) modulo `threads`. Writes one line, the summary, whose
 /// hits and misses are the look-ups.
 ///
-/// A `G` is a load if the key isn't there, an `L` a look-up, a `P` a store, a `D` a removal, an
-/// `F` a forget, a `C` a clean, an `X` a clear. Loads that fail, values too heavy and loads without
-/// a place are passed over. With `options.workers` above 0, that many threads run the loads, which
-/// wait in a line of 64. Faults in their order: an option out of its range (nothing was read or
-/// written); `ReadFault`, exactly if the reader failed, and no memory; the fault of the first
-/// faulty line, where a line of letter S or E is a bad one; `GateShut` of a line before which the
-/// gate was shut; what a line of the cache ends by; `WriteFault`, exactly if the writer failed
-/// or took nothing (a prefix of the summary was written). After any other fault nothing was
-/// written. In which order the lines of two threads are done isn't promised, and so isn't which of
-/// them hit; nor is it that the call returns.
+/// A `G` is a get that loads a missing key, an `L` a look-up, a `P` a store and a `D` a removal. An
+/// `F` is a forget, a `C` a clean and an `X` a clear. Loads that fail, values too heavy and loads
+/// without a place are passed over. With `options.workers` above 0, that many threads run the
+/// loads, which wait in a line of 64.
+///
+/// Faults come in this order. An option out of its range: nothing was read or written. `ReadFault`,
+/// exactly if the reader failed, and `NoMemory`. The fault of the first faulty line; a line of
+/// letter S or E is faulty. `GateShut` of a line before which the gate was shut. The fault of the
+/// cache that ended the run at a line. `WriteFault`, exactly if the writer failed or took nothing:
+/// a prefix of the summary was written. After any other fault nothing was written.
+///
+/// Not promised: the order in which two threads do their lines, and so which of them hit; that the
+/// call returns.
 pub fn replay_by_turn<H: Threads + Wait + Sync, R: Read, W: Write, G: Gate>(
     rt: &H,
     alloc: Global,

@@ -1,4 +1,4 @@
-// What the tests share: options of a few entries.
+// Options of a few entries, which all tests of turns use.
 mod compare;
 mod threads;
 mod turns;

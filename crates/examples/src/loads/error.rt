@@ -1,6 +1,6 @@
 // The errors of the source.
 
-/// Why there is no page. A loader tells it as a code, so that every waiting caller gets a copy.
+/// Why there is no page. A loader returns it as a code, so that every waiting caller gets a copy.
 #[derive(Clone, Copy, Debug)]
 pub enum SourceError {
     Missing = 1,
@@ -16,7 +16,7 @@ impl SourceError {
         }
     }
 
-    /// Returns what a reader is told.
+    /// Returns the text for a reader.
     pub fn text(self) -> &'static str {
         match self {
             SourceError::Missing => "there is no such page",

@@ -1,4 +1,4 @@
-// What the readers see.
+// The readers of a cache that loads pages, and their results.
 ghost use Rattle.std.specs.Prelude.{◌≡◌};
 ghost use Rattle.wt_shards.specs.Opening.{AreBlanksOf};
 
@@ -16,14 +16,14 @@ use wt_core::Config;
 use wt_keys::Fault;
 use wt_shards::{Blanks, Names, Of, Shards};
 
-/// What the readers saw.
+/// The results of the readers.
 #[derive(Drop)]
 pub struct Seen {
     /// How many of eight were answered, and by how many loads.
     pub eight: (u64, u64),
     /// The words that were loaded while others were put, and those that are there then.
     pub beside: (u64, u64),
-    /// What came of a load that fails.
+    /// The result of a load that fails.
     pub failed: Result<u64, Fault>,
 }
 

@@ -1,4 +1,4 @@
-// What is kept of a name, and what loads it.
+// The value that the example keeps for a name, and its loader.
 use std::sync::atomic::{AtomicU64, Ordering};
 use wt_cache::Loader;
 use wt_core::Weighs;

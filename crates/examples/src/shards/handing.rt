@@ -1,4 +1,5 @@
-// What one caller put, another one reads that has met it.
+// One caller puts a value, and another one that has met it looks the key up: it gets no older
+// value.
 ghost use Rattle.std.specs.Prelude.{◌*◌, ◌≤◌, IfOk, IsTrue};
 ghost use Rattle.wt_shards.specs.Passes.{front_at};
 ghost use Rattle.wt_shards.specs.Place.{home_of};

@@ -1,4 +1,4 @@
-// What the cache holds.
+// The pages that the cache holds.
 use wt_core::Weighs;
 use wt_keys::{Answers, NoMemory, Share};
 

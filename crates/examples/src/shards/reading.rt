@@ -1,4 +1,4 @@
-// What one caller reads is not too old.
+// A caller looks a key up, and never gets a value that is older than `after_write`.
 ghost use Rattle.std.specs.Prelude.{IfOk};
 ghost use Rattle.wt_shards.specs.Passes.{front_at};
 ghost use Rattle.wt_shards.specs.Place.{home_of};

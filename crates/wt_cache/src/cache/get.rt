@@ -42,9 +42,9 @@ impl<K: CacheKey, V: Value<K>, L: Loader<K, V> + Drop, B: Books> LoadingCache<K,
     /// refresh after write). A loaded value is stored as of the moment of the seek, and only if its
     /// key was not put, removed or forgotten since then.
     ///
-    /// `now` is in milliseconds; one before the latest moment counts as the latest. Faults come in
-    /// this order: those of the seek (`StepsSpent`, `TooManyFlights`, `NoMemory`); that of this
-    /// caller's landing; those of the outcome (`LoadFailed`, `Abandoned`, `Mixed`, and `NoMemory`
+    /// `now` is in milliseconds; one before the latest moment counts as the latest. First come the
+    /// faults of the seek (`StepsSpent`, `TooManyFlights`, `NoMemory`), then that of this caller's
+    /// landing. Last come those of the outcome (`LoadFailed`, `Abandoned`, `Mixed`, and `NoMemory`
     /// if this caller's share is refused). After the last two the seek stands. A failed refresh
     /// isn't reported. A hit takes memory for a share, a load for its row and its landing. Takes
     /// the lock of the key's shard for each step, and none while it loads or waits. Not promised:
@@ -81,7 +81,7 @@ impl<K: CacheKey, V: Value<K>, L: Loader<K, V> + Drop, B: Books> LoadingCache<K,
                 Ok(Got { value, how, step })
             }
             Sought::HitLead(value, lead, _ticket) => {
-                // Whether the load failed isn't told: the value that was there is the answer.
+                // A failed load isn't reported: the value that was there is the result.
                 let _ = self.hand_on(rt, pass, lead, notices);
                 let how = How::Refreshed;
                 Ok(Got { value, how, step })
@@ -100,8 +100,8 @@ impl<K: CacheKey, V: Value<K>, L: Loader<K, V> + Drop, B: Books> LoadingCache<K,
         }
     }
 
-    // Has a load run, and returns its value: that of the loader if it ran here, else what the ticket
-    // is told.
+    // Has a load run, and returns its value: the loader's if it ran here, else the ticket's
+    // outcome.
     fn load<R: Wait>(
         &self,
         rt: &R,
@@ -133,9 +133,11 @@ impl<K: CacheKey, V: Value<K>, L: Loader<K, V> + Drop, B: Books> LoadingCache<K,
         }
     }
 
-    // Has a load run: by a worker if the line takes it, else here, and then it returns what was run.
+    // Has a load run: by a worker if the line takes it, else here, and then it returns how it
+    // ended.
     //
-    // What a late poster needs is made before the post, so that afterwards nothing is refused.
+    // The memory that a late poster needs is taken before the post, so that no refusal comes after
+    // it.
     fn hand_on<R: Wait>(
         &self,
         rt: &R,
@@ -166,7 +168,7 @@ impl<K: CacheKey, V: Value<K>, L: Loader<K, V> + Drop, B: Books> LoadingCache<K,
         }
     }
 
-    // Takes loads off the line and runs them, until there is none. What leaves the cache is
+    // Takes loads off the line and runs them, until there is none. Entries that leave the cache are
     // dropped.
     fn drain<R: Wait>(
         &self,

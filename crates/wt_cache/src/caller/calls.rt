@@ -24,9 +24,9 @@ impl<'c, K: CacheKey, V: Value<K>, L: Loader<K, V> + Drop, B: Books, R: Wait> Ca
     R,
 > {
     /// Returns the value of the key, loaded for all that ask meanwhile if it isn't there:
-    /// `LoadingCache::get`, which has the rest of what this call does.
+    /// `LoadingCache::get`, whose documentation has the rest.
     ///
-    /// `now` is in milliseconds. First the list of what left is emptied.
+    /// `now` is in milliseconds. First the list of entries that left is emptied.
     ///
     /// In use: `uses::callers::get`.
     pub fn get(&mut self, key: K, now: u64) -> Result<Got<V>, Fault>
@@ -37,10 +37,10 @@ impl<'c, K: CacheKey, V: Value<K>, L: Loader<K, V> + Drop, B: Books, R: Wait> Ca
         cache.get(self.rt, &mut self.pass, key, now, &mut self.left)
     }
 
-    /// Returns the key's value if it is there, and loads nothing:
-    /// `LoadingCache::get_if_present`, which has the rest of what this call does.
+    /// Returns the key's value if it is there, and loads nothing: `LoadingCache::get_if_present`,
+    /// whose documentation has the rest.
     ///
-    /// `now` is in milliseconds. First the list of what left is emptied.
+    /// `now` is in milliseconds. First the list of entries that left is emptied.
     ///
     /// In use: `uses::callers::get_if_present`.
     pub fn get_if_present(&mut self, key: K, now: u64) -> Result<Done<Reply<V>>, Fault>
@@ -53,10 +53,9 @@ impl<'c, K: CacheKey, V: Value<K>, L: Loader<K, V> + Drop, B: Books, R: Wait> Ca
         cache.get_if_present(self.rt, &mut self.pass, key, now, &mut self.left)
     }
 
-    /// Stores the value under the key: `LoadingCache::put`, which has the rest of what this call
-    /// does.
+    /// Stores the value under the key: `LoadingCache::put`, whose documentation has the rest.
     ///
-    /// `now` is in milliseconds. First the list of what left is emptied.
+    /// `now` is in milliseconds. First the list of entries that left is emptied.
     ///
     /// In use: `uses::callers::put`.
     pub fn put(&mut self, key: K, value: V, now: u64) -> Result<Done<()>, Fault>
@@ -70,9 +69,9 @@ impl<'c, K: CacheKey, V: Value<K>, L: Loader<K, V> + Drop, B: Books, R: Wait> Ca
     }
 
     /// Takes the key's value out, and returns whether there was one: `LoadingCache::invalidate`,
-    /// which has the rest of what this call does.
+    /// whose documentation has the rest.
     ///
-    /// `now` is in milliseconds. First the list of what left is emptied.
+    /// `now` is in milliseconds. First the list of entries that left is emptied.
     ///
     /// In use: `uses::callers::invalidate`.
     pub fn invalidate(&mut self, key: K, now: u64) -> Result<Done<bool>, Fault>
@@ -85,9 +84,9 @@ impl<'c, K: CacheKey, V: Value<K>, L: Loader<K, V> + Drop, B: Books, R: Wait> Ca
     }
 
     /// Lets no further caller join the key's open load, and returns whether there was one:
-    /// `LoadingCache::forget`, which has the rest of what this call does.
+    /// `LoadingCache::forget`, whose documentation has the rest.
     ///
-    /// `now` is in milliseconds. First the list of what left is emptied.
+    /// `now` is in milliseconds. First the list of entries that left is emptied.
     ///
     /// In use: `uses::callers::forget`.
     pub fn forget(&mut self, key: K, now: u64) -> Result<Done<bool>, Fault>
@@ -99,11 +98,11 @@ impl<'c, K: CacheKey, V: Value<K>, L: Loader<K, V> + Drop, B: Books, R: Wait> Ca
         cache.forget(self.rt, &mut self.pass, key, now, &mut self.left)
     }
 
-    /// Takes every entry out, shard after shard: `LoadingCache::invalidate_all`, which has the
-    /// rest of what this call does.
+    /// Takes every entry out, shard after shard: `LoadingCache::invalidate_all`, whose
+    /// documentation has the rest.
     ///
-    /// `now` is in milliseconds. What leaves goes into `notices`, since it may be more than the
-    /// caller's own list has room for.
+    /// `now` is in milliseconds. Entries that leave go into `notices`, since there may be more than
+    /// the caller's own list has room for.
     ///
     /// In use: `uses::callers::invalidate_all`.
     pub fn invalidate_all(&mut self, now: u64, notices: &mut Notices<K, V>) -> Result<(), Fault>
@@ -115,10 +114,10 @@ impl<'c, K: CacheKey, V: Value<K>, L: Loader<K, V> + Drop, B: Books, R: Wait> Ca
         cache.invalidate_all(self.rt, &mut self.pass, now, notices)
     }
 
-    /// Takes every expired entry out, shard after shard: `LoadingCache::clean_up`, which has the
-    /// rest of what this call does.
+    /// Takes every expired entry out, shard after shard: `LoadingCache::clean_up`, whose
+    /// documentation has the rest.
     ///
-    /// `now` is in milliseconds. What leaves goes into `notices`, as in `invalidate_all`.
+    /// `now` is in milliseconds. Entries that leave go into `notices`, as in `invalidate_all`.
     ///
     /// In use: `uses::callers::clean_up`.
     pub fn clean_up(&mut self, now: u64, notices: &mut Notices<K, V>) -> Result<(), Fault>

@@ -123,10 +123,10 @@ pub fn put<N: Names, R: Wait>(
     Ok(done.step)
 }
 
-/// What a call told: how many notices, and the key and the cause of the first.
+/// The notices of a call: their number, and the key and the cause of the first.
 pub type Told = (usize, u64, Option<Cause>);
 
-// What stands in a list of notices.
+// The contents of a list of notices.
 fn told_in(notices: &Notices<u64, Version>) -> Told {
     let list = notices.list();
     match list.first() {

@@ -1,4 +1,5 @@
-// The codes of failed loads, as callers are told them: who loads, who joins, and who posts.
+// The codes of failed loads as callers get them: a caller that loads, one that joins, one that
+// posts.
 use crate::tests::calls::Answer;
 use crate::tests::compare::same;
 use crate::tests::stage::{Cache, Marks, config};
@@ -18,14 +19,14 @@ use wt_shards::Names;
 // Keys whose loads fail with these numbers as codes: the least, one between and the greatest.
 const KEYS: [u64; 3] = [0, 500, 4_294_967_295];
 
-// What a caller is told of them.
+// A caller's result.
 const TOLD: [Answer; 3] = [
     Err(Fault::LoadFailed { code: 0 }),
     Err(Fault::LoadFailed { code: 500 }),
     Err(Fault::LoadFailed { code: u32::MAX }),
 ];
 
-/// Two callers share the load of each key: both are told its code.
+/// Two callers share the load of each key: both get its code.
 pub fn failed_shares<N: Names + Send + Sync, R: Threads + Wait + Abort + Sync>(
     rt: &R,
     alloc: Global,
@@ -67,7 +68,7 @@ fn get_three<N: Names, R: Wait>(rt: &R, alloc: Global, cache: &Cache<N>) -> [Ans
     got
 }
 
-/// A worker runs the load of each key: the caller that posted it is told its code.
+/// A worker runs the load of each key: the caller that posted it gets its code.
 pub fn failed_jobs<N: Names + Send + Sync, R: Threads + Wait + Abort + Sync>(
     rt: &R,
     alloc: Global,

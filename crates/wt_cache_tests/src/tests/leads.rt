@@ -159,7 +159,7 @@ fn puts_two<N: Names, R: Wait + Abort>(
     );
 }
 
-// What a caller does by itself while a load of key 1 is open.
+// The calls of a caller by itself while a load of key 1 is open.
 fn alone_by<N: Names, R: Wait + Abort>(
     rt: &R,
     alloc: Global,

@@ -18,7 +18,7 @@ use wt_flights::{Outcome, Publish};
 use wt_keys::Fault;
 use wt_shards::{Blanks, Names, Of, Pass, Shards};
 
-// What is seen of a cache of one shard, and of the caller's pass.
+// The visible state of a cache of one shard, and of the caller's pass.
 type Seen = (Stats, u64, u64);
 
 fn seen<N: Names, R: Wait>(rt: &R, cache: &Cache<N>, pass: &Pass<u64, Version, Of<N>>) -> Seen {

@@ -86,7 +86,7 @@ fn calls<N: Names, R: Wait>(
     Ok(found)
 }
 
-// What a thread hands back: its pass, and how many values were strange.
+// The result of a thread: its pass, and how many values were strange.
 type Ran<N> = Result<(Pass<u64, Version, Of<N>>, u64), Fault>;
 
 // A caller with a pass of its own.

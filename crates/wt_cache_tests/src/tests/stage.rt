@@ -1,4 +1,4 @@
-// What the tests share: values, and a loader of several ways.
+// Values and a loader of several kinds, which all tests of the cache use.
 ghost use Rattle.std.specs.Prelude.{◌≡◌};
 
 use std::alloc::Global;
@@ -50,7 +50,7 @@ impl Answers<u64> for Version {
     }
 }
 
-/// What threads tell each other.
+/// The messages of threads to each other.
 #[derive(Drop)]
 pub struct Marks {
     /// How many loads were begun.
@@ -136,7 +136,7 @@ pub type Plain<N> = Shards<u64, Version, Of<N>>;
 /// A cache of versions, by the names of its ledgers.
 pub type Cache<N> = LoadingCache<u64, Version, Rules, Of<N>>;
 
-/// What each shard is made for: refresh after 50 ms.
+/// The configuration of each shard: refresh after 50 ms.
 pub fn config(entries: u32, flights: u32, after_write: Option<u64>) -> Config {
     Config {
         entries,

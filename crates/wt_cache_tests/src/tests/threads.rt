@@ -64,9 +64,9 @@ fn ask_twice<N: Names + Send + Sync, R: Threads + Wait + Sync>(
     )
 }
 
-/// Two callers ask for a key today while its load is held, which is the one of this number, from 1:
-/// what the caller that loads gets, and the one that joins. That one sleeps: a load that weren't
-/// published, or woke nobody, would never end this.
+/// Two callers ask for a key today while its load is held, which is the one of this number, from 1.
+/// Returns the result of the caller that loads, and of the one that joins. The latter sleeps: a
+/// load that weren't published, or woke nobody, would never end this.
 pub fn shares<N: Names + Send + Sync, R: Threads + Wait + Abort + Sync>(
     rt: &R,
     alloc: Global,

@@ -1,4 +1,4 @@
-// What one caller or several threads do to one cache of one shard, of two and of four.
+// Calls of one caller or of several threads on one cache of one shard, of two and of four.
 ghost use Rattle.std.specs.Prelude.{◌≡◌};
 ghost use Rattle.wt_shards.specs.Opening.{AreBlanksOf};
 
@@ -19,7 +19,7 @@ use wt_core::Config;
 use wt_keys::Fault;
 use wt_shards::{Blanks, Names, Of, Pass, Shards};
 
-/// What is done.
+/// A call.
 #[derive(Clone, Copy, Debug, PartialEq, Eq)]
 pub enum Scene {
     /// The lead of an open load is dropped.

@@ -37,7 +37,7 @@ pub(super) type Lender<N> = Callers<u64, Number, Zeros, Of<N>>;
 // A caller of it.
 type Lent<'c, N, R> = Caller<'c, u64, Number, Zeros, Of<N>, R>;
 
-// What is done with the callers.
+// The work with the callers.
 #[derive(Clone, Copy, Debug, PartialEq, Eq)]
 pub(super) enum Play {
     InARow,
@@ -49,7 +49,7 @@ pub(super) enum Play {
     Refused,
 }
 
-// What a cache ended with: its passes, and the steps and hits of the settled books.
+// The end of a cache: its passes, and the steps and hits of the settled books.
 pub(super) type Ended = (usize, u64, u64);
 
 // Gets the number of a key by a caller that is lent for it.

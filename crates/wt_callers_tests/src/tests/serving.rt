@@ -56,7 +56,7 @@ impl Service<u64, Number> for Tens {
     }
 }
 
-// What the threads returned.
+// The results of the threads.
 type Returned = Vec<Result<(u64, How), Fault>>;
 
 // Serves `threads` threads from `shards` shards of `entries` entries each.

@@ -1,5 +1,5 @@
-// Values of which one share is refused: a caller that loads can't store the value and returns it all
-// the same, a caller that only asks is refused, and the same call made again succeeds.
+// Values of which one share is refused. A caller that loads can't store the value and returns it
+// all the same. A caller that only asks is refused. The same call made again succeeds.
 ghost use Rattle.std.specs.Prelude.{◌≡◌};
 ghost use Rattle.wt_shards.specs.Opening.{AreBlanksOf};
 
@@ -146,7 +146,7 @@ fn rows() -> [Row; 15] {
         // the load was opened by a miss, and is joined by two
         (Who::Sharer, 1, refused, [2, 0, 0], joined, [3, 0, 0]),
         (Who::Sharer, 2, joined, [2, 0, 0], joined, [3, 0, 0]),
-        // the value isn't stored, and told all the same
+        // the value isn't stored, and returned all the same
         (Who::Worker, 1, loaded, [1, 1, 1], loaded, [2, 2, 2]),
         (Who::Worker, 2, loaded, [1, 1, 1], loaded, [2, 2, 2]),
         (Who::Worker, 3, loaded, [1, 1, 2], hit, [1, 1, 2]),
@@ -183,7 +183,7 @@ fn led<N: Names, R: Wait>(
     }
 }
 
-// What is there before anybody asks: the load of key 1 that is open.
+// The state before any call: the load of key 1 is open.
 fn begin<N: Names, R: Wait>(
     rt: &R,
     alloc: Global,
@@ -246,7 +246,7 @@ fn works<N: Names, R: Wait>(
     Ok(cache.run_worker(rt, pass, &mut hand, &mut notices))
 }
 
-// What comes of the first time that somebody asks.
+// The result of the first call.
 fn first<N: Names, R: Wait>(
     rt: &R,
     alloc: Global,

@@ -1,4 +1,4 @@
-// What a tally counts, and how it reads.
+// The counts of a tally, and its text.
 use super::compare::same;
 use std::test::Fail;
 use wt_cache::{Got, How, Tally};

@@ -1,5 +1,5 @@
-// The greatest sizes: as many entries as may be held, as many loads as may be open; and more calls
-// in a run, and more sharers of a load, than any limit of a cache.
+// The greatest sizes: the most entries, and the most open loads. More calls in a run, and more
+// sharers of a load, than any limit of a cache.
 use super::compare::{holds, same};
 use super::{Run, config, told};
 use std::alloc::Global;

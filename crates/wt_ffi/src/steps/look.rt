@@ -40,9 +40,10 @@ pub extern "C" fn rd_look(
 
 /// Looks the name up at the moment `now`: `RD_HIT` with its token, which is a use, or `RD_ABSENT`.
 ///
-/// Here as in the other seven calls by name nothing happens, and 104 is returned if the name is
-/// too long, 100 if the cache is closed, 103 if its keys are numbers, in this order. Takes memory
-/// only for a hit in probation. Expected O(1), unless an attacker chooses the names.
+/// Like the other seven calls by name, it does nothing in three cases, checked in this order. It
+/// returns 104 if the name is too long, 100 if the cache is closed, and 103 if its keys are
+/// numbers. Takes memory only for a hit in probation. Expected O(1), unless an attacker chooses the
+/// names.
 #[unsafe(no_mangle)]
 pub extern "C" fn rd_look_name(
     alloc: Global,

@@ -17,12 +17,12 @@ pub struct Looked {
     pub key: u64,
     /// The moment of it.
     pub now: u64,
-    /// What it answered.
+    /// Its answer.
     pub answer: Answer,
 }
 
 impl Cached<u64> {
-    // Makes the look-ups up to the first that is refused or tells a notice. Writes how many that are,
+    // Makes the look-ups up to the first that is refused or has a notice. Writes how many that are,
     // and returns the number of the last one's fault, or 0.
     fn look_through(&mut self, looks: &mut [Looked], made: &mut u64) -> u64
         ensures state { self.new ≡ (looked_through looks.new self.old).cache }
@@ -44,11 +44,11 @@ impl Cached<u64> {
     }
 }
 
-/// Makes look-ups as `rd_look` does, one after another, and writes each one's answer and how many
-/// were made.
+/// Makes look-ups as `rd_look` does, one after another, and writes each one's answer and their
+/// number.
 ///
-/// It ends early after one that is refused, whose fault's number it returns, and after one that
-/// tells a notice, since the notices are those of the last one. Each takes memory only for a hit in
+/// It ends early after one that is refused, whose fault's number it returns, and after one that has
+/// a notice, since the notices are those of the last one. Each takes memory only for a hit in
 /// probation. Expected O(look-ups), unless an attacker chooses the keys.
 #[unsafe(no_mangle)]
 pub extern "C" fn rd_look_many(

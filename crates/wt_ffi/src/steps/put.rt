@@ -25,9 +25,9 @@ impl<K: CacheKey> Cached<K> {
 
 /// Stores the value under the key, in place of one that is there: `RD_STORED`.
 ///
-/// The notices tell what left, which may be the new value itself. The key's current load stores
-/// nothing. A value that is too heavy is refused before memory is asked for. Expected O(1), unless
-/// an attacker chooses the keys; O(entries) in a trim.
+/// The notices have the entries that left, which may include the new value itself. The key's
+/// current load stores nothing. A value that is too heavy is refused before memory is asked for.
+/// Expected O(1), unless an attacker chooses the keys; O(entries) in a trim.
 #[unsafe(no_mangle)]
 pub extern "C" fn rd_put(
     alloc: Global,

@@ -1,4 +1,4 @@
-// The calls that nearly always tell a notice, and hand the first one back with their answer.
+// The calls that nearly always have a notice: they return the first one with their answer.
 ghost use Rattle.std.specs.Prelude.{◌≡◌, unwrap_or};
 ghost use Rattle.wt_core.specs.declared.calls.Call.TheVariants.{DropKey};
 ghost use Rattle.wt_ffi.specs.Calls.{keep, put};
@@ -17,7 +17,7 @@ use crate::token::Token;
 use std::alloc::Global;
 use wt_core::{Call, Land};
 
-// Writes what was found, if anything was.
+// Writes the notice that was found, if there was one.
 #[inline(always)]
 fn write<L: Copy>(found: Option<L>, left: &mut L)
     ensures { left.new ≡ unwrap_or found left.old }
@@ -27,7 +27,7 @@ fn write<L: Copy>(found: Option<L>, left: &mut L)
     }
 }
 
-// Writes the first notice of the latest call on a cache of numbers, if it told one.
+// Writes the first notice of the latest call on a cache of numbers, if it has one.
 #[inline(always)]
 fn write_first(alloc: Global, handle: &mut Handle, left: &mut Left)
     ensures first { left.new ≡ unwrap_or (first_left (cache_of handle.old)) left.old }
@@ -42,7 +42,7 @@ fn write_first(alloc: Global, handle: &mut Handle, left: &mut Left)
     handle.give(opened);
 }
 
-// Writes the first notice of the latest call on a cache of names, if it told one.
+// Writes the first notice of the latest call on a cache of names, if it has one.
 #[inline(always)]
 fn write_first_name(alloc: Global, handle: &mut Handle, left: &mut NameLeft)
     ensures first { left.new ≡ unwrap_or (first_name_left (cache_of handle.old)) left.old }

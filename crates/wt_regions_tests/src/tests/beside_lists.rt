@@ -20,7 +20,7 @@ impl Run<Loaded> {
         counted
     }
 
-    // Asserts that both hold the same, and that the latest step told the same.
+    // Asserts that both hold the same entries, and that the latest step had the same notices.
     fn expect_same(&self, rt: &impl Abort, alloc: Global, lists: &Lists) -> Result<(), Fail> {
         same(rt, "how many entries", self.regions.len(), lists.len());
         same(rt, "the weight", self.regions.weight(), lists.weight());

@@ -1,5 +1,6 @@
-// What a new shard takes memory for. It stands apart from `Shard::new`, in two functions, since a
-// function that is refused memory drops what it made before, and each of these ways out is proved.
+// Allocates the parts of a new shard. A function whose allocation fails drops all that it has made
+// so far, and each of these exits is proved. So `Shard::new` leaves most of them to two functions
+// here, where less is dropped.
 ghost use Rattle.std.specs.Prelude.{◌≡◌, ◌≤◌, IfOk, [], vec_capacity};
 ghost use Rattle.circular_buffer.specs.Buffer.{buffer};
 ghost use Rattle.wt_core.specs.State.{opening};

@@ -26,7 +26,7 @@ impl<K: CacheKey, V: Share + Weighs + Answers<K>, S: ShardLedger, H: Ledger> Sha
     ghost use Rattle.wt_shards.specs.Audited.{IsAudited, IsCaughtUp, excess, load_at, load_of, moved, need, places, shard_step, still_open};
 
     // Makes the call's step and records it; the landing is that of the load which the step opens.
-    // Inlined, so that what is decided of the call is decided for the one that its caller makes.
+    // Inlined, so that the compiler specialises it for the caller's call.
     #[inline(always)]
     #[tactic(auto, using(crate::proofs::Told::told_none, crate::proofs::Loads::empty_takes_none))]
     pub(crate) fn make(
@@ -123,7 +123,7 @@ impl<K: CacheKey, V: Share + Weighs + Answers<K>, S: ShardLedger, H: Ledger> Sha
             × (mine.new ≡ mine.old) × (notices.new ≡ notices.old)) }
     {
         // For the prover: shows what holds of the shard at all times, how many loads are open after
-        // the step, and how many it tells of.
+        // the step, and how many notices it makes at most.
         let _steps = self.steps();
         steps_keep_counts::<K, V>();
         steps_tell_few::<K, V>();

@@ -99,8 +99,8 @@ impl<K: CacheKey, V: Value<K>, B: Books> Shards<K, V, B> {
     /// `now` is in milliseconds. `StepsSpent` comes before `NoMemory`. Only a hit takes memory, and
     /// none if a share is a copy and the entry isn't in probation; the shard's lagging copy may.
     /// Takes that shard's lock, for one step. Expected O(1), unless an attacker chooses the keys
-    /// (see `Seeded`). Not promised: that the call returns, and that the shard is still in the state
-    /// that it tells of.
+    /// (see `Seeded`). Not promised: that the call returns, and that the result still holds when it
+    /// does.
     pub fn look<R: Wait>(
         &self,
         rt: &R,
@@ -150,7 +150,8 @@ impl<K: CacheKey, V: Value<K>, B: Books> Shards<K, V, B> {
     }
 
     /// Closes the load of `lead`, if it is open, and returns `Kept`, `Loose` or `Failed` with the
-    /// number of its sharers, or else `Gone`, and the number of the step at the key's shard.
+    /// number of its sharers. If it isn't open, returns `Gone`. Both come with the number of the
+    /// step at the key's shard.
     ///
     /// `now` is in milliseconds. Only a landing that would return `Gone` may fail with
     /// `StepsSpent`, or take memory for the lagging copy; a value that is stored takes memory too.
@@ -247,8 +248,8 @@ impl<K: CacheKey, V: Value<K>, B: Books> Shards<K, V, B> {
         })
     }
 
-    /// Takes every entry of every shard out, by one step at each in turn. No load that is open at a
-    /// shard when its step is made is joined any longer, nor its value stored.
+    /// Takes every entry of every shard out, by one step at each in turn. No further caller joins a
+    /// load that is open at a shard at the moment of its step, and its value isn't stored.
     ///
     /// `now` is in milliseconds. Stops at the first shard that refuses its step: with `StepsSpent`,
     /// or with `NoMemory` if its lagging copy finds none. Takes each shard's lock in turn, never

@@ -89,7 +89,7 @@ fn settle_at<K: CacheKey, V: Value<K>, S: ShardLedger, H: Ledger, B: Books>(
 }
 
 impl<K: CacheKey, V: Value<K>, B: Books> Shards<K, V, B> {
-    /// Ends the shards, and compares their books with the passes that are handed back.
+    /// Ends the shards, and compares their books with the passes that come back.
     ///
     /// In use: `uses::lines::finish`.
     pub fn settle<R>(

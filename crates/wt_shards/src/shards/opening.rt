@@ -1,4 +1,4 @@
-// How shards and passes are made.
+// Opens shards, and gives out passes.
 ghost use Rattle.std.specs.Prelude.{◌≡◌, ◌+◌, ◌<◌, ◌↔◌, [], None, IfOk, IfErr, OnOk, IsSome, IsOkUnless, MatchOption, Ok, Err};
 ghost use Rattle.wt_keys.specs.declared.fault.Fault.TheVariants as fault;
 ghost use Rattle.wt_shards.specs.Counts.{IsBlankOf, no_steps};
@@ -65,7 +65,7 @@ fn locked<K: CacheKey, V: Value<K>, S: ShardLedger, H: Ledger>(
     }
 }
 
-// A caller's part at one shard.
+// A new caller's part at one shard: no counts, and an empty front.
 fn mine_of<K: CacheKey, V: Value<K>, S: ShardLedger, H: Ledger, R: Wait>(
     rt: &R,
     shard: &Mutex<Recorded<K, V, S, H>>,
@@ -93,8 +93,8 @@ fn mine_at<K: CacheKey, V: Value<K>, S: ShardLedger, H: Ledger, R: Wait>(
     Ok(Some(mine))
 }
 
-// A caller's parts at two shards. So `Shards::pass` has two exits and not four, and each of them drops
-// less.
+// A caller's parts at two shards. So `Shards::pass` has two exits in place of four, and each of
+// them drops less.
 fn mine_at_two<
     K: CacheKey,
     V: Value<K>,

@@ -1,4 +1,5 @@
-// What is read of shards: no step, and no lock is held longer than one shard's numbers are read.
+// The reads of shards: settings and numbers. None of them is a step, and each lock is held only
+// while the numbers of its shard are read.
 ghost use Rattle.std.specs.Prelude.{◌≡◌, ◌+◌};
 ghost use Rattle.wt_core.specs.Lawful.{AreSmall};
 

@@ -1,5 +1,5 @@
-// Shards have locks of their own: while a look holds one of four shards, and a call that takes each
-// shard's lock in turn waits for it, each call at each other shard goes on.
+// Shards have locks of their own. A look holds one of four shards, and a call that takes each
+// shard's lock in turn waits for it. Meanwhile each call at each other shard goes on.
 ghost use Rattle.std.specs.Prelude.{◌≡◌};
 ghost use Rattle.wt_shards.specs.Opening.{AreBlanksOf};
 

@@ -1,5 +1,5 @@
-// The shard beside a cache that isn't audited, run on the same calls; and at the end its records,
-// run on a cache of shades that made the steps before them.
+// The shard beside a cache that isn't audited, run on the same calls. At the end its records run on
+// a cache of shades that made the steps before them.
 use super::compare::{holds, same};
 use super::plain::Plain;
 use super::run::{Run, keys_of};

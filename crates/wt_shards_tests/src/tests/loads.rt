@@ -1,4 +1,4 @@
-// What becomes of a load: all that share it read its outcome, which goes with the last of them.
+// The end of a load: all that share it read its outcome, which goes with the last of them.
 use super::compare::same;
 use super::run::Run;
 use super::scene::{Scene, plays};
@@ -75,7 +75,7 @@ impl Loads {
     }
 }
 
-// What is done, and what is told of it.
+// A call, and its expected result.
 #[derive(Clone, Copy)]
 enum Act {
     Seek,

@@ -31,7 +31,7 @@ fn rows() -> [Row; 7] {
         (Do::Put(light(3)), 3, Said::Stored, 1, 2),
         (Do::Seek, 4, Said::Lead(1), 3, 1),
         (Do::Loose(1), 4, Said::Loose(1), 3, 2),
-        // What is refused is no step.
+        // A refused call is no step.
         (Do::Put(heavy), 5, Said::Refused(fault), 3, 2),
         // A load that isn't open is a step, and has no place of its own.
         (Do::Loose(1), 4, Said::Gone, 4, 2),

@@ -10,7 +10,7 @@ use wt_core::{Config, Weighs};
 use wt_keys::{Answers, Fault, Share};
 use wt_shards::{Blanks, Names};
 
-// What a test does with its shard.
+// The work of a test with its shard.
 pub trait Scene<V: Share + Weighs + Answers<u64>> {
     fn play<N: Names, R: Abort>(
         &self,

@@ -1,4 +1,4 @@
-// What a pass shows, and how the passes are settled.
+// The counts of a pass, and the settling of all passes.
 ghost use Rattle.std.specs.Prelude.{◌≡◌};
 ghost use Rattle.wt_shards.specs.Opening.{AreBlanksOf};
 
@@ -49,7 +49,7 @@ fn play<N: Names, R: Wait + Abort>(
     }
 }
 
-// What one caller that puts and looks hands back: its pass, or nothing.
+// The result of one caller that puts and looks: its pass, or nothing.
 fn passes_of_one<N: Names, R: Wait + Abort>(
     rt: &R,
     alloc: Global,

@@ -45,7 +45,7 @@ fn steps_of((said, number): (Said, u64), act: Do, shards: u64) -> u64 {
     }
 }
 
-// A caller's turns: how many steps their answers tell of.
+// A caller's turns: how many steps their replies report.
 fn take_turns<N: Names, R: Wait + Abort>(
     rt: &R,
     shards: &Shards<u64, Loaded, Of<N>>,
@@ -62,7 +62,7 @@ fn take_turns<N: Names, R: Wait + Abort>(
     steps
 }
 
-// What a thread hands back: its pass, and how many steps its answers told of.
+// The result of a thread: its pass, and how many steps its replies report.
 type Ran<N> = Result<(Pass<u64, Loaded, Of<N>>, u64), Fault>;
 
 // A thread's work, with a caller of its own.
@@ -136,7 +136,7 @@ fn settled<N: Names, R: Wait + Abort>(
     Ok(made)
 }
 
-// The steps that the answers tell of, and those that the settled books hold.
+// The steps that the replies report, and those that the settled books hold.
 fn soak<N: Names + Send + Sync, R: Threads + Wait + Abort + Sync>(
     rt: &R,
     alloc: Global,

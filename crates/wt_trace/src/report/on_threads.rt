@@ -25,7 +25,7 @@ use std::thread;
 use std::thread::Threads;
 use wt_keys::Name;
 
-// What a thread makes: a place for each shard, of which its own hold what they answer.
+// The result of one thread: a place for each shard, with the answers of the thread's own shards.
 #[derive(Drop)]
 struct Part {
     places: Vec<Option<ShardAnswers>>,
@@ -40,8 +40,7 @@ impl Model for Part {
     ghost view = { λ p. p.places.items };
 }
 
-// Lets the shards of thread t answer, one after another: those whose number modulo the threads is
-// t.
+// Runs the shards of thread t, one after another: those whose number modulo the threads is t.
 fn part_of<K: TraceKey, G: Gate>(
     job: &Job<'_, G>,
     first: u64,
@@ -107,8 +106,8 @@ fn parts<H: Threads + Sync, K: TraceKey, G: Gate>(
     )
 }
 
-// What each shard answers to the lines, the first of which is line `first`, in the order of the
-// shards. Where threads stop, the thread of the least shard that has no answer tells why.
+// The answers of each shard to the lines, the first of which is line `first`, in the order of the
+// shards. If threads stop, the fault is that of the least shard without answers.
 fn answers_by_shard<H: Threads + Sync, K: TraceKey, G: Gate>(
     rt: &H,
     job: &Job<'_, G>,

@@ -21,14 +21,14 @@ pub struct Answered<'a> {
     pub first: u64,
     /// How many lines there are.
     pub count: usize,
-    /// What each shard adds to them, in the order of the shards.
+    /// The texts that each shard adds to them, in the order of the shards.
     pub all: &'a [ShardAnswers],
 }
 
 // Bytes that are asked for at once for a printed line. More are asked for if they are needed.
 const PRINTED_A_LINE: usize = 24;
 
-// Appends line i of the report: its number, and what each shard adds to it.
+// Appends line i of the report: its number, and each shard's text for it.
 #[tactic(auto, unfolding(crate::specs::Report::line_text))]
 fn print_line(
     out: &mut Vec<u8>,

@@ -1,11 +1,11 @@
-// What one shard answers to the lines of a trace: a text for each, and its numbers at the end.
+// One shard's answers to the lines of a trace: a text for each line, and its numbers at the end.
 ghost use Rattle.std.specs.Prelude.{◌≡◌, ◌<◌, ◌≤◌, length, slice_range, get_or, [], ◌∷◌};
 ghost use Rattle.wt_trace.specs.Pieces.{pieces, AreEnds};
 
 use std::marker::Model;
 use wt_core::Stats;
 
-/// What a shard answers: the text that it adds to each line, and its numbers at the end.
+/// The answers of a shard: the text that it adds to each line, and its numbers at the end.
 ///
 /// The texts stand one behind the other, so that a line costs its bytes and 4 more.
 #[derive(Drop)]
@@ -69,7 +69,7 @@ fn text_at<'a>(text: &'a [u8], ends: &[u32], i: usize) -> &'a [u8]
     between(text, start_of(ends, i), ends[i] as usize)
 }
 
-// What stands from one place to another.
+// The bytes from one place to another.
 fn between(text: &[u8], start: usize, end: usize) -> &[u8]
     requires order { start ≤ end }
     requires within { end ≤ length text.now }

@@ -3,9 +3,9 @@ ghost use Rattle.std.specs.Prelude.{◌≡◌, ℕ, Bool, true};
 
 use std::marker::Sync;
 
-/// What the threads of a replay ask before they handle a line.
+/// The gate that the threads of a replay ask before they handle a line.
 pub trait Gate: Sync {
-    // what it may answer for a line
+    // the answers that it may give for a line
     ghost answers: { Self → ℕ → Bool → Type 0 };
 
     /// Returns whether the line of this number may be handled. A thread asks before it handles a

@@ -1,8 +1,8 @@
-// What a replay shard by shard needs besides its lines.
+// The settings that all threads of a replay shard by shard share.
 use crate::options::Options;
 use std::alloc::Global;
 
-/// What a replay shard by shard needs besides its lines. All of its threads share it.
+/// The settings of a replay shard by shard, which all of its threads share.
 #[derive(Drop)]
 pub struct Job<'a, G> {
     /// The allocator of all that the threads make.
@@ -11,6 +11,6 @@ pub struct Job<'a, G> {
     pub options: &'a Options,
     /// How many threads there are, 1 to 64.
     pub threads: usize,
-    /// What a thread asks before it handles a line.
+    /// The gate that a thread asks before it handles a line.
     pub gate: &'a G,
 }

@@ -14,7 +14,7 @@ use wt_core::Land;
 /// The code with which a load of a trace fails. The report prints it.
 pub const FAILED_LOAD: u32 = 7;
 
-/// Returns what a value weighs whose key has this word: 1 and the word modulo the modulus.
+/// Returns the weight of a value whose key has this word: 1 and the word modulo the modulus.
 pub fn weight_by(modulus: u64, word: u64) -> u32
     requires { (0 < modulus) × (modulus ≤ 1000000) }
     ensures { result ≡ 1 + word % modulus }
@@ -34,7 +34,7 @@ pub fn fails_by(divisor: Option<u64>, word: u64) -> bool
     }
 }
 
-/// Returns the value that line n makes of a key.
+/// Returns the value that line n stores for a key.
 pub fn version_by<K: TraceKey>(options: &Options, n: u64, key: K) -> Version<K>
     requires { option_fault options.now ≡ None }
     ensures { result ≡ spec.version (keys_of K.TraceKey) options.now n key }

@@ -1,4 +1,4 @@
-// The values that a trace stores: each has its key, and the number of the line that made it.
+// The values that a trace stores: each has its key, and the number of its line.
 ghost use Rattle.std.specs.Prelude.{◌≡◌, IfOk, IsOk, true};
 
 use wt_core::Weighs;
@@ -7,7 +7,7 @@ use wt_keys::{Answers, CacheKey, NoMemory, Share};
 /// A value of a trace.
 #[derive(Clone, Copy, Debug)]
 pub struct Version<K> {
-    /// The key that it was made for.
+    /// Its key.
     pub key: K,
     /// The number of the line that made it, which the report prints.
     pub line: u64,
@@ -39,7 +39,7 @@ impl<K> Weighs for Version<K> {
     }
 }
 
-/// A value answers the key that it was made for, and no other.
+/// A value answers its own key, and no other.
 impl<K: CacheKey> Answers<K> for Version<K> {
     ghost answers = { λ v k. K.eq v.key k };
 

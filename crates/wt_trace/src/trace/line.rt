@@ -7,7 +7,7 @@ use crate::trace::bytes::cut;
 use crate::trace::digits::number_of;
 use crate::trace::key::TraceKey;
 
-/// What a line asks for.
+/// The call that a line asks for.
 #[derive(Clone, Copy, Debug)]
 pub enum Act<K> {
     /// A look-up of the key, letter L.
@@ -43,12 +43,12 @@ impl<K: Copy> Act<K> {
     }
 }
 
-/// A line: its moment in milliseconds, and what it asks for.
+/// A line: its moment in milliseconds, and its call.
 #[derive(Clone, Copy, Debug)]
 pub struct Line<K> {
-    /// The moment that the step is handed.
+    /// The moment of the step.
     pub moment: u64,
-    /// What is done.
+    /// The call.
     pub act: Act<K>,
 }
 
@@ -63,7 +63,7 @@ pub fn line_of<K: TraceKey>(bytes: &[u8]) -> Option<Line<K>>
     Some(Line { moment, act })
 }
 
-// What the bytes behind the moment ask for.
+// Reads the call from the bytes behind the moment.
 fn act_of<K: TraceKey>(bytes: &[u8]) -> Option<Act<K>>
     ensures { result ≡ spec.act_of K.read bytes.now }
 {
@@ -75,7 +75,7 @@ fn act_of<K: TraceKey>(bytes: &[u8]) -> Option<Act<K>>
     }
 }
 
-// What a letter asks of a key.
+// The call of a letter on a key.
 fn act_on<K: Copy>(letter: u8, key: K) -> Option<Act<K>>
     ensures { result ≡ spec.lettered letter (spec.keyed key) }
 {
@@ -91,8 +91,7 @@ fn act_on<K: Copy>(letter: u8, key: K) -> Option<Act<K>>
     }
 }
 
-/// What is read is a line by the grammar, and each line by the grammar is read: of numbers and of
-/// names.
+/// Each line by the grammar is read, and nothing else is: lines of numbers, and lines of names.
 pub fn reads_every_line()
     ensures numbers { spec.ReadsLines IsNumber numbers.read }
     ensures names { spec.ReadsLines IsName names.read }

@@ -1,6 +1,7 @@
-// The lines of a trace read on threads: each reads a chunk of the bytes that ends with a line, and
-// what they read is put together in the order of the chunks. A thread doesn't know how many lines
-// there are before its chunk, so a chunk with a fault is read again, by the numbers of its lines.
+// Reads the lines of a trace on threads. Each thread reads a chunk of the bytes that ends with a
+// line, and the lines are put together in the order of the chunks. A thread doesn't know how many
+// lines there are before its chunk, so a chunk with a fault is read again, with the right numbers
+// of its lines.
 ghost use Rattle.std.specs.Prelude.{◌≡◌, ◌==◌, ◌+◌, ◌<◌, ◌≤◌, [], ◌++◌, IfOk, None, position, get_or, slice_set, drop, length, vec_len};
 ghost use Rattle.wt_trace.specs.Contract.{AreRead};
 ghost use Rattle.wt_trace.specs.Trace.{AreAlone, AreLines, lines_of, lines_of_all, trace_from, line_end};
@@ -114,7 +115,7 @@ fn read_chunks<H: Threads + Sync, K: TraceKey>(
     )
 }
 
-// The lines of a chunk whose first line is line n, by what a thread read by other numbers.
+// The lines of a chunk whose first line is line n, from a thread's reading with other numbers.
 fn numbered<K: TraceKey>(
     alloc: Global,
     first: u64,
@@ -138,7 +139,7 @@ fn numbered<K: TraceKey>(
     read_lines(alloc, n, bytes)
 }
 
-// Takes what was read of the t-th chunk.
+// Takes the lines of the t-th chunk.
 fn take_piece<K: TraceKey>(read: &mut Vec<Option<Piece<K>>>, t: usize) -> Option<Piece<K>>
     requires { t < vec_len read.old }
     ensures taken { result ≡ get_or read.old.items t None }
@@ -147,7 +148,7 @@ fn take_piece<K: TraceKey>(read: &mut Vec<Option<Piece<K>>>, t: usize) -> Option
     read[t].take()
 }
 
-// The lines of all chunks up to the first fault, by what the threads read.
+// The lines of all chunks up to the first fault, from the readings of the threads.
 fn put_together<K: TraceKey>(
     alloc: Global,
     first: u64,

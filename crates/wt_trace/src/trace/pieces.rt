@@ -93,7 +93,7 @@ impl<K: TraceKey> Pieces<K> {
         self.count
     }
 
-    /// Returns what is wrong with the line behind them, if something is.
+    /// Returns the fault of the line behind them, if it has one.
     pub fn verdict(&self) -> Result<(), ReplayFault>
         ensures { result ≡ self.now.verdict }
     {
@@ -129,7 +129,7 @@ impl<'a, K> Model for Walk<'a, K> {
 }
 
 impl<'a, K> Walk<'a, K> {
-    /// Returns how many lines are left, for taking memory at once. No clause says so.
+    /// Returns how many lines are left, for taking memory at once. No clause promises the number.
     pub fn room(&self) -> usize {
         let mut count = self.piece.len();
         for piece in self.later {

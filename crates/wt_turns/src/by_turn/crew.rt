@@ -1,4 +1,4 @@
-// Starts the threads of a replay turn by turn and its workers, and gathers what they hand back.
+// Starts the threads of a replay turn by turn and its workers, and gathers their passes and faults.
 ghost use Rattle.std.specs.Prelude.{◌≡◌, ◌<◌, ◌≤◌, ℕ, length, vec_len, get_or, IfOk, IfErr, IfSome, IsOk, IsNone, Err, false};
 ghost use Rattle.wt_turns.specs.ByTurn.{IsManned};
 ghost use Rattle.wt_turns.specs.Contract.{HaveRan};
@@ -19,13 +19,13 @@ use wt_keys::Fault;
 use wt_shards::{Names, Of, Pass};
 use wt_trace::{Gate, TraceKey, Version};
 
-// How often is looked for a worker before the lines begin.
+// How often a replay looks for a worker before the lines begin.
 const MOST_LOOKS: u32 = 10_000;
 
-/// What each thread handed back, or why it stopped.
+/// The pass of each thread, or the fault that stopped it.
 pub(crate) type Ran<K, B> = Vec<Result<Pass<K, Version<K>, B>, RunFault>>;
 
-/// What each worker handed back, or its fault.
+/// The pass of each worker, or its fault.
 pub(crate) type Worked<K, B> = Vec<Result<Pass<K, Version<K>, B>, Fault>>;
 
 // Closes the line of loads if no worker comes to it, so that each caller loads for itself.

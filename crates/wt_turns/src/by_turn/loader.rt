@@ -29,7 +29,7 @@ impl TraceLoader {
         TraceLoader { options: *options }
     }
 
-    // The value that line n makes of a key.
+    // The value that line n stores for a key.
     pub(crate) fn version<K: TraceKey>(&self, n: u64, key: K) -> Version<K>
         ensures { result ≡ version (keys_by K.eq K.word K.read K.shown) self.now.options n key }
     {

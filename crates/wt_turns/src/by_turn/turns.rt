@@ -1,4 +1,4 @@
-// What one thread of a replay turn by turn does.
+// One thread of a replay turn by turn: it does its lines, each when its turn comes.
 ghost use Rattle.std.specs.Prelude.{◌≡◌, ◌*◌, ◌+◌, ◌≤◌, false, true, length, OnOk, IfErr};
 ghost use Rattle.wt_turns.specs.ByTurn.{IsReady};
 ghost use Rattle.wt_turns.specs.Turns.{HasActed, AreTurns, IsDone, IsTurn, IsRunStop, is_passed_over, is_turn};
@@ -61,7 +61,8 @@ fn passed_over(fault: Fault) -> Result<(), Fault>
     }
 }
 
-// Does what line n asks for, once. Lines that leave a load open or land one are none of a turn.
+// Makes the call of line n, once. A replay turn by turn has no lines that leave a load open or land
+// one.
 fn act<K: TraceKey, B: Books, R: Wait>(
     rt: &R,
     cache: &LoadingCache<K, Version<K>, TraceLoader, B>,
@@ -117,8 +118,8 @@ fn is_turn(n: u64, t: u64, threads: u64) -> bool
 }
 
 impl<'a, K: TraceKey, B: Books> Turns<'a, K, B> {
-    // Does line n if it is this thread's and the gate lets it through, and drops what left the cache.
-    // Leaves another thread's line alone.
+    // Does line n if it is this thread's and the gate lets it through, and drops the entries that
+    // left. Leaves another thread's line alone.
     #[tactic(auto, using(crate::proofs::Dealt::own_turn, crate::proofs::Dealt::other_turn))]
     fn take_turn<G: Gate, R: Wait>(
         &self,
@@ -177,7 +178,7 @@ impl<'a, K: TraceKey, B: Books> Turns<'a, K, B> {
         Ok(())
     }
 
-    // The same, with a list of its own for what leaves the cache.
+    // The same, with a list of its own for the entries that leave.
     fn do_all<G: Gate, R: Wait>(
         &self,
         rt: &R,
@@ -198,7 +199,7 @@ impl<'a, K: TraceKey, B: Books> Turns<'a, K, B> {
     }
 }
 
-/// Does the lines of thread t with a pass of its own, which it hands back.
+/// Does the lines of thread t with a pass of its own, and returns the pass.
 pub(crate) fn run_thread<K: TraceKey, B: Books, G: Gate, R: Wait>(
     rt: &R,
     alloc: Global,
@@ -247,8 +248,8 @@ fn man<K: TraceKey, B: Books, R: Wait>(
     Ok(())
 }
 
-/// Runs loads with a pass of its own until the line of loads is closed and empty, and hands the
-/// pass back.
+/// Runs loads with a pass of its own until the line of loads is closed and empty, and returns the
+/// pass.
 pub(crate) fn run_loads<K: TraceKey, B: Books, R: Wait>(
     rt: &R,
     alloc: Global,

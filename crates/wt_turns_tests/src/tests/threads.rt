@@ -8,7 +8,7 @@ use std::thread;
 use std::thread::Threads;
 use wt_trace::{Gate, Options, ReplayFault, Tallied, replay_by_shard};
 
-// What is written for an input on `threads` threads, 1 to 64, and how the run ends.
+// The output for an input on `threads` threads, 1 to 64, and how the run ends.
 fn by_shard<H: Threads + Sync + Alloc<A = Global>, G: Gate>(
     rt: &H,
     input: &[u8],

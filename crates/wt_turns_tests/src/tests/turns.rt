@@ -9,7 +9,7 @@ use std::thread::Threads;
 use wt_trace::{Gate, Open, Options, ReplayFault, Tallied};
 use wt_turns::replay_by_turn;
 
-// What is written for an input by `threads` threads in turn, and how the run ends.
+// The output for an input by `threads` threads in turn, and how the run ends.
 fn by_turn<H: Threads + Wait + Sync + Alloc<A = Global>, G: Gate>(
     rt: &H,
     input: &[u8],
