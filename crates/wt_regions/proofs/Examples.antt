@@ -1,5 +1,5 @@
 -- Worked examples of the regions, computed by the definitions alone.
-use Rattle.std.proofs.Common.{◌≡◌, ℕ, List, [], ◌∷◌, map, None, Some, refl}
+use Rattle.std.proofs.Common.{◌≡◌, ℕ, Bool, true, false, List, [], ◌∷◌, map, None, Some, refl}
 use Rattle.std.specs.Prelude.{nat_eq, Option, ◌+◌}
 use Rattle.std.specs.List.{count_by}
 use Rattle.std.specs.Map.{keys_of}
@@ -9,6 +9,7 @@ use Rattle.wt_regions.specs.declared.notices.Cause.TheVariants.{Expired, Size}
 use Rattle.wt_regions.specs.declared.notices.Notice.{Notice}
 use Rattle.wt_regions.specs.Lists.{Lists, Told, no_entries}
 use Rattle.wt_regions.specs.Touch.{looked_at}
+use Rattle.wt_regions.specs.Slide.{slid}
 use Rattle.wt_regions.specs.Steps.{stored, cleaned, new_entry}
 
 abbrev caps : ℕ → ℕ → ℕ → Option ℕ → Caps
@@ -103,3 +104,30 @@ expired_entries_leave = refl
 pub an_own_expired_entry_leaves_as_expired : (put one 1 2 100 (put one 1 1 0 (opened (caps 4 1 1000 (Some 100))))).told
     ≡ (1, (1, Expired)) ∷ []
 an_own_expired_entry_leaves_as_expired = refl
+
+-- a slide of the border
+abbrev slide : Bool → Run → Run
+slide wider s = after s 0 (slid wider s.regions, [])
+
+-- 3, 2 and 1 fill main, whose protected part may hold two
+abbrev full : Run
+full = puts (1 ∷ 2 ∷ 3 ∷ 4 ∷ 5 ∷ []) 1 (opened (caps 5 2 1000 None))
+
+pub narrower_gives_windows_last_to_probation : order (slide false full) ≡ (5 ∷ []) ∷ (4 ∷ 3 ∷ 2 ∷ 1 ∷ []) ∷ [] ∷ []
+narrower_gives_windows_last_to_probation = refl
+
+pub wider_gives_probations_last_to_window : order (slide true full) ≡ (1 ∷ 5 ∷ 4 ∷ []) ∷ (3 ∷ 2 ∷ []) ∷ [] ∷ []
+wider_gives_probations_last_to_window = refl
+
+-- with 2 and 1 used, protected is full, and may then hold one
+pub wider_gives_protecteds_last_to_probation : order (slide true (looks (1 ∷ 2 ∷ []) full)) ≡ (3 ∷ 5 ∷ 4 ∷ []) ∷ (1 ∷ []) ∷ (2 ∷ []) ∷ []
+wider_gives_protecteds_last_to_probation = refl
+
+-- a window of all entries is as wide as can be, one of a single entry as narrow
+pub at_an_end_nothing_moves : (slide true (puts (1 ∷ []) 1 (opened (caps 2 2 1000 None)))).regions.caps.window
+    ∷ (slide false (puts (1 ∷ []) 1 (opened (caps 2 1 1000 None)))).regions.caps.window ∷ [] ≡ 2 ∷ 1 ∷ []
+at_an_end_nothing_moves = refl
+
+-- the regions that have room take no entry over
+pub with_room_no_entry_moves : order (slide true (puts (1 ∷ []) 1 (opened (caps 3 1 1000 None)))) ≡ (1 ∷ []) ∷ [] ∷ [] ∷ []
+with_room_no_entry_moves = refl

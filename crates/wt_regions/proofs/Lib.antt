@@ -19,3 +19,4 @@ pub mod Gone
 pub mod Fits
 pub mod Looks
 pub mod Room
+pub mod Slides

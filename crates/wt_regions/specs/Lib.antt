@@ -5,3 +5,4 @@ pub mod Steps
 pub mod Notices
 pub mod Lawful
 pub mod Moves
+pub mod Slide

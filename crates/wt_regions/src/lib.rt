@@ -10,6 +10,7 @@ mod notices;
 mod place;
 mod regions;
 mod settle;
+mod slide;
 mod sweep;
 mod touch;
 mod trim;

@@ -1,6 +1,6 @@
-// What the regions do with one `LruCache`. Window and protected have the places that they may hold:
-// a push into a full one hands its last out, and keeps the block of memory that held it. Probation
-// has one more, as its last may only leave once another has come.
+// The steps of the regions on one `LruCache`. Window and protected have as many places as they may
+// hold entries: a push into a full one returns its last entry, and keeps that entry's block of
+// memory. Probation has one place more, since its last entry may only leave once another has come.
 ghost use Rattle.std.specs.Prelude.{◌≡◌, ◌<◌, ◌≤◌, [], length, None, IfOk, OnOk, OnErr, IsOk, IsSome, IsNone, is_some, IsTrue, option_copied};
 ghost use Rattle.std.specs.Map.{keys_of, lookup};
 ghost use Rattle.std.specs.Option.{option_map};
@@ -14,7 +14,7 @@ use std::alloc::Global;
 use std::num::NonZeroUsize;
 use wt_keys::{CacheKey, NoMemory, Share};
 
-// An empty cache of `most` places, or of one if `most` is 0.
+// An empty cache of `most` places, or of one place if `most` is 0.
 pub(crate) fn empty_cache<K: CacheKey, V>(
     alloc: Global,
     most: usize,
@@ -25,6 +25,17 @@ pub(crate) fn empty_cache<K: CacheKey, V>(
     match NonZeroUsize::new(most.max(1)) {
         Some(cap) => Ok(LruCache::new(alloc, cap)?),
         None => Err(NoMemory),
+    }
+}
+
+// Gives a cache other places, of which its entries need no more.
+pub(crate) fn resize<K: CacheKey, V: Drop>(cache: &mut LruCache<K, Held<V>>, most: usize)
+    requires most { most ≤ 65537 }
+    requires fits { length cache.old.entries ≤ most }
+    ensures { cache.new ≡ lru_cache cache.old.entries (places_of most) }
+{
+    if let Some(cap) = NonZeroUsize::new(most.max(1)) {
+        cache.resize(cap);
     }
 }
 

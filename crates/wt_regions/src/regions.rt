@@ -1,10 +1,12 @@
 // The three regions and their running weight, with what callers see of them.
 ghost use Rattle.std.specs.Prelude.{◌≡◌, ◌≤◌, false, None, IfOk, IfErr, OnOk, OnErr, IsOk, IsTrue};
+ghost use Rattle.std.specs.List.Sorted.{IsPermutation};
 ghost use Rattle.std.specs.Map.{lookup};
 ghost use Rattle.wt_regions.specs.Lawful.{FailsByField, caps_fault, store_fault};
-ghost use Rattle.wt_regions.specs.Lists.{found_at, has_at, no_entries};
+ghost use Rattle.wt_regions.specs.Lists.{all_entries, found_at, has_at, no_entries};
 ghost use Rattle.wt_regions.specs.Moves.{storing};
 ghost use Rattle.wt_regions.specs.Notices.{appended};
+ghost use Rattle.wt_regions.specs.Slide.{can_slide, slid};
 ghost use Rattle.wt_regions.specs.Steps.{cleaned, cleared, removed};
 ghost use Rattle.wt_regions.specs.Touch.{looked_at};
 
@@ -166,6 +168,28 @@ impl<K: CacheKey, V: Share + Weighs> Regions<K, V> {
             }
             None => false,
         }
+    }
+
+    /// Moves the border between window and main by one entry, and returns whether it moved: it
+    /// doesn't if `wider` and window may hold all entries, or if not `wider` and it may hold one.
+    ///
+    /// Window may then hold one entry more, or one less; main the rest, and protected four fifths
+    /// of that. No entry leaves. The last of a region that has one too many goes to the front of
+    /// another: window's and protected's to probation, probation's to window.
+    ///
+    /// Takes memory for at most two shares with a place for each, and for the regions' tables as
+    /// they grow again; `NoMemory` changes nothing. Expected O(1), unless an attacker chooses the
+    /// keys (see `Seeded`) or the allocator copies a table that it shrinks.
+    pub fn slide(&mut self, wider: bool) -> Result<bool, NoMemory>
+        ensures answer { IfOk result (λ moved. moved ≡ can_slide wider self.old.caps) }
+        ensures state { OnOk result (self.new ≡ slid wider self.old) }
+        // None leaves, and none comes.
+        ensures entries { OnOk result
+            (IsPermutation (all_entries self.old) (all_entries self.new)) }
+        ensures end_succeeds { can_slide wider self.old.caps ≡ false → IsOk result }
+        ensures err { OnErr result (self.new ≡ self.old) }
+    {
+        Ok(self.caches.slide(wider)?)
     }
 
     /// Takes every expired entry out, as `Expired`: window, probation, protected, each from last to
