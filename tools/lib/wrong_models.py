@@ -14,6 +14,30 @@ class TieAdmits(Shard):
         return self.sketch.estimate(candidate.key[1]) >= self.sketch.estimate(victim.key[1])
 
 
+class SlideForgetsProtected(Shard):
+    def bound_regions(self, window):
+        before = getattr(self, "protected_most", None)
+        super().bound_regions(window)
+        self.protected_most = self.protected_most if before is None else before
+
+
+class SlideGivesToTheEnd(Shard):
+    def slide(self, wider):
+        before = list(self.window)
+        moved = super().slide(wider)
+        if self.window[1:] == before and len(self.window) > 1:
+            self.window.append(self.window.pop(0))
+        return moved
+
+
+class SlideDropsAnEntry(Shard):
+    def slide(self, wider):
+        moved = super().slide(wider)
+        if moved and not wider and self.probation:
+            del self.entries[self.probation.pop().key]
+        return moved
+
+
 class TrimBeginsAtWindow(Shard):
     def trim_order(self):
         return (self.window, self.probation, self.protected)
@@ -280,10 +304,14 @@ def of_calls():
     return [shard_type for shard_type in wrong_shards() if shard_type not in (NewestLoadIsLanded, WeightOfTheKey, KeyZeroDoesNotFail)]
 
 
+# No trace shows these.
+OF_SCENARIOS = (TrimMayTakeTheStored, SlideForgetsProtected, SlideGivesToTheEnd, SlideDropsAnEntry)
+
+
 def all_wrong():
-    """The name and the run of each."""
+    """The name and the run of each that a trace shows."""
     for shard_type in wrong_shards():
-        if shard_type is not TrimMayTakeTheStored:
+        if shard_type not in OF_SCENARIOS:
             yield shard_type.__name__, with_shard(shard_type)
     yield "WriteForAccess", swapped("write", "access")
     yield "EntriesForWindow", swapped("entries", "window")

@@ -20,14 +20,19 @@ class Regions:
 
     def __init__(self, s):
         self.s = s
-        self.main = s["entries"] - s["window"]
-        self.protected_most = self.main * 4 // 5
+        self.bound_regions(s["window"])
         self.window, self.probation, self.protected = [], [], []
         self.entries, self.weight = {}, 0
         self.sketch = Sketch(s["entries"])
         self.latest = 0
         self.counts = dict.fromkeys(COUNTED, 0)
         self.left, self.notes = [], []
+
+    def bound_regions(self, window):
+        """How many entries window, main and protected may hold."""
+        self.window_most = window
+        self.main = self.s["entries"] - window
+        self.protected_most = self.main * 4 // 5
 
     # What is held.
 
@@ -159,9 +164,23 @@ class Regions:
             self.weight += weight
             self.window.insert(0, entry)
             self.note("enters", key, version)
-            if len(self.window) > self.s["window"]:
+            if len(self.window) > self.window_most:
                 self.place_candidate(self.window.pop())
         self.trim(entry)
+
+    def slide(self, wider):
+        """Moves the border between window and main by one entry, and returns whether it moved."""
+        window = self.window_most + (1 if wider else -1)
+        if not 1 <= window <= self.s["entries"]:
+            return False
+        self.bound_regions(window)
+        if len(self.window) > self.window_most:
+            self.probation.insert(0, self.window.pop())
+        if len(self.protected) > self.protected_most:
+            self.probation.insert(0, self.protected.pop())
+        if len(self.probation) + len(self.protected) > self.main:
+            self.window.insert(0, self.probation.pop())
+        return True
 
     # How often a key was counted.
 

@@ -9,7 +9,7 @@ from model.shard import Shard
 DEFAULTS = {"entries": 4, "window": 1, "weight": 2 ** 48, "write": None, "access": None, "refresh": None, "flights": 64, "ring": 128, "shards": 1}
 OF_SHARDS = {"look", "seek", "land", "put", "drop", "forget", "clean", "clear"}
 OF_CACHE = OF_SHARDS - {"seek", "land"} | {"get"}
-CALLS = {"core": OF_SHARDS | {"get"}, "shards": OF_SHARDS, "cache": OF_CACHE, "callers": OF_CACHE}
+CALLS = {"core": OF_SHARDS | {"get", "slide"}, "shards": OF_SHARDS, "cache": OF_CACHE, "callers": OF_CACHE}
 # A caller isn't told how many steps its sweeps made.
 UNTOLD = {("callers", "clean"), ("callers", "clear")}
 HEAVY, FULL, FAILED = 3, 4, 6
@@ -111,6 +111,10 @@ class Played(Shard):
         self.letter_X(moment, None, 0)
         return self.step("cleared")
 
+    def call_slide(self, moment, way):
+        self.begin_step(moment)
+        return self.step("slid" if self.slide(way == "wider") else "at-the-end")
+
 
 class Scenario:
     """A scenario's settings, its lines as words, and the layers on which it is to be played."""
@@ -131,6 +135,8 @@ def arguments(words):
     """What a call is handed beside its moment: the key, and what is stored or how a load ends."""
     if len(words) == 2:
         return ()
+    if words[1] == "slide":
+        return (words[2],)
     key = as_key(int(words[2]))
     if words[1] == "get":
         failed = words[3] == "failed"
@@ -147,7 +153,7 @@ def told(shards, words, layer):
     if words[1] not in CALLS[layer]:
         return "- no-such-call"
     handed = arguments(words)
-    at = [shards[shard_of(handed[0][1], len(shards))]] if handed else shards
+    at = [shards[shard_of(handed[0][1], len(shards))]] if handed and words[1] != "slide" else shards
     # Shards land a load by its lead, and a core by any number.
     if words[1] == "land" and layer == "shards" and handed[1::-1] not in at[0].sought:
         return "- no-such-call"

@@ -95,6 +95,11 @@ pub fn clean(alloc: Global, pages: &mut Pages, now: u64) -> Result<usize, Fault>
     Ok(left.list().len())
 }
 
+/// Gives window a place of main, and returns whether it took it.
+pub fn slide(pages: &mut Pages, now: u64) -> Result<bool, Fault> {
+    pages.slide(true, now)
+}
+
 /// Makes a call that came as data, and returns whether it hit. A refusal is a reply here.
 pub fn take(alloc: Global, pages: &mut Pages, call: Call<u64, Page>) -> Result<bool, Fault> {
     let mut left = Notices::new(alloc, pages.entries() as usize)?;

@@ -1,9 +1,11 @@
 // Calls as data, and whole runs of them.
-ghost use Rattle.std.specs.Prelude.{◌≡◌, ◌+◌, ◌≤◌, IfOk, IfErr, IsOk, IsSome, OnOk, OnErr, length};
+ghost use Rattle.std.specs.Prelude.{◌≡◌, ◌+◌, ◌≤◌, false, IfOk, IfErr, IsOk, IsSome, OnOk, OnErr, length};
 ghost use Rattle.wt_keys.specs.declared.fault.Fault.TheVariants as fault;
 ghost use Rattle.wt_regions.specs.Notices.{appended};
+ghost use Rattle.wt_regions.specs.Slide.{KeepsAllButWindow};
 ghost use Rattle.wt_core.specs.Contract.{KeepsWhole, IsPartRun};
 ghost use Rattle.wt_core.specs.Landings.{TakesNone};
+ghost use Rattle.wt_core.specs.Laws.{is_slide};
 ghost use Rattle.wt_core.specs.Run.{taken, run, replies, last_notices};
 ghost use Rattle.wt_core.specs.Step.{refusal_of};
 
@@ -45,7 +47,8 @@ impl<K: CacheKey, V: Share + Weighs> Core<K, V> {
         ensures notices { OnOk result (notices.new
             ≡ appended (taken K.eq K.word V.weight self.old call).notices notices.old) }
 
-        ensures same { self.new.regions.caps ≡ self.old.regions.caps }
+        ensures same { KeepsAllButWindow self.old.regions.caps self.new.regions.caps }
+        ensures still { is_slide call ≡ false → self.new.regions.caps ≡ self.old.regions.caps }
         ensures whole { KeepsWhole notices.old notices.new }
         // What the state refuses is refused whatever the memory does, and some calls take none.
         ensures refusal { IsSome (refusal_of K.eq K.word V.weight self.old call) → IsOk result }
@@ -69,6 +72,9 @@ impl<K: CacheKey, V: Share + Weighs> Core<K, V> {
                 answer_of!(self.forget(key, now, notices), was => Reply::Forgot(was))
             }
             Call::Clean(now) => answer_of!(self.clean(now, notices), () => Reply::Cleaned),
+            Call::Slide { wider, now } => {
+                answer_of!(self.slide(wider, now), moved => Reply::Slid(moved))
+            }
         }
     }
 }
@@ -97,7 +103,7 @@ pub fn run_calls<K: CacheKey, V: Share + Weighs>(
 
     ensures memory { IfErr result (λ f. f ≡ fault.NoMemory) }
     // Whatever is answered.
-    ensures same { core.new.regions.caps ≡ core.old.regions.caps }
+    ensures same { KeepsAllButWindow core.old.regions.caps core.new.regions.caps }
     ensures whole { KeepsWhole notices.old notices.new }
     ensures err { OnErr result (IsPartRun K.eq K.word V.weight calls.items core.old core.new) }
 {

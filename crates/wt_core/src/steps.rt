@@ -1,4 +1,4 @@
-// The eight steps, a file for each call, and the two ends that a look-up can have.
+// The nine steps, a file for each call, and the two ends that a look-up can have.
 //
 //   refused? ──► what memory may refuse ──► the entries, the loads ──► the counts, the moment, the
 //   number of the step ──► the key's use
@@ -12,6 +12,7 @@ pub(crate) mod land;
 mod look;
 mod put;
 mod seek;
+mod slide;
 
 // Ends a step whose look-up hit: counts it, and last the key.
 macro_rules! end_hit {

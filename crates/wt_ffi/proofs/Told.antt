@@ -5,7 +5,7 @@ use Rattle.wt_keys.specs.declared.fault.Fault.TheVariants as fault
 use Rattle.wt_regions.specs.Notices.{NoticeList, appended, emptied}
 use Rattle.wt_core.specs.declared.calls.Call.{Call}
 use Rattle.wt_core.specs.declared.calls.Reply.{Reply}
-use Rattle.wt_core.specs.declared.calls.Reply.TheVariants.{Hit, Absent, HitLead, Join, Lead, Kept, Loose, Failed, Gone, Stored, Dropped, Cleared, Forgot, Cleaned, Refused}
+use Rattle.wt_core.specs.declared.calls.Reply.TheVariants.{Hit, Absent, HitLead, Join, Lead, Kept, Loose, Failed, Gone, Stored, Dropped, Cleared, Forgot, Cleaned, Slid, Refused}
 use Rattle.wt_core.specs.Contract.{FailsBy}
 use Rattle.wt_core.specs.Run.{taken_if}
 use Rattle.wt_core.specs.State.{Made}
@@ -37,6 +37,7 @@ kind-answer_of Cleared n = refl
 kind-answer_of (Forgot was) n = refl
 kind-answer_of Cleaned n = refl
 kind-answer_of (Refused f) n = refl
+kind-answer_of (Slid moved) n = refl
 
 module _ {K : Type 0} (eq : K → K → Bool) (word : K → ℕ) (call : Call K Token) (old new : Open K)
     (reply : Reply Token) (told : Answer) where

@@ -6,7 +6,7 @@ use Rattle.wt_core.specs.declared.calls.Call.{Call}
 use Rattle.wt_core.specs.declared.calls.Call.TheVariants as call
 use Rattle.wt_core.specs.declared.calls.Land.TheVariants as land
 use Rattle.wt_core.specs.declared.calls.Reply.{Reply}
-use Rattle.wt_core.specs.declared.calls.Reply.TheVariants.{Hit, Absent, HitLead, Join, Lead, Kept, Loose, Failed, Gone, Stored, Dropped, Cleared, Forgot, Cleaned, Refused}
+use Rattle.wt_core.specs.declared.calls.Reply.TheVariants.{Hit, Absent, HitLead, Join, Lead, Kept, Loose, Failed, Gone, Stored, Dropped, Cleared, Forgot, Cleaned, Slid, Refused}
 use Rattle.wt_core.specs.State.{Made}
 use Rattle.wt_core.specs.Run.{taken}
 use Rattle.wt_core.specs.Step.{refusal_of}
@@ -60,6 +60,7 @@ answer_of Cleared n = plain 12 0 n
 answer_of (Forgot was) n = plain 13 (bit was) n
 answer_of Cleaned n = plain 14 0 n
 answer_of (Refused f) n = plain 15 (fault_number f) n
+answer_of (Slid moved) n = plain 16 (bit moved) n
 
 -- the number of a reply's fault, or 0
 abbrev pub number_of : Reply Token → ℕ

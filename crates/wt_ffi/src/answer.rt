@@ -1,11 +1,11 @@
-// What a call tells C.
+// The answer of a call as C reads it.
 ghost use Rattle.std.specs.Prelude.{◌≡◌};
 ghost use Rattle.wt_ffi.specs.Calls.{answer_of, number_of};
 
 use crate::token::Token;
 use wt_core::Reply;
 
-/// What a call answered: `rd_answer` of the header.
+/// The answer of a call: `rd_answer` of the header.
 #[repr(C)]
 #[derive(Clone, Copy, PartialEq, Eq)]
 pub struct Answer {
@@ -17,11 +17,11 @@ pub struct Answer {
     pub token: u64,
     /// A load's id, the number of its sharers, whether there was something, or the fault's number.
     pub number: u64,
-    /// How many notices the call told.
+    /// How many notices the call left for `rd_get_notice`.
     pub notices: u64,
 }
 
-// The answer, as it is told to C.
+// The answer that C gets for a reply of the cache.
 #[inline(always)]
 pub(crate) fn answer_of(reply: &Reply<Token>, notices: u64) -> Answer
     ensures { result ≡ answer_of reply.now notices }
@@ -81,6 +81,10 @@ pub(crate) fn answer_of(reply: &Reply<Token>, notices: u64) -> Answer
         Reply::Refused(fault) => {
             answer.kind = 15;
             answer.number = fault.number();
+        }
+        Reply::Slid(moved) => {
+            answer.kind = 16;
+            answer.number = *moved as u64;
         }
     }
     answer

@@ -23,13 +23,13 @@ impl<K: CacheKey> Model for Cached<K> {
 
     ghost view = { λ o. record { core = o.core; notices = o.notices } };
 
-    // There is room for what any call tells.
+    // There is room for the notices of any call.
     ghost invariant = { λ o. o.core.regions.caps.entries ≤ o.notices.room + length o.notices.list };
 }
 
 impl<K: CacheKey> Cached<K> {
-    // Makes the call, and returns its fault's number, or 0. If memory was refused the answer's kind is
-    // 0 and the number 1.
+    // Makes the call, and returns its fault's number, or 0. If an allocation failed, the answer's
+    // kind is 0 and the number 1.
     //
     // Each kind of call is a function in its own file of `steps`. Inlined, so that a caller that
     // knows the kind leads straight to its function.
@@ -46,11 +46,12 @@ impl<K: CacheKey> Cached<K> {
             Call::Clear(now) => self.clear(now, answer),
             Call::Forget(key, now) => self.forget(key, now, answer),
             Call::Clean(now) => self.clean(now, answer),
+            Call::Slide { wider, now } => self.slide(wider, now, answer),
         }
     }
 }
 
-// Writes what a step of the cache told, and is the number that the call returns.
+// Writes the answer of a step of the cache, and evaluates to the number that the call returns.
 macro_rules! answered {
     ($cache:expr, $answer:expr, $made:expr, $of:pat => $reply:expr) => {
         match $made {

@@ -5,7 +5,7 @@ use std::alloc::{AllocError, Global};
 use wt_core::{Call, Land};
 use wt_tests::Loaded;
 
-/// What the source returns to a `get`: a value, or an error's code.
+/// The source's result for a `get`: a value, or an error's code.
 #[derive(Clone, Copy, Debug)]
 pub enum Load {
     Value(Loaded),
@@ -27,7 +27,7 @@ pub enum Line {
     Nothing,
 }
 
-/// What is played.
+/// The call that is played.
 #[derive(Drop)]
 pub struct Scenario {
     pub settings: Settings,
@@ -58,6 +58,15 @@ fn read(alloc: Global, text: &str, settings: &mut Settings) -> Result<Option<Lin
     }
 }
 
+// Whether a slide makes window wider.
+fn is_wider(way: &str) -> Option<bool> {
+    match way {
+        "wider" => Some(true),
+        "narrower" => Some(false),
+        _ => None,
+    }
+}
+
 // The line that the words spell.
 fn line_of(words: &[&str]) -> Option<Line> {
     match *words {
@@ -65,6 +74,10 @@ fn line_of(words: &[&str]) -> Option<Line> {
         ["order"] => Some(Line::Order),
         [moment, "clean"] => Some(Line::Call(Call::Clean(number(moment)?))),
         [moment, "clear"] => Some(Line::Call(Call::Clear(number(moment)?))),
+        [moment, "slide", way] => Some(Line::Call(Call::Slide {
+            wider: is_wider(way)?,
+            now: number(moment)?,
+        })),
         [moment, word, key] => Some(Line::Call(asked(word, number(key)?, number(moment)?)?)),
         [moment, "get", key, value, weight] => {
             let load = load_of(value, weight)?;
@@ -101,7 +114,7 @@ fn value_of(value: &str, weight: &str) -> Option<Loaded> {
     Some(Loaded { version, weight })
 }
 
-// What the source returns.
+// The source's result.
 fn load_of(value: &str, weight: &str) -> Option<Load> {
     if value == "failed" {
         return Some(Load::Failed(small(weight)?));

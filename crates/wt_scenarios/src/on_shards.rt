@@ -18,7 +18,7 @@ use wt_tests::Loaded;
 // The shards.
 type Cache<B> = Shards<u64, Loaded, B>;
 
-// What left.
+// The entries that left.
 type Left = Notices<u64, Loaded>;
 
 // The loads that were opened.
@@ -68,7 +68,7 @@ fn play_line<B: Books, R: Print + Wait>(
     }
 }
 
-// A call at every shard. It tells how many steps the pass made at the first.
+// A call at every shard. It reports how many steps the pass made at the first.
 fn play_sweep<B: Books, R: Print + Wait>(
     rt: &R,
     alloc: Global,
@@ -126,7 +126,7 @@ fn told_at<B: Books, R: Wait>(
         Call::Put(key, value, now) => Ok(put_told(shards.put(rt, pass, key, value, now, left))),
         Call::DropKey(key, now) => Ok(drop_told(shards.drop_key(rt, pass, key, now, left))),
         Call::Forget(key, now) => Ok(forget_told(shards.forget(rt, pass, key, now, left))),
-        Call::Clean(_) | Call::Clear(_) => Ok((0, Said::NoSuchCall)),
+        Call::Clean(_) | Call::Clear(_) | Call::Slide { .. } => Ok((0, Said::NoSuchCall)),
     }
 }
 
@@ -141,7 +141,7 @@ fn kept(
     Ok(if ticket.id() == id { id } else { 0 })
 }
 
-// What a seek replies. A load that it opened is kept.
+// The reply of a seek. A load that it opened is kept.
 fn reply_of(leads: &mut Leads, sought: Sought<u64, Loaded>) -> Result<Reply<Loaded>, Fault> {
     match sought {
         Sought::Hit(value) => Ok(Reply::Hit(value)),

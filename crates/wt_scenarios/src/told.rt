@@ -7,12 +7,12 @@ use wt_keys::Fault;
 use wt_shards::Done;
 use wt_tests::Loaded;
 
-/// What a call answers.
+/// The result of a call.
 #[derive(Drop)]
 pub enum Said {
-    /// What a step replies.
+    /// The reply of a step.
     Reply(Reply<Loaded>),
-    /// What a get returns.
+    /// The result of a get.
     Got(How, Loaded),
     /// The layer has no such call.
     NoSuchCall,
@@ -21,7 +21,7 @@ pub enum Said {
 /// A step's number, which a refused call doesn't tell, and what was said.
 pub type Told = (u64, Said);
 
-/// Returns what a step told, or the fault.
+/// Returns the result of a step, or its fault.
 pub fn told_by(outcome: Result<Done<Reply<Loaded>>, Fault>) -> Told {
     match outcome {
         Ok(done) => (done.step, Said::Reply(done.reply)),
@@ -29,12 +29,12 @@ pub fn told_by(outcome: Result<Done<Reply<Loaded>>, Fault>) -> Told {
     }
 }
 
-/// Returns what a refused call tells.
+/// Returns the result of a refused call.
 pub fn refused(fault: Fault) -> Told {
     (0, Said::Reply(Reply::Refused(fault)))
 }
 
-/// Returns what a store told.
+/// Returns the result of a store.
 pub fn put_told(outcome: Result<Done<()>, Fault>) -> Told {
     match outcome {
         Ok(done) => (done.step, Said::Reply(Reply::Stored)),
@@ -42,7 +42,7 @@ pub fn put_told(outcome: Result<Done<()>, Fault>) -> Told {
     }
 }
 
-/// Returns what a removal told.
+/// Returns the result of a removal.
 pub fn drop_told(outcome: Result<Done<bool>, Fault>) -> Told {
     match outcome {
         Ok(done) => (done.step, Said::Reply(Reply::Dropped(done.reply))),
@@ -50,7 +50,7 @@ pub fn drop_told(outcome: Result<Done<bool>, Fault>) -> Told {
     }
 }
 
-/// Returns what the forgetting of a load told.
+/// Returns the result of a forget.
 pub fn forget_told(outcome: Result<Done<bool>, Fault>) -> Told {
     match outcome {
         Ok(done) => (done.step, Said::Reply(Reply::Forgot(done.reply))),
@@ -125,6 +125,7 @@ fn reply_words(reply: &Reply<Loaded>) -> Words {
         Reply::Cleared => bare("cleared"),
         Reply::Forgot(was) => bare(if *was { "forgot" } else { "no-load" }),
         Reply::Cleaned => bare("cleaned"),
+        Reply::Slid(moved) => bare(if *moved { "slid" } else { "at-the-end" }),
         Reply::Refused(fault) => fault_words(fault),
     }
 }
@@ -140,7 +141,7 @@ fn words_of(said: &Said) -> Words {
     }
 }
 
-// The number of a step, which a refused call doesn't tell; 0 is none.
+// The number of a step, which a refused call doesn't have; 0 is none.
 fn told_step(step: u64, said: &Said) -> Option<u64> {
     match said {
         Said::Reply(Reply::Refused(_)) | Said::NoSuchCall => None,

@@ -1,4 +1,4 @@
-// What the tests share: what is done, and what is seen of a reply.
+// Calls of a shard and their replies in plain values, which all tests of the shards use.
 mod apart;
 mod beside_core;
 mod books;
@@ -72,6 +72,7 @@ fn shaded(act: Do, key: u64, now: u64) -> Noted<u64> {
         Do::Clear => Call::Clear(now),
         Do::Forget => Call::Forget(key, now),
         Do::Clean => Call::Clean(now),
+        Do::Slide(wider) => Call::Slide { wider, now },
     }
 }
 
@@ -93,5 +94,9 @@ fn again(call: &Noted<u64>) -> Noted<u64> {
         Call::Clear(now) => Call::Clear(*now),
         Call::Forget(key, now) => Call::Forget(*key, *now),
         Call::Clean(now) => Call::Clean(*now),
+        Call::Slide { wider, now } => Call::Slide {
+            wider: *wider,
+            now: *now,
+        },
     }
 }

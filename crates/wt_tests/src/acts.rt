@@ -1,9 +1,9 @@
-//! What is done to a key, as a row of a table or by chance.
+//! Calls on a key, as rows of a table or by chance.
 use crate::dice::Dice;
 use crate::loaded::Loaded;
 use wt_core::{Call, Land};
 
-/// What is done; a landing with its id.
+/// The call; a landing with its id.
 #[derive(Clone, Copy)]
 pub enum Do {
     Look,
@@ -16,6 +16,7 @@ pub enum Do {
     Clear,
     Forget,
     Clean,
+    Slide(bool),
 }
 
 /// Returns the call that does it to the key.
@@ -31,6 +32,7 @@ pub fn call_of(act: Do, key: u64, now: u64) -> Call<u64, Loaded> {
         Do::Clear => Call::Clear(now),
         Do::Forget => Call::Forget(key, now),
         Do::Clean => Call::Clean(now),
+        Do::Slide(wider) => Call::Slide { wider, now },
     }
 }
 
@@ -43,7 +45,7 @@ pub fn choose(dice: &mut Dice, own: Option<u64>, ids: u64, version: u64) -> Do {
         Some(id) if dice.roll(6) > 0 => id,
         _ => dice.roll(ids),
     };
-    match dice.roll(40) {
+    match dice.roll(43) {
         0 => Do::DropKey,
         1 => Do::Clean,
         2 => Do::Clear,
@@ -53,6 +55,8 @@ pub fn choose(dice: &mut Dice, own: Option<u64>, ids: u64, version: u64) -> Do {
         16..=17 => Do::Fail(id),
         18..=19 => Do::Loose(id),
         20..=27 => Do::Keep(id, value),
+        28..=29 => Do::Slide(true),
+        30 => Do::Slide(false),
         _ => Do::Seek,
     }
 }

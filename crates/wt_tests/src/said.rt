@@ -1,4 +1,4 @@
-//! What a step answers, to be compared.
+//! The replies of steps, in a form that tests can compare.
 use crate::loaded::Loaded;
 use wt_core::Reply;
 use wt_keys::Fault;
@@ -20,6 +20,7 @@ pub enum Said {
     Cleared,
     Forgot(bool),
     Cleaned,
+    Slid(bool),
     Refused(Fault),
 }
 
@@ -40,6 +41,7 @@ pub fn comparable(reply: Reply<Loaded>) -> Said {
         Reply::Cleared => Said::Cleared,
         Reply::Forgot(was) => Said::Forgot(was),
         Reply::Cleaned => Said::Cleaned,
+        Reply::Slid(moved) => Said::Slid(moved),
         Reply::Refused(fault) => Said::Refused(fault),
     }
 }

@@ -28,4 +28,5 @@ module _ {K : Type 0} (keys : Keys K) (o : Options) (n moment : ℕ) (k : K) whe
   fetched-otherwise reply.Cleared m no_lead no_hit = refl
   fetched-otherwise (reply.Forgot was) m no_lead no_hit = refl
   fetched-otherwise reply.Cleaned m no_lead no_hit = refl
+  fetched-otherwise (reply.Slid moved) m no_lead no_hit = refl
   fetched-otherwise (reply.Refused fault) m no_lead no_hit = refl

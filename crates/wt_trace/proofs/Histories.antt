@@ -45,6 +45,7 @@ module _ {K : Type 0} (keys : Keys K) (o : Options) where
   get-ran n moment k reply.Cleared m = refl
   get-ran n moment k (reply.Forgot was) m = refl
   get-ran n moment k reply.Cleaned m = refl
+  get-ran n moment k (reply.Slid moved) m = refl
   get-ran n moment k (reply.Refused fault) m = refl
 
   land-ran : (shard n moment : ℕ) (k : K) (s : State K (Version K)) (row : Option (Row K))

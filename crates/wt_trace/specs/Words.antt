@@ -33,6 +33,7 @@ module _ {K : Type 0} where
   words_of shard reply.Cleared = if shard == 0 then codes " clear" else []
   words_of shard (reply.Forgot was) = if was then codes " forget" else codes " none"
   words_of shard reply.Cleaned = if shard == 0 then codes " clean" else []
+  words_of shard (reply.Slid moved) = []
   words_of shard (reply.Refused (TooHeavy weight bound)) = codes " heavy"
   words_of shard (reply.Refused (TooManyFlights limit)) = codes " full"
   words_of shard (reply.Refused fault) = []

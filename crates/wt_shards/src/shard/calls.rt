@@ -44,7 +44,7 @@ impl<K: CacheKey, V: Share + Weighs + Answers<K>, S: ShardLedger, H: Ledger> Sha
     ///
     /// `StepsSpent` comes before `NoMemory`. Only a hit takes memory, and none if a share is a copy
     /// and the entry isn't in probation; the lagging copy may. Expected O(1), unless an attacker
-    /// chooses the keys (see `Seeded`), and what the dropped records cost.
+    /// chooses the keys (see `Seeded`), and the cost of the dropped records.
     pub fn look(
         &mut self,
         mine: &mut Shares<S, H>,
@@ -97,7 +97,7 @@ impl<K: CacheKey, V: Share + Weighs + Answers<K>, S: ShardLedger, H: Ledger> Sha
     ///
     /// `now` is in milliseconds. `TooHeavy` comes before `StepsSpent`, and both before memory is
     /// asked for; the refused value is dropped. Expected O(1), unless an attacker chooses the keys
-    /// (see `Seeded`); O(entries) if many leave, and what the dropped records cost.
+    /// (see `Seeded`); O(entries) if many leave, and the cost of the dropped records.
     pub fn put(
         &mut self,
         mine: &mut Shares<S, H>,
@@ -121,8 +121,8 @@ impl<K: CacheKey, V: Share + Weighs + Answers<K>, S: ShardLedger, H: Ledger> Sha
     /// longer joined.
     ///
     /// `now` is in milliseconds. `StepsSpent` comes before `NoMemory`; only the lagging copy may
-    /// take memory. Expected O(1), unless an attacker chooses the keys (see `Seeded`), and what the
-    /// dropped records cost.
+    /// take memory. Expected O(1), unless an attacker chooses the keys (see `Seeded`), and the cost
+    /// of the dropped records.
     pub fn drop_key(
         &mut self,
         mine: &mut Shares<S, H>,
@@ -145,7 +145,7 @@ impl<K: CacheKey, V: Share + Weighs + Answers<K>, S: ShardLedger, H: Ledger> Sha
     /// Takes every entry out. Loads open now are no longer joined, nor are their values stored.
     ///
     /// `now` is in milliseconds. `StepsSpent` comes before `NoMemory`; only the lagging copy may
-    /// take memory. O(entries), and what the dropped records cost.
+    /// take memory. O(entries), and the cost of the dropped records.
     pub fn clear(
         &mut self,
         mine: &mut Shares<S, H>,
@@ -165,8 +165,8 @@ impl<K: CacheKey, V: Share + Weighs + Answers<K>, S: ShardLedger, H: Ledger> Sha
     /// there was one.
     ///
     /// `now` is in milliseconds. `StepsSpent` comes before `NoMemory`; only the lagging copy may
-    /// take memory. Expected O(1), unless an attacker chooses the keys (see `Seeded`), and what the
-    /// dropped records cost.
+    /// take memory. Expected O(1), unless an attacker chooses the keys (see `Seeded`), and the cost
+    /// of the dropped records.
     pub fn forget(
         &mut self,
         mine: &mut Shares<S, H>,
@@ -189,7 +189,7 @@ impl<K: CacheKey, V: Share + Weighs + Answers<K>, S: ShardLedger, H: Ledger> Sha
     /// Takes every expired entry out.
     ///
     /// `now` is in milliseconds. `StepsSpent` comes before `NoMemory`; only the lagging copy may
-    /// take memory. O(entries), and what the dropped records cost.
+    /// take memory. O(entries), and the cost of the dropped records.
     pub fn clean(
         &mut self,
         mine: &mut Shares<S, H>,
@@ -203,5 +203,29 @@ impl<K: CacheKey, V: Share + Weighs + Answers<K>, S: ShardLedger, H: Ledger> Sha
     {
         self.step(mine, Call::Clean(now), notices)?;
         Ok(())
+    }
+
+    /// Moves the border between window and main by one entry, and returns whether it moved. No entry
+    /// leaves.
+    ///
+    /// `now` is in milliseconds. `StepsSpent` comes before `NoMemory`. Takes memory as
+    /// [`Core::slide`](wt_core::Core::slide) does, in the cache and in the lagging copy. Expected
+    /// O(1), as there, and what the dropped records cost.
+    pub fn slide(
+        &mut self,
+        mine: &mut Shares<S, H>,
+        wider: bool,
+        now: u64,
+        notices: &mut Notices<K, V>,
+    ) -> Result<bool, Fault>
+        requires room { S.ShardLedger.place.config.entries ≤ notices.old.room }
+        ensures made { IsShardCall (members_by K.eq K.word V.weight V.answers) V.Share.is_copied
+            S.ShardLedger.place.config.entries (call.Slide wider now) reply.Slid (λ _. [])
+            (owned self.old mine.old notices.old) (owned self.new mine.new notices.new) result }
+    {
+        match self.step(mine, Call::Slide { wider, now }, notices)? {
+            Reply::Slid(moved) => Ok(moved),
+            _ => unreachable!(),
+        }
     }
 }

@@ -31,7 +31,7 @@ impl<V: Value<u64>, B: Books> Model for Caller<V, B> {
     ghost invariant = { λ c. (v : V) (k : ℕ) → IsTrue (V.answers v k) };
 }
 
-// What a step replied, and its number; of a sweep, the number at the first shard.
+// The reply of a step, and its number; of a sweep, the number at the first shard.
 pub type Answer<V> = Result<(Reply<V>, u64), Fault>;
 
 impl<V: Value<u64>, B: Books> Caller<V, B> {
@@ -69,6 +69,8 @@ impl<V: Value<u64>, B: Books> Caller<V, B> {
             Call::Clear(now) => self.sweep(rt, shards, true, now),
             Call::Forget(key, now) => self.forget(rt, shards, key, now),
             Call::Clean(now) => self.sweep(rt, shards, false, now),
+            // Only a shard by itself makes slides.
+            Call::Slide { .. } => Err(Fault::Mixed),
         }
     }
 
@@ -214,7 +216,7 @@ fn ready<V: Value<u64>, B: Books>(
     assert!(rt; notices.has_room(entries));
 }
 
-// Keeps the lead of a seek, and tells what it replied.
+// Keeps the lead of a seek, and returns its reply.
 fn keep<V: Value<u64>>(
     rt: &impl Abort,
     leads: &mut Vec<Lead<u64, V>>,

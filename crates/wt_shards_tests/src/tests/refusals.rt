@@ -37,7 +37,7 @@ fn call_with(step: Step, key: u64, value: Fussy, now: u64) -> Call<u64, Fussy> {
     }
 }
 
-// What a refused step leaves: the numbers, the steps, the caller's own, the notices.
+// The state after a refused step: the numbers, the steps, the caller's own, the notices.
 type Seen = (Stats, u64, (u64, u64), usize);
 
 fn seen<V: Share + Weighs + Answers<u64>, N: Names>(rt: &impl Abort, run: &Run<V, N>) -> Seen {
@@ -171,11 +171,11 @@ fn a_refused_share_is_no_step(rt: HostRuntime) -> Result<(), Fail> {
     Ok(())
 }
 
-// What is done to a key, and what is answered once memory is there.
+// A call on a key, and its reply once there is memory.
 type Asked = (Do, u64, Said);
 
 // All calls, each of which is a step.
-fn calls() -> [Asked; 17] {
+fn calls() -> [Asked; 18] {
     [
         (Do::Put(light(1)), 1, Said::Stored),
         (Do::Put(light(2)), 2, Said::Stored),
@@ -191,6 +191,7 @@ fn calls() -> [Asked; 17] {
         (Do::Seek, 5, Said::Lead(3)),
         (Do::Forget, 5, Said::Forgot(true)),
         (Do::Fail(3), 5, Said::Failed(1)),
+        (Do::Slide(true), 0, Said::Slid(true)),
         (Do::Clean, 0, Said::Cleaned),
         (Do::Clear, 0, Said::Cleared),
         (Do::Look, 4, Said::Absent),
@@ -305,7 +306,7 @@ impl Scene<Loaded> for Memory {
         for call in calls() {
             ask(rt, alloc, limits, run, call);
         }
-        same(rt, "the steps at the end", run.steps(), 17);
+        same(rt, "the steps at the end", run.steps(), 18);
         Ok(())
     }
 }

@@ -118,6 +118,12 @@ impl<V: Share + Weighs + Answers<u64>, N: Names> Run<V, N> {
         self.shard.clean(&mut self.mine, now, &mut self.notices)
     }
 
+    pub fn slide(&mut self, wider: bool, now: u64) -> Result<bool, Fault> {
+        self.notices.empty();
+        self.shard
+            .slide(&mut self.mine, wider, now, &mut self.notices)
+    }
+
     // A call as data. The lead and the ticket of a seek are dropped.
     pub fn make(&mut self, call: Call<u64, V>) -> Result<Reply<V>, Fault> {
         match call {
@@ -138,6 +144,7 @@ impl<V: Share + Weighs + Answers<u64>, N: Names> Run<V, N> {
                 self.clean(now)?;
                 Ok(Reply::Cleaned)
             }
+            Call::Slide { wider, now } => Ok(Reply::Slid(self.slide(wider, now)?)),
         }
     }
 
@@ -150,7 +157,7 @@ impl<V: Share + Weighs + Answers<u64>, N: Names> Run<V, N> {
         self.notices.empty();
     }
 
-    // What is seen of it.
+    // Its visible state.
 
     pub fn told(&self) -> &[Notice<u64, V>] {
         self.notices.list()

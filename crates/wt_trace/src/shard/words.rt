@@ -89,6 +89,8 @@ pub(crate) fn show_reply<K>(
         Reply::Cleared => show(out, if shard == 0 { " clear" } else { "" }),
         Reply::Forgot(was) => show(out, if *was { " forget" } else { " none" }),
         Reply::Cleaned => show(out, if shard == 0 { " clean" } else { "" }),
+        // No line of a trace makes a slide.
+        Reply::Slid(_) => Ok(()),
         Reply::Refused(Fault::TooHeavy { .. }) => show(out, " heavy"),
         Reply::Refused(Fault::TooManyFlights { .. }) => show(out, " full"),
         Reply::Refused(_) => Ok(()),

@@ -14,6 +14,7 @@ use Rattle.wt_shards.specs.Counts.{is_hit}
 use Rattle.wt_shards.proofs.Finds.{rising-landings}
 use Rattle.wt_shards.proofs.Loads.{empty-landing, landing-place, limit-step}
 use Rattle.wt_regions.specs.declared.caps.Caps.{Caps}
+use Rattle.wt_regions.specs.Slide.{KeepsAllButWindow}
 use Rattle.wt_core.specs.declared.config.Config.{Config}
 use Rattle.wt_shards.proofs.Told.{told_by}
 use Rattle.wt_shards.proofs.Numbers.{step-to, taken-made}
@@ -153,7 +154,7 @@ invariant_of-self-2 g c =
     let law = subst (λ (x : State K V). IsLawful eq weight x) made c.stats-stats.ensures.lawful in
     let state = shard_state-step eq same word weight answers shards index s2.core call inv.0.state c.requires.asked.0 law in
     let limit = limit-step eq word weight s2.core call ∙ inv.0.limit in
-    let caps = ap (λ (x : State K V). x.regions.caps) (sym made) ∙ c.in-Ok-take.ensures.same in (
+    let caps = subst (λ (x : State K V). KeepsAllButWindow s2.core.regions.caps x.regions.caps) made c.in-Ok-take.ensures.same in (
       subst (IsAudited (members_by eq word weight answers) shards index) (sym whole)
           (audited-recorded eq word weight answers shards index s2 call opened inv.0 allowed2 room state limit
           caps landed),
