@@ -15,7 +15,7 @@ use std::alloc::Global;
 use wt_keys::{CacheKey, Fault, NoMemory, Share};
 use wt_regions::{Notices, Weighs};
 
-// A refusal by the state is an answer; only refused memory stays an error.
+// Turns a refusal by the state into the reply `Refused`. Only a failed allocation stays an error.
 macro_rules! answer_of {
     ($outcome:expr, $made:pat => $reply:expr) => {
         match $outcome {
@@ -27,10 +27,11 @@ macro_rules! answer_of {
 }
 
 impl<K: CacheKey, V: Share + Weighs> Core<K, V> {
-    /// Makes the call, whose refusal by the state is its answer `Refused` and no step.
+    /// Makes the call, and returns its reply. A call that the state refuses returns `Refused`, and
+    /// is no step.
     ///
-    /// `NoMemory` alone is an error, and then nothing has changed. Takes what the call's own step
-    /// takes.
+    /// `NoMemory` alone is an error, and then nothing has changed. Takes as much memory as the
+    /// call's own step.
     ///
     /// In use: `uses::plain::take`.
     // Inlined, so that the kind of call is known to the caller that makes it.
@@ -50,7 +51,7 @@ impl<K: CacheKey, V: Share + Weighs> Core<K, V> {
         ensures same { KeepsAllButWindow self.old.regions.caps self.new.regions.caps }
         ensures still { is_slide call ≡ false → self.new.regions.caps ≡ self.old.regions.caps }
         ensures whole { KeepsWhole notices.old notices.new }
-        // What the state refuses is refused whatever the memory does, and some calls take none.
+        // The state's refusals don't depend on memory, and some calls take none.
         ensures refusal { IsSome (refusal_of K.eq K.word V.weight self.old call) → IsOk result }
         ensures memory { TakesNone V.Share.is_copied K.eq V.weight self.old call → IsOk result }
         ensures err { OnErr result ((self.new ≡ self.old) × (notices.new ≡ notices.old)) }
@@ -84,7 +85,7 @@ impl<K: CacheKey, V: Share + Weighs> Core<K, V> {
 ///
 /// The notices are emptied before each call, so those of the last stay. `NoMemory` ends the run;
 /// the cache then stands after a prefix of the calls, and their replies are dropped. Takes memory
-/// for the list of replies, before the first call, and what the calls take.
+/// for the list of replies, before the first call, and as much as the calls take.
 ///
 /// In use: `uses::plain::run`.
 pub fn run_calls<K: CacheKey, V: Share + Weighs>(

@@ -1,6 +1,6 @@
-// The cache, and what it shows.
+// The cache for one thread: its state, and the calls that only read it.
 //
-//     key ──► regions    what is held: window, probation, protected
+//     key ──► regions    the entries: window, probation, protected
 //         ──► sketch     how often each key was counted, for the duel
 //         ──► flights    the loads that are open
 //
@@ -25,16 +25,16 @@ use wt_sketch::Sketch;
 /// The sequential cache: keys with their values in three regions, and the loads that are open.
 ///
 /// Each call that changes it is one step, or is refused and changes nothing, the moment included.
-/// Moments are milliseconds that the caller hands in; one before the latest counts as the latest.
+/// The caller passes each moment, in milliseconds; one before the latest counts as the latest.
 #[derive(Drop)]
 pub struct Core<K: CacheKey, V: Share + Weighs> {
-    // What a hit writes comes first, so that it stands in few lines of the processor's memory.
+    // The fields that a hit writes come first, so that they share few cache lines.
     //
     // The moment of the last step, in milliseconds; 0 before the first. It never goes back.
     pub(crate) latest: u64,
     // How many steps were made: one for each call that wasn't refused.
     pub(crate) step: u64,
-    // Looks and seeks count as look-ups, landings as loads, and in every step what was evicted.
+    // Looks and seeks count as look-ups, landings as loads. Every step counts its evictions.
     pub(crate) counts: Counts,
     // How often each key was counted. A look, a seek and a put count theirs, last in the step.
     pub(crate) sketch: Sketch,
@@ -87,7 +87,7 @@ impl<K: CacheKey, V: Share + Weighs> Core<K, V> {
     /// In use: `uses::plain::new`.
     pub fn new(alloc: Global, config: &Config) -> Result<Core<K, V>, Fault>
         ensures ok { IfOk result (λ core. core ≡ opening config.now) }
-        // What the configuration refuses is refused whatever the memory does.
+        // The refusals of a configuration don't depend on memory.
         ensures refusal { FailsByField (config_fault config.now) result }
     {
         if let Some(field) = config.fault() {
@@ -176,7 +176,7 @@ impl<K: CacheKey, V: Share + Weighs> Core<K, V> {
         self.len() == 0
     }
 
-    /// Returns what the entries weigh together: at most the bound. Takes no memory. O(1).
+    /// Returns the weight of all entries together: at most the bound. Takes no memory. O(1).
     pub fn weight(&self) -> u64
         ensures { result ≡ weight_of self.now.regions }
     {

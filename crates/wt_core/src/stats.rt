@@ -2,7 +2,7 @@
 ghost use Rattle.std.specs.Prelude.{◌≡◌, ◌^◌};
 ghost use Rattle.wt_core.specs.Sums.{AreBelow, sums_of};
 
-/// What has happened so far.
+/// The counts of a cache since it was opened.
 #[derive(Clone, Copy, Debug, PartialEq, Eq)]
 pub struct Counts {
     /// Look-ups: hits and misses.
@@ -19,7 +19,7 @@ pub struct Counts {
     pub evicted: u64,
 }
 
-/// The numbers of a cache: what has happened so far, and what it holds.
+/// The numbers of a cache: its counts since it was opened, its entries and their weight.
 #[derive(Clone, Copy, Debug, PartialEq, Eq)]
 pub struct Stats {
     /// Look-ups: hits and misses.
@@ -36,12 +36,12 @@ pub struct Stats {
     pub evicted: u64,
     /// Entries held now.
     pub entries: u64,
-    /// What they weigh together.
+    /// Their weight together.
     pub weight: u64,
 }
 
 impl Counts {
-    /// What has happened to a new cache: nothing.
+    /// The counts of a new cache.
     pub const NOTHING: Counts = Counts {
         lookups: 0,
         hits: 0,

@@ -1,9 +1,9 @@
 // The nine steps, a file for each call, and the two ends that a look-up can have.
 //
-//   refused? ──► what memory may refuse ──► the entries, the loads ──► the counts, the moment, the
+//   refused? ──► what takes memory ──► the entries, the loads ──► the counts, the moment, the
 //   number of the step ──► the key's use
 //
-// What can be refused comes first, so that a refused step leaves all as it was.
+// All that can fail comes first, so that a refused step leaves everything as it was.
 mod clean;
 mod clear;
 mod drop_key;

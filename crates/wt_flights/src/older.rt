@@ -4,10 +4,11 @@
 //     by_key    key ──► id                        the loads that a further caller joins
 //     since                                       from which id on a load can be current
 //
-// A load is current exactly while the table by key names its id. It says so itself: its flag is set
-// and its id isn't below `since`. So its row is one look-up, and a landing two removals. A load is
-// forgotten by a removal and its flag; all are by a clearing, after which `since` is the next id.
-// None of these takes memory, and a row is put together only when it is handed out.
+// A load is current exactly while the table by key names its id. Its own record shows this: the
+// flag is set, and the id isn't below `since`. So a row takes one look-up, and a landing two
+// removals. To forget a load, a call removes it from the table by key and resets its flag. To
+// forget all, a call clears that table and sets `since` to the next id. None of these takes memory,
+// and a row is put together only for a caller that reads it.
 ghost use Rattle.std.specs.Prelude.{◌≡◌, ℕ, ◌==◌, ◌&&◌, if◌then◌else◌, false, Some, IsSome, ◌<◌, ◌^◌, length, nat_eq, IfSome, OnOk, OnErr};
 ghost use Rattle.std.specs.HashMap.{get, hash_map_len};
 ghost use Rattle.std.specs.Option.{option_map, is_some};
@@ -83,7 +84,7 @@ impl<K: CacheKey> Older<K> {
     pub(crate) fn current(&self, key: K) -> Option<u64>
         ensures { result ≡ current_of K.eq key self.now }
     {
-        // Mostly no load is open, and then no look-up is made.
+        // Mostly no load is open, and then there is no look-up.
         if self.by_key.is_empty() {
             return None;
         }
@@ -150,7 +151,8 @@ impl<K: CacheKey> Older<K> {
     {
         self.by_id.reserve(1)?;
         name_current(&mut self.by_key, &row)?;
-        // The room was made, so that the second table can't refuse what the first one has taken.
+        // `reserve` has made the room, so that `by_id` can't refuse a load that is in `by_key`
+        // already.
         let open = Open {
             key: row.key,
             sharers: row.sharers,
@@ -195,7 +197,7 @@ impl<K: CacheKey> Older<K> {
         })
     }
 
-    // Takes the last load away, which nobody joined, and its id back.
+    // Undoes the opening of the last load, which nobody joined: its id is free again.
     pub(crate) fn take_back(&mut self)
         requires { CanTakeBack self.old }
         ensures state { self.new ≡ taken_back self.old }

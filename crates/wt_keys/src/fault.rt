@@ -1,11 +1,12 @@
-// Why a call is refused, each fault with its number.
+// The faults of all calls, each with its number.
 ghost use Rattle.std.specs.Prelude.{◌≡◌};
 ghost use Rattle.wt_keys.specs.declared.fault.Fault.TheVariants as fault;
 
 use std::alloc::{AllocError, AllocFailed};
 use thiserror::Error;
 
-/// Memory was refused. The call that asked for it changed nothing, unless it says otherwise.
+/// An allocation failed. The call that made it changed nothing, unless its documentation has an
+/// exception.
 #[derive(Clone, Copy, Debug, PartialEq, Eq, Error)]
 #[error("no memory was left")]
 pub struct NoMemory;
@@ -117,7 +118,7 @@ pub enum Fault {
     /// The line of loads was closed and takes no further one. Load in the caller.
     #[error("the line of loads is closed")]
     LineClosed,
-    /// A pass of this shard wasn't handed back, so that its steps can't be told.
+    /// A pass of this shard wasn't given back, so that its steps are unknown.
     #[error("the passes handed back don't account for each step of shard {shard}")]
     PassMissing { shard: u32 },
     /// All passes were given out, and no further one can be.

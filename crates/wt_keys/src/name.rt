@@ -85,7 +85,7 @@ impl Eq for Name {
     ghost laws = { nat_list_eq_equiv };
 }
 
-/// Feeds what the slice of its bytes feeds.
+/// Feeds the hasher as the slice of its bytes does.
 impl Hash for Name {
     ghost hash_input = { fed.slice fed.u8 };
 

@@ -1,4 +1,4 @@
-// Keys that nobody can aim.
+// Keys under a secret seed, so that no attacker can choose keys that collide.
 ghost use Rattle.std.specs.Prelude.{◌≡◌, nat_eq};
 ghost use Rattle.std.specs.Hash as fed;
 ghost use Rattle.wt_keys.specs.Seeded.{key_of, word_of, seeded, TellsKeysApart};
@@ -12,7 +12,7 @@ use std::{fmt, io};
 /// foresee.
 ///
 /// Make one for each cache, and each key of the cache with it: a key that was made under another
-/// seed isn't found, but for one chance in 2^64. `Debug` tells nothing of the bits.
+/// seed isn't found, but for one chance in 2^64. `Debug` shows nothing of the bits.
 #[derive(Clone, Copy, Debug)]
 pub struct Seed {
     // Never changes.
@@ -33,7 +33,7 @@ impl Seed {
     /// Returns the key with the word that it has under this seed: its SipHash-1-3.
     ///
     /// A function of the two. Takes no memory. O(length of the key): make a key once if it is
-    /// used more than once. Keys can be told apart by their words, so keep words to yourself.
+    /// used more than once. Words reveal which keys differ, so keep words to yourself.
     pub fn key<K: CacheKey>(&self, key: K) -> Seeded<K>
         ensures { result ≡ seeded K.hash_input self.now key }
     {
@@ -48,11 +48,11 @@ impl Seed {
 /// key.
 ///
 /// Tables, hash rows and shards go by the word alone, so that nobody without the seed can pick keys
-/// that meet there more often than by chance. That rests on SipHash, and no clause says it.
+/// that meet there more often than by chance. That rests on SipHash; no clause promises it.
 #[derive(Clone, Copy, PartialEq, Eq)]
 pub struct Seeded<K> {
-    // Made from the key and a seed, and never changes. Compared first: it tells nearly all keys
-    // apart.
+    // Made from the key and a seed, and never changes. Compared first, since nearly all keys differ
+    // in it.
     word: u64,
     // Never changes.
     key: K,
@@ -128,7 +128,7 @@ impl<K: fmt::Debug> fmt::Debug for Seeded<K> {
 #[derive(Clone, Copy)]
 pub struct FixedBytes(pub [u8; 16]);
 
-/// Fills the buffer from the first byte on, and leaves what is behind the sixteenth as it is.
+/// Fills the buffer from the first byte on, and leaves the bytes behind the sixteenth as they are.
 impl RandomSource for FixedBytes {
     fn fill_bytes(&self, buf: &mut [u8]) -> io::Result<()> {
         for (place, byte) in buf.iter_mut().zip(self.0) {

@@ -3,10 +3,10 @@ ghost use Rattle.std.specs.Prelude.{◌≡◌, IfOk, IsOk, IsTrue, Bool, true, f
 
 use crate::fault::NoMemory;
 
-/// A value that can be handed out while the cache keeps it.
+/// A value that the cache can share with a caller while it keeps it.
 ///
-/// A share is equal to what it was made from. It is asked for at each hit and for each sharer of a
-/// load, so it should be cheap: a copy, or a further owner as [`Shared`](crate::Shared) makes one.
+/// A share is equal to its value. The cache makes one at each hit and for each sharer of a load, so
+/// it should be cheap: a copy, or a further owner as [`Shared`](crate::Shared) makes one.
 pub trait Share: Sized + Drop {
     /// Whether a share is a copy, which is never refused.
     ghost is_copied: { Bool } = { false };

@@ -69,7 +69,7 @@ impl<K: CacheKey, V: Drop> Caches<K, V> {
         })
     }
 
-    // What is held for the key. Protected comes first: most keys that are there are in it.
+    // The key's entry. Protected is looked into first, since most entries are in it.
     pub(crate) fn find(&self, key: K) -> Option<&Held<V>>
         requires { IsDistinct K.eq (keys_of (all_entries self.now)) }
         ensures { option_copied result ≡ held_for K.eq key self.now }

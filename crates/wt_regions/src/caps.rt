@@ -11,8 +11,8 @@ use wt_keys::Field;
 /// The limits of the three regions. Durations are in milliseconds; `None` for none.
 #[derive(Clone, Copy, Debug, PartialEq, Eq)]
 pub struct Caps {
-    /// How many entries all regions may hold: 1 to 65,536. For example, 10,000 pages of 2 KB take
-    /// about 20 MB.
+    /// How many entries all regions may hold: 1 to 65,536. For example, with 10,000 pages of 2 KB
+    /// the values take 20 MB.
     pub entries: u32,
     /// How many of them window may hold: 1 to `entries`. With 100 of 10,000, main may hold 9,900,
     /// and protected 7,920 of these.

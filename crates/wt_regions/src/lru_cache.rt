@@ -75,8 +75,7 @@ pub(crate) fn push_past<K: CacheKey, V: Drop>(
     }
 }
 
-// What is held for the key. An empty cache isn't looked into: main is empty where window may hold
-// all entries.
+// The key's entry. An empty cache isn't searched: main is empty if window may hold all entries.
 pub(crate) fn held_in<K: CacheKey, V>(cache: &LruCache<K, Held<V>>, key: K) -> Option<&Held<V>>
     ensures { option_copied result ≡ lookup (K.eq key) cache.now.entries }
 {
@@ -86,7 +85,7 @@ pub(crate) fn held_in<K: CacheKey, V>(cache: &LruCache<K, Held<V>>, key: K) -> O
     cache.peek(&key)
 }
 
-// Brings the entry of the key to the front, used now, and answers whether there is one.
+// Brings the entry of the key to the front, used now, and returns whether there is one.
 pub(crate) fn freshen<K: CacheKey, V>(cache: &mut LruCache<K, Held<V>>, key: K, now: u64) -> bool
     ensures answer { result ≡ is_some (lookup (K.eq key) cache.old.entries) }
     ensures state { cache.new ≡ fronted K.eq key (used now) cache.old }
@@ -125,7 +124,7 @@ pub(crate) fn use_in<K: CacheKey, V: Share>(
     }
 }
 
-// Brings the entry of the key to the front with other contents, and answers the old ones. Takes no
+// Brings the entry of the key to the front with other contents, and returns the old ones. Takes no
 // memory.
 pub(crate) fn replace_in<K: CacheKey, V: Drop>(
     cache: &mut LruCache<K, Held<V>>,

@@ -1,4 +1,5 @@
-// Why an entry left, and the list of notices, whose room is made before the steps that tell.
+// The list of entries that left, each with its cause. Its memory is taken before the steps that
+// fill it.
 ghost use Rattle.std.specs.Prelude.{◌≡◌, ◌<◌, ◌∷◌, [], IfOk, IsSome, length, nat_le};
 ghost use Rattle.std.specs.Option.{option_map_or};
 ghost use Rattle.wt_regions.specs.Lists.{is_eviction};
@@ -43,7 +44,7 @@ pub struct Notice<K, V> {
     pub cause: Cause,
 }
 
-/// The entries that left, in order, with room for more that was made beforehand.
+/// The entries that left, in order, with room for more that was taken beforehand.
 ///
 /// A call that appends notices requires room for as many as the regions may hold entries, and never
 /// appends more: so it takes no memory for them. Contracts see the list and the room that is left.
@@ -68,7 +69,7 @@ impl<K, V> Model for Notices<K, V> {
 impl<K, V> Notices<K, V> {
     /// Makes an empty list with room for `room` notices.
     ///
-    /// `NoMemory` if that room can't be made. O(1) beside the allocation.
+    /// `NoMemory` if there is no memory for that room. O(1) beside the allocation.
     pub fn new(alloc: Global, room: usize) -> Result<Self, NoMemory>
         ensures { IfOk result (λ notices. notices ≡ no_notices room) }
     {
@@ -108,7 +109,7 @@ impl<K: Drop, V: Drop> Notices<K, V> {
     }
 }
 
-// Tells of the entry that left, if there is one, and answers its weight.
+// Appends a notice of the entry that left, if there is one, and returns its weight.
 pub(crate) fn tell_left<K: CacheKey, V: Drop>(
     notices: &mut Notices<K, V>,
     left: Option<(K, Held<V>)>,
@@ -132,7 +133,7 @@ pub(crate) fn tell_left<K: CacheKey, V: Drop>(
     }
 }
 
-// Tells of what was held for the key, if anything was, and answers its weight.
+// Appends a notice of the key's entry, if there was one, and returns its weight.
 pub(crate) fn tell_held<K: CacheKey, V: Drop>(
     notices: &mut Notices<K, V>,
     key: K,

@@ -1,4 +1,4 @@
-// A value that is stored, before the weight is trimmed. By where the key's own entry is:
+// Stores a value, before the weight is trimmed. The place of the key's own entry decides:
 //
 //   nowhere                      it settles as a new one
 //   window                       it takes the entry's place at the front, expired or not
@@ -6,8 +6,8 @@
 //   protected, unexpired         it takes the entry's place at the front
 //   below window, expired        the entry leaves, and it settles as a new one
 //
-// In the last case the old entry is taken out last of all, since what left a cache can't be put
-// back where it was after a refusal.
+// In the last case the old entry leaves after all that can fail: after a refusal nothing could put
+// it back where it was.
 ghost use Rattle.std.specs.Prelude.{◌≡◌, ◌+◌, ◌≤◌, ◌++◌, None, IfOk, OnOk, OnErr, IsSome};
 ghost use Rattle.std.specs.Map.{lookup};
 ghost use Rattle.wt_regions.specs.Lists.{weight_of};
@@ -23,7 +23,7 @@ use wt_keys::{CacheKey, NoMemory, Share};
 use wt_sketch::Sketch;
 
 impl<K: CacheKey, V: Share + Weighs> Caches<K, V> {
-    // Takes what is held for the key out of probation or protected.
+    // Takes the key's entry out of probation or protected.
     pub(crate) fn take_below(&mut self, key: K) -> Option<Held<V>>
         ensures held { result ≡ lookup (K.eq key) (self.old.probation ++ self.old.protected) }
         ensures state { self.new ≡ without_below K.eq key self.old }

@@ -1,4 +1,4 @@
-// The three regions and their running weight, with what callers see of them.
+// The three regions and their weight, with the calls that change them.
 ghost use Rattle.std.specs.Prelude.{◌≡◌, ◌≤◌, false, None, IfOk, IfErr, OnOk, OnErr, IsOk, IsTrue};
 ghost use Rattle.std.specs.List.Sorted.{IsPermutation};
 ghost use Rattle.std.specs.Map.{lookup};
@@ -26,16 +26,17 @@ use wt_sketch::Sketch;
 /// The entries of a cache in three regions: window, probation and protected.
 ///
 /// The structure is W-TinyLFU's. A new entry comes to window, under LRU and without admission. Once
-/// main is full, what window gives up enters probation only against its last entry, by how often
-/// each was counted. An entry that is used in probation comes to protected. This type decides which
-/// entry stays, and never counts a use: the caller passes its sketch in.
+/// main is full, an entry that window gives up enters probation only if it was counted more often
+/// than probation's last entry, or if that one has expired. An entry that is used in probation
+/// comes to protected. This type decides which entry stays, and never counts a use: the caller
+/// passes its sketch in.
 ///
 /// Contracts see three lists, the most recent entry first, and the limits. Moments are the
 /// caller's, in milliseconds; no call keeps one but in the entry that it writes or uses.
 #[derive(Drop)]
 pub struct Regions<K: CacheKey, V: Share + Weighs> {
     caches: Caches<K, V>,
-    // What all entries weigh together; at most the bound between calls.
+    // The weight of all entries together; at most the bound between calls.
     weight: u64,
 }
 
@@ -59,7 +60,7 @@ impl<K: CacheKey, V: Share + Weighs> Regions<K, V> {
     /// its own place later. O(entries).
     pub fn new(alloc: Global, caps: &Caps) -> Result<Self, Fault>
         ensures ok { IfOk result (λ regions. regions ≡ no_entries caps.now) }
-        // What the limits refuse is refused whatever the memory does.
+        // The refusals of the limits don't depend on memory.
         ensures refusal { FailsByField (caps_fault caps.now) result }
     {
         if let Some(field) = caps.fault() {
@@ -93,7 +94,7 @@ impl<K: CacheKey, V: Share + Weighs> Regions<K, V> {
     ///
     /// It takes the place of an unexpired entry of the key, which leaves as `Replaced`. An expired
     /// one leaves first, as `Expired`, and the value settles as a new entry. Then entries leave as
-    /// `Size` while the weights are above the bound, never the one just stored. Notices are told in
+    /// `Size` while the weights are above the bound, never the one just stored. The notices have
     /// this order.
     ///
     /// `now` is in milliseconds, weights are the caller's. `TooHeavy` comes before memory is asked
@@ -170,8 +171,9 @@ impl<K: CacheKey, V: Share + Weighs> Regions<K, V> {
         }
     }
 
-    /// Moves the border between window and main by one entry, and returns whether it moved: it
-    /// doesn't if `wider` and window may hold all entries, or if not `wider` and it may hold one.
+    /// Moves the border between window and main by one entry, and returns whether it moved. A
+    /// window that may hold all entries can't become wider, nor one that may hold one entry
+    /// narrower.
     ///
     /// Window may then hold one entry more, or one less; main the rest, and protected four fifths
     /// of that. No entry leaves. The last of a region that has one too many goes to the front of

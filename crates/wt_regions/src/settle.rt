@@ -8,7 +8,7 @@
 //             is expired, or was counted less often ──► leaves; the candidate: probation's front
 //             was counted as often, or more often ────► stays; the candidate leaves
 //
-// A read-only function decides first, and a mover goes by what it answers.
+// A read-only function decides first, and another one moves the entries by its decision.
 ghost use Rattle.std.specs.Prelude.{◌≡◌, ◌+◌, ◌<◌, None, IfOk, OnOk, OnErr};
 ghost use Rattle.wt_sketch.specs.Sketch.{estimate_of};
 ghost use Rattle.wt_regions.specs.Lists.{held_for, weight_of};
@@ -24,7 +24,7 @@ use crate::weighs::Weighs;
 use wt_keys::{CacheKey, NoMemory, Share, places};
 use wt_sketch::Sketch;
 
-/// What becomes of the candidate, the entry that window gives up.
+/// The fate of the candidate, the entry that window gives up.
 #[derive(Clone, Copy, Debug, PartialEq, Eq)]
 pub enum Fate {
     /// It leaves.
@@ -43,7 +43,7 @@ fn estimate_for<K: CacheKey>(sketch: &Sketch, key: &K) -> u8
 }
 
 impl<K: CacheKey, V: Share + Weighs> Caches<K, V> {
-    // What becomes of the candidate, the entry that window gives up.
+    // Decides the fate of the candidate, the entry that window gives up.
     fn fate_of(&self, key: K, held: &Held<V>, sketch: &Sketch, now: u64) -> Fate
         ensures { result ≡ fate (estimates sketch.now K.word) now self.now.caps (key, held.now)
             self.now.probation self.now.protected }
@@ -72,8 +72,8 @@ impl<K: CacheKey, V: Share + Weighs> Caches<K, V> {
         }
     }
 
-    // The entry comes to the front of a full window, whose last goes to probation's front. A push
-    // that was made is undone by a pop if the other is refused.
+    // Brings the entry to the front of a full window, whose last goes to probation's front. If the
+    // second push fails, a pop undoes the first one.
     pub(crate) fn pass_on(&mut self, key: K, held: Held<V>) -> Result<(), NoMemory>
         requires full { HasFullWindow K.eq V.weight key self.old }
         ensures state { OnOk result (self.new ≡ passed_on (key, held) self.old) }
@@ -91,8 +91,8 @@ impl<K: CacheKey, V: Share + Weighs> Caches<K, V> {
         Ok(())
     }
 
-    // A new entry comes to the front of a full window, which gives up its last: that goes where its
-    // fate says. Answers the weight that left.
+    // Brings a new entry to the front of a full window, whose last entry goes where its fate
+    // decides. Returns the weight that left.
     fn settle_full(
         &mut self,
         key: K,

@@ -18,7 +18,7 @@ use crate::lru_cache::{freshen, held_in, push_new, push_past, replace_in, use_in
 use crate::weighs::Weighs;
 use wt_keys::{CacheKey, NoMemory, Share};
 
-/// What a look-up finds.
+/// The result of a look-up.
 #[derive(Drop)]
 pub enum Found<V> {
     /// An unexpired entry, with a share of its value.
@@ -29,8 +29,8 @@ pub enum Found<V> {
     Expired,
 }
 
-// Where a look finds the key's entry: a share of its value and, in probation, what protected is to
-// hold.
+// The place where a look finds the key's entry, with a share of its value. In probation also a
+// second share, for protected.
 #[derive(Drop)]
 pub(crate) enum Seen<V> {
     InWindow(V),
@@ -130,10 +130,11 @@ impl<K: CacheKey, V: Share + Weighs> Caches<K, V> {
         Ok(Found::Absent)
     }
 
-    // Brings the key's entry from probation to protected's front, with other contents, and answers
-    // the old ones. Where protected is then past its cap, its last goes back to probation's front.
+    // Brings the key's entry from probation to protected's front, with other contents, and returns
+    // the old ones. If protected is then past its cap, its last entry goes back to probation's
+    // front.
     //
-    // The pushes come first; one that was made is undone by a pop if the other is refused.
+    // The pushes come first. If the second one fails, a pop undoes the first one.
     pub(crate) fn promote(&mut self, key: K, moved: Held<V>) -> Result<Option<Held<V>>, NoMemory>
         requires placed { IsPlaced K.eq V.weight self.old }
         requires elsewhere { lookup (K.eq key) self.old.window ≡ None }

@@ -23,7 +23,7 @@ fn holds_other<K: CacheKey, V>(cache: &LruCache<K, Held<V>>, key: K) -> bool
     cache.len() > own
 }
 
-// Takes the last entry out, and answers its weight.
+// Takes the last entry out, and returns its weight.
 fn take_last<K: CacheKey, V: Drop>(
     cache: &mut LruCache<K, Held<V>>,
     notices: &mut Notices<K, V>,

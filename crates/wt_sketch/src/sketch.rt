@@ -22,13 +22,13 @@ use std::alloc::Global;
 use std::marker::Model;
 use wt_keys::{Fault, Field, bits_for, places};
 
-/// How often each key was counted, about, with more weight on what is recent.
+/// An estimate of how often each key was counted, in which recent counts weigh more.
 ///
 /// A count-min sketch with the reset of TinyLFU. Contracts see it as four lists of counters from 0
 /// to 15 and the number of additions; no clause sees how the counters are kept.
 #[derive(Drop)]
 pub struct Sketch {
-    // For how many entries it was made; never changes.
+    // The entries of its cache; never changes.
     entries: u32,
     // Each row has 2^bits counters; never changes.
     bits: u32,
@@ -101,7 +101,7 @@ impl Sketch {
 
     /// Returns how many counts raised a counter, halved whenever the counters are. O(1).
     ///
-    /// Its clause `lawful` shows what is true of every sketch: the widths, and that no counter is
+    /// Its clause `lawful` is true of every sketch: it shows the widths, and that no counter is
     /// above 15.
     pub fn additions(&self) -> u32
         ensures value { result ≡ self.now.additions }
@@ -128,7 +128,7 @@ impl Sketch {
     /// Returns how often a key was counted, about: the least of the counters at its four places.
     ///
     /// Takes no memory. O(1). It may be above the key's own count, by the counts of keys that share
-    /// a place in each row; [`Sketch::count_all`] says that it isn't below it.
+    /// a place in each row. [`Sketch::count_all`] promises that it isn't below it.
     pub fn estimate(&self, places: &[usize; 4]) -> u8
         requires within { All (λ p. p < 2 ^ bits_for self.now.entries) places.now }
         ensures value { result ≡ estimate places.now self.now }
@@ -170,9 +170,10 @@ impl Sketch {
 
     /// Counts each word once, in order, at the word's own places.
     ///
-    /// On a sketch that had counted nothing, no word's estimate is then below the number that a
-    /// counter of its own would show: raised to at most 15 at each of its counts, and halved when
-    /// the sketch halves. Never fails and takes no memory. O(words), and O(width) at each halving.
+    /// On a sketch that had counted nothing, no word's estimate is then below the number in a
+    /// counter of the word's own. Such a counter rises by 1 at each of its counts up to 15, and is
+    /// halved when the sketch is. Never fails and takes no memory. O(words), and O(width) at each
+    /// halving.
     pub fn count_all(&mut self, words: &[u64])
         ensures counted { self.new ≡ counted_words self.old words.now }
         ensures same { self.new.entries ≡ self.old.entries }

@@ -14,9 +14,9 @@ impl<K: CacheKey, V: Share + Weighs> Core<K, V> {
     /// Stores the value under the key, in place of one that is there. The key's current load is no
     /// longer joined, and its value not stored.
     ///
-    /// `now` is in milliseconds. The old value leaves as `Replaced`, or as `Expired` if it is; an
-    /// entry that finds no place, or has to go because the weights are above the bound, leaves as
-    /// `Size`. The key is counted last. `TooHeavy` comes before `StepsSpent`, and both before
+    /// `now` is in milliseconds. The old value leaves as `Replaced`, or as `Expired` if it is. An
+    /// entry that finds no place leaves as `Size`, and so do entries while the weights are above
+    /// the bound. The key is counted last. `TooHeavy` comes before `StepsSpent`, and both before
     /// memory is asked for; the refused value is dropped. Expected O(1), unless an attacker chooses
     /// the keys (see `Seeded`); O(entries) if many leave.
     ///

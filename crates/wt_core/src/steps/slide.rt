@@ -15,8 +15,9 @@ use wt_regions::Weighs;
 impl<K: CacheKey, V: Share + Weighs> Core<K, V> {
     ghost use Rattle.wt_core.specs.Contract.{Steps, RepliesBy, Refuses};
 
-    /// Moves the border between window and main by one entry, and returns whether it moved: it
-    /// doesn't if `wider` and window may hold all entries, or if not `wider` and it may hold one.
+    /// Moves the border between window and main by one entry, and returns whether it moved. A
+    /// window that may hold all entries can't become wider, nor one that may hold one entry
+    /// narrower.
     ///
     /// No entry leaves, so it has no notices. `now` is in milliseconds. `StepsSpent` comes before
     /// memory is asked for. Takes memory for at most two shares with a place for each, and for the

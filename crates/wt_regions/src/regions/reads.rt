@@ -27,9 +27,9 @@ impl<K: CacheKey, V: Share + Weighs> Regions<K, V> {
 
     /// Returns whether an unexpired entry of the key is there that is due for a further load.
     ///
-    /// Due is what was written at least `refresh` milliseconds ago; the rule is Guava's refresh
-    /// after write. `now` is in milliseconds. Takes no memory. Expected O(1), unless an attacker
-    /// chooses the keys (see `Seeded`).
+    /// An entry is due once it was written at least `refresh` milliseconds ago; the rule is Guava's
+    /// refresh after write. `now` is in milliseconds. Takes no memory. Expected O(1), unless an
+    /// attacker chooses the keys (see `Seeded`).
     pub fn due(&self, key: K, now: u64) -> bool
         ensures { result ≡ due_at K.eq key now self.now }
     {
@@ -59,7 +59,7 @@ impl<K: CacheKey, V: Share + Weighs> Regions<K, V> {
         self.caches.caps.entries
     }
 
-    /// Returns what all entries weigh together, the expired ones among them: at most the bound.
+    /// Returns the weight of all entries together, the expired ones included: at most the bound.
     ///
     /// Takes no memory. O(1).
     pub fn weight(&self) -> u64
