@@ -28,7 +28,7 @@ use wt_sketch::Sketch;
 const LEAST_ENTRIES: u32 = 512;
 // So that a small cache has at most as many entries as a cache may have.
 const MOST_ENTRIES: u32 = 64 * 65_536;
-// A small cache has one in so many entries, and looks one in so many keys up.
+// A small cache has one entry for 64 of the cache, and looks up one key of 64.
 const SMALLER: u32 = 64;
 // Ours, as the factors of the hash rows: a sample has to be independent of them and of the shards.
 const SAMPLE: u64 = 0xA076_1D64_78BD_642F;

@@ -4,7 +4,7 @@ ghost use Rattle.wt_adviser.specs.Tally.{IsBelow, better, choice, count_of, coun
 
 use crate::share::Share;
 
-// What a hit and a look-up count: so much that rounding matters little when counts fade.
+// A hit counts 65,536, and so does a look-up: rounding then matters little when counts fade.
 const HIT: u64 = 1 << 16;
 
 /// The hits of the small caches, and the choice among their windows.
