@@ -56,6 +56,8 @@ pub enum Field {
     Workers,
     /// How many loads may wait in the line.
     Line,
+    /// Whether the window follows the stream.
+    Adaptive,
 }
 
 impl Field {
@@ -81,6 +83,7 @@ impl Field {
             Field::Turn => "turn",
             Field::Workers => "workers",
             Field::Line => "line",
+            Field::Adaptive => "adaptive",
         }
     }
 }
