@@ -5,11 +5,15 @@
 //         ──► flights    the loads that are open
 //
 // Each of the nine steps (`steps/`) is a function of the whole state.
-ghost use Rattle.std.specs.Prelude.{◌≡◌, ◌==◌, [], IfOk, IsOk, length};
+ghost use Rattle.std.specs.Prelude.{◌≡◌, ◌==◌, [], false, max, IfErr, IfOk, IsOk, IsTrue, length};
 ghost use Rattle.std.specs.Map.{keys_of};
 ghost use Rattle.std.specs.Option.{option_map};
 ghost use Rattle.wt_regions.specs.Lawful.{FailsByField};
-ghost use Rattle.wt_regions.specs.Lists.{all_entries, region_of, weight_of};
+ghost use Rattle.wt_keys.specs.declared.fault.Fault.TheVariants as fault;
+ghost use Rattle.wt_regions.specs.Lists.{all_entries, has_at, region_of, weight_of};
+ghost use Rattle.wt_core.specs.Contract.{RepliesBy};
+ghost use Rattle.wt_core.specs.Peeks.{look_reply};
+ghost use Rattle.wt_core.specs.declared.calls.Call.TheVariants.{Look};
 ghost use Rattle.wt_flights.specs.Rows.{row, row_of, first_of};
 
 use crate::config::Config;
@@ -153,6 +157,25 @@ impl<K: CacheKey, V: Share + Weighs> Core<K, V> {
         self.latest
     }
 
+    /// Returns a share of the value that a look of the key would hit at `now`, if it would hit. Is
+    /// no step, and uses no entry.
+    ///
+    /// `now` is in milliseconds. Takes memory for that share alone, and none if a share is a copy.
+    /// Expected O(1), unless an attacker chooses the keys (see `Seeded`).
+    pub fn peek(&self, key: K, now: u64) -> Result<Option<V>, Fault>
+        ensures answer { RepliesBy K.eq K.word V.weight look_reply (Look key now) self.now result }
+        ensures memory { IfErr result (λ f. f ≡ fault.NoMemory) }
+        ensures miss_succeeds { has_at K.eq key (max self.now.latest now) self.now.regions ≡ false
+            → IsOk result }
+        ensures copied_succeeds { IsTrue V.Share.is_copied → IsOk result }
+    {
+        let now = self.latest.max(now);
+        match self.regions.peek(key, now) {
+            Ok(found) => Ok(found),
+            Err(NoMemory) => Err(Fault::NoMemory),
+        }
+    }
+
     /// Returns how many entries are held, the expired ones among them. Takes no memory. O(1).
     pub fn len(&self) -> usize
         ensures { result ≡ length (all_entries self.now.regions) }
@@ -167,6 +190,16 @@ impl<K: CacheKey, V: Share + Weighs> Core<K, V> {
         ensures { result ≡ self.now.regions.caps.entries }
     {
         self.regions.entries()
+    }
+
+    /// Returns how many entries window may hold now: as many as the configuration has, unless slides
+    /// moved its border. Takes no memory. O(1).
+    ///
+    /// In use: `uses::plain::slide`.
+    pub fn window(&self) -> u32
+        ensures { result ≡ self.now.regions.caps.window }
+    {
+        self.regions.window()
     }
 
     /// Returns whether no entry is held. Takes no memory. O(1).

@@ -6,3 +6,4 @@ pub mod Notices
 pub mod Lawful
 pub mod Moves
 pub mod Slide
+pub mod Peeks

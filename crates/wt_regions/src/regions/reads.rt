@@ -1,8 +1,9 @@
 // Calls that only read the regions.
-ghost use Rattle.std.specs.Prelude.{◌≡◌, [], length, IfOk, IsOk};
+ghost use Rattle.std.specs.Prelude.{◌≡◌, [], length, false, IfOk, IsOk, IsTrue};
 ghost use Rattle.std.specs.Map.{keys_of};
 ghost use Rattle.wt_regions.specs.Lawful.{IsLawful};
-ghost use Rattle.wt_regions.specs.Lists.{all_entries, due_at, has_at, region_of, weight_of};
+ghost use Rattle.wt_regions.specs.Lists.{all_entries, due_at, found_at, has_at, region_of, weight_of};
+ghost use Rattle.wt_regions.specs.Peeks.{value_of};
 
 use super::Regions;
 use crate::caches::Region;
@@ -23,6 +24,26 @@ impl<K: CacheKey, V: Share + Weighs> Regions<K, V> {
             Some(held) => !caps.is_expired(now, held),
             None => false,
         }
+    }
+
+    /// Returns a share of the value of the key's unexpired entry, if there is one. The entry isn't
+    /// used by that.
+    ///
+    /// `now` is in milliseconds. Takes memory for that share alone, and none if a share is a copy.
+    /// Expected O(1), unless an attacker chooses the keys (see `Seeded`).
+    pub fn peek(&self, key: K, now: u64) -> Result<Option<V>, NoMemory>
+        ensures found { IfOk result (λ value. value ≡ value_of (found_at K.eq key now self.now)) }
+        ensures miss_succeeds { has_at K.eq key now self.now ≡ false → IsOk result }
+        ensures copied_succeeds { IsTrue V.Share.is_copied → IsOk result }
+    {
+        let caps = self.caches.caps;
+        let Some(held) = self.caches.find(key) else {
+            return Ok(None);
+        };
+        if caps.is_expired(now, held) {
+            return Ok(None);
+        }
+        Ok(Some(held.value.share()?))
     }
 
     /// Returns whether an unexpired entry of the key is there that is due for a further load.
@@ -57,6 +78,13 @@ impl<K: CacheKey, V: Share + Weighs> Regions<K, V> {
         ensures { result ≡ self.now.caps.entries }
     {
         self.caches.caps.entries
+    }
+
+    /// Returns how many entries window may hold now. Takes no memory. O(1).
+    pub fn window(&self) -> u32
+        ensures { result ≡ self.now.caps.window }
+    {
+        self.caches.caps.window
     }
 
     /// Returns the weight of all entries together, the expired ones included: at most the bound.
