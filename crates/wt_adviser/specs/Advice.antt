@@ -1,11 +1,10 @@
 -- The advice on a window, as a function of the keys that were looked up.
-use Rattle.std.specs.Prelude.{◌≡◌, ℕ, ◌+◌, ◌-◌, ◌*◌, ◌/◌, ◌^◌, ◌<◌, ◌≤◌, max, min, nat_lt, ◌&&◌, Bool, true, if◌then◌else◌, List}
+use Rattle.std.specs.Prelude.{◌≡◌, ℕ, ◌+◌, ◌-◌, ◌*◌, ◌/◌, ◌^◌, ◌<◌, ◌≤◌, max, min, nat_lt, ◌&&◌, Bool, true, if◌then◌else◌, List, [], ◌∷◌}
 use Rattle.std.specs.List.{fold}
 use Rattle.wt_keys.specs.Hash.{mixed}
 use Rattle.wt_sketch.specs.Sketch.{Counters, counted_word, nothing_counted as no_key_counted}
 use Rattle.wt_regions.specs.Lists.{Lists, has_at, no_entries}
 use Rattle.wt_adviser.specs.declared.mark.Mark.{Mark}
-use Rattle.wt_adviser.specs.declared.share.Share.{Share}
 use Rattle.wt_adviser.specs.declared.share.Share.TheVariants.{Hundredth, Tenth, TwoFifths, Whole}
 use Rattle.wt_adviser.specs.declared.adviser.Seen.{Seen}
 use Rattle.wt_adviser.specs.declared.tally.Tally.{Tally}
@@ -99,9 +98,18 @@ module _ {K : Type 0} where
     abbrev pub saw : K → Advice K → Advice K
     saw k a = saw_by all_seen k a
 
+    -- after look-ups of these keys
+    abbrev pub shown : List K → Advice K → Advice K
+    shown keys a = fold (λ a k. saw k a) a keys
+
+    -- look-ups of these keys may lead from one to the other: some small caches have perhaps not seen some of them
+    abbrev pub IsShown : List K → Advice K → Advice K → Type 0
+    IsShown [] a b = b ≡ a
+    IsShown (k ∷ ks) a b = (seen : Seen) × IsShown ks (saw_by seen k a) b
+
     -- the window that is advised after look-ups of these keys
     abbrev pub wanted_after : ℕ → List K → ℕ
-    wanted_after entries keys = wanted (fold (λ a k. saw k a) (opening entries) keys)
+    wanted_after entries keys = wanted (shown keys (opening entries))
 
 -- what holds of an adviser at all times: `below` is its limit for a key's product, `room` is for notices
 pub record IsAdvising {K : Type 0} (a : Advice K) (below room : ℕ) : Type 0 where

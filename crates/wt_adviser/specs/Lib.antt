@@ -1,3 +1,4 @@
 pub mod Small
 pub mod Tally
 pub mod Advice
+pub mod Follow

@@ -7,12 +7,12 @@
 //
 // The small caches obey the rules of the whole one. They share one sketch, since it counts keys and
 // not hits.
-ghost use Rattle.std.specs.Prelude.{◌≡◌, ◌≤◌, IfOk, IfErr, OnOk, OnErr, nat_le, ◌&&◌, if◌then◌else◌};
+ghost use Rattle.std.specs.Prelude.{◌≡◌, ◌≤◌, IfOk, IfErr, IsOk, OnOk, OnErr, nat_le, ◌&&◌, if◌then◌else◌, true};
 ghost use Rattle.wt_keys.specs.Hash.{mixed};
 ghost use Rattle.wt_keys.specs.declared.fault.Fault.TheVariants as fault;
 ghost use Rattle.wt_keys.specs.declared.fault.Field.TheVariants.{Entries};
 ghost use Rattle.wt_adviser.specs.declared.adviser.Seen.{Seen};
-ghost use Rattle.wt_adviser.specs.Advice.{opening, passed_on, small_entries, sampled_by, saw, saw_by, wanted, wanted_after};
+ghost use Rattle.wt_adviser.specs.Advice.{all_seen, opening, passed_on, small_entries, IsShown, sampled_by, saw, saw_by, shown, wanted, wanted_after};
 
 use crate::mark::Mark;
 use crate::share::Share;
@@ -53,6 +53,13 @@ impl Seen {
         two_fifths: true,
         whole: true,
     };
+
+    // Whether all four have seen it.
+    pub(crate) fn is_whole(self) -> bool
+        ensures { result ≡ true → self ≡ all_seen }
+    {
+        self == Seen::ALL
+    }
 }
 
 /// Advises how many entries the window of a cache should hold, from the keys that are looked up.
@@ -118,6 +125,7 @@ impl<K: CacheKey> Adviser<K> {
     /// O(entries).
     pub fn new(alloc: Global, entries: u32) -> Result<Adviser<K>, Fault>
         ensures ok { IfOk result (λ adviser. adviser ≡ opening entries) }
+        ensures within { IsOk result → (nat_le 512 entries && nat_le entries 4194304) ≡ true }
         ensures refusal { IfErr result (λ f. f ≡ (if nat_le 512 entries && nat_le entries 4194304
             then fault.NoMemory else fault.BadConfig Entries)) }
     {
@@ -168,15 +176,35 @@ impl<K: CacheKey> Adviser<K> {
             × (self.new ≡ saw_by K.eq K.word seen key self.old)) }
     {
         let seen = self.saw_by(key);
-        if seen == Seen::ALL {
+        if seen.is_whole() {
             Ok(())
         } else {
             Err(NoMemory)
         }
     }
 
+    /// Takes note of look-ups of these keys, in their order.
+    ///
+    /// `NoMemory` if a small cache was refused memory for one of them, as [`saw`](Adviser::saw) has
+    /// it; those behind it are seen all the same. Expected O(keys), and O(entries / 64) more if the
+    /// sketch halves.
+    pub fn saw_all(&mut self, keys: &[K]) -> Result<(), NoMemory>
+        ensures state { OnOk result (self.new ≡ shown K.eq K.word keys.now self.old) }
+        // Whatever was refused.
+        ensures part { IsShown K.eq K.word keys.now self.old self.new }
+    {
+        let mut outcome = Ok(());
+        for key in keys {
+            let seen = self.saw_by(*key);
+            if !seen.is_whole() {
+                outcome = Err(NoMemory);
+            }
+        }
+        outcome
+    }
+
     // Takes note of a look-up of the key, and returns which small caches have seen it.
-    fn saw_by(&mut self, key: K) -> Seen
+    pub(crate) fn saw_by(&mut self, key: K) -> Seen
         ensures { self.new ≡ saw_by K.eq K.word result key self.old }
     {
         if product(key.word()) < self.below {
@@ -226,8 +254,6 @@ pub fn window_after<K: CacheKey>(alloc: Global, entries: u32, keys: &[K]) -> Res
     ensures { IfOk result (λ window. window ≡ wanted_after K.eq K.word entries keys.now) }
 {
     let mut adviser = Adviser::new(alloc, entries)?;
-    for key in keys {
-        adviser.saw(*key)?;
-    }
+    adviser.saw_all(keys)?;
     Ok(adviser.wanted())
 }

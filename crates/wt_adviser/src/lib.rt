@@ -3,12 +3,14 @@
 #![tactic(auto)]
 
 mod adviser;
+mod following;
 mod mark;
 mod share;
 mod small;
 mod tally;
 
 pub use adviser::{Adviser, Seen, window_after};
+pub use following::follow;
 pub use mark::Mark;
 pub use share::Share;
 pub use tally::Tally;

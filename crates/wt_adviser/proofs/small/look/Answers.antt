@@ -1,4 +1,4 @@
-use Rattle.std.proofs.Common.{arith, rules, ◌≡◌, ◌≤◌, ◌+◌, false, length, sym, ap, ◌∙◌}
+use Rattle.std.proofs.Common.{arith, ◌≡◌, ◌≤◌, ◌+◌, false, length, sym, ap, ◌∙◌}
 use Rattle.wt_regions.specs.declared.touch.Found.{Found}
 use Rattle.wt_regions.specs.Lists.{Lists, is_hit}
 use Rattle.wt_regions.specs.Moves.{storing}
