@@ -32,9 +32,9 @@ pub use closed::Closed;
 pub use done::Done;
 pub use explained::Explained;
 pub use laws::{
-    loads_land_once, one_load_is_current, outline_of_step, own_put_is_read,
-    served_values_are_young, served_values_were_brought, sharers_are_counted,
-    stale_loads_are_not_stored,
+    found_values_are_young, loads_land_once, one_load_is_current, outline_of_step,
+    own_put_is_found, own_put_is_read, served_values_are_young, served_values_were_brought,
+    sharers_are_counted, stale_loads_are_not_stored,
 };
 pub use names::{Hits, Names, Of, Steps};
 pub use pass::Pass;

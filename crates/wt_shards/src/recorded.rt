@@ -8,6 +8,7 @@ ghost use Rattle.wt_keys.specs.declared.fault.Fault.TheVariants as fault;
 ghost use Rattle.wt_core.specs.declared.calls.Call.TheVariants as call;
 ghost use Rattle.wt_shards.specs.Asked.{AnswersAsked, MayAsk, ReplyAnswers, is_seek};
 ghost use Rattle.wt_shards.specs.Contract.{IsLockedCall};
+ghost use Rattle.wt_shards.specs.Peeks.{FoundAnswers, IsLockedPeek};
 ghost use Rattle.wt_shards.specs.History.{state_after};
 ghost use Rattle.wt_shards.specs.Members.{members_by};
 ghost use Rattle.wt_shards.specs.Outer.{IsOfKey};
@@ -125,6 +126,33 @@ impl<K: CacheKey, V: Share + Weighs + Answers<K>, S: ShardLedger, H: Ledger> Rec
             }
             Err(fault) => {
                 self.history.show(rt, &mut mine.front, asked, step);
+                return Err(fault);
+            }
+        }
+    }
+
+    // A share of the value that a look of the key would hit, if it would hit. Is no step, and shows
+    // the caller the whole history.
+    #[inline(always)]
+    pub(crate) fn peek<R: Wait>(
+        &self,
+        rt: &R,
+        mine: &mut Mine<K, V, S, H>,
+        key: K,
+        now: u64,
+    ) -> Result<Option<V>, Fault>
+        ensures made { IsLockedPeek (members_by K.eq K.word V.weight V.answers) S.ShardLedger.place
+            key now mine.old mine.new result }
+        ensures answers { IfOk result (FoundAnswers V.answers key) }
+    {
+        let step = self.shard.steps();
+        match self.shard.peek(key, now) {
+            Ok(found) => {
+                let asked = self.history.ask(&Call::Look(key, now));
+                self.history.show(rt, &mut mine.front, asked, step);
+                return Ok(found);
+            }
+            Err(fault) => {
                 return Err(fault);
             }
         }

@@ -9,10 +9,14 @@
 // A step (`shard/stepping.rt`) first decides whether it is refused. Then it moves the oldest
 // records over to the lagging copy, as few as it can. Then it makes the cache's step and records
 // it. So every allocation comes before the cache changes.
-ghost use Rattle.std.specs.Prelude.{◌≡◌, ◌+◌, ◌<◌, ◌≤◌, ◌==◌, None, Some, IsOk, IfOk, OnOk, OnErr, IsOkUnless, MatchOption, Ok, Err, length, if◌then◌else◌};
+ghost use Rattle.std.specs.Prelude.{◌≡◌, ◌+◌, ◌<◌, ◌≤◌, ◌==◌, None, Some, IsOk, IfOk, IfErr, OnOk, OnErr, IsOkUnless, MatchOption, Ok, Err, length, if◌then◌else◌};
 ghost use Rattle.wt_keys.specs.declared.fault.Fault.TheVariants as fault;
 ghost use Rattle.wt_core.specs.State.{config_fault, stats_of};
 ghost use Rattle.wt_core.specs.Lawful.{AreSmall};
+ghost use Rattle.wt_core.specs.Contract.{RepliesBy};
+ghost use Rattle.wt_core.specs.Peeks.{look_reply};
+ghost use Rattle.wt_core.specs.declared.calls.Call.TheVariants.{Look};
+ghost use Rattle.wt_shards.specs.Peeks.{FoundAnswers};
 ghost use Rattle.wt_shards.specs.Members.{members_by};
 ghost use Rattle.wt_shards.specs.StateAt.{IsStateAt};
 ghost use Rattle.wt_shards.specs.Totals.{total_of};
@@ -183,6 +187,24 @@ impl<K: CacheKey, V: Share + Weighs + Answers<K>, S: ShardLedger, H: Ledger> Sha
             self.now.core }
     {
         self.core.step()
+    }
+
+    /// Returns a share of the value that a look of the key would hit at `now`, if it would hit. Is
+    /// no step, and uses no entry.
+    ///
+    /// `now` is in milliseconds. Takes memory for that share alone, and none if a share is a copy.
+    /// Expected O(1), unless an attacker chooses the keys (see `Seeded`).
+    #[inline(always)]
+    pub fn peek(&self, key: K, now: u64) -> Result<Option<V>, Fault>
+        ensures answer { RepliesBy K.eq K.word V.weight look_reply (Look key now) self.now.core
+            result }
+        ensures answers { IfOk result (FoundAnswers V.answers key) }
+        ensures memory { IfErr result (λ f. f ≡ fault.NoMemory) }
+    {
+        match self.core.peek(key, now) {
+            Ok(found) => Ok(found),
+            Err(fault) => Err(fault),
+        }
     }
 
     /// Returns the numbers of the cache. Is no step, and takes no memory. O(1).

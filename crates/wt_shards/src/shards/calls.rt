@@ -316,4 +316,35 @@ impl<K: CacheKey, V: Value<K>, B: Books> Shards<K, V, B> {
     {
         self.sweep(rt, pass, Sweep::Clean, now, notices)
     }
+
+    /// Moves the border between window and main of the key's shard by one entry, and returns whether
+    /// it moved, and the number of the step there. No entry leaves.
+    ///
+    /// `now` is in milliseconds. `StepsSpent` comes before `NoMemory`. Takes memory as
+    /// [`Core::slide`](wt_core::Core::slide) does, in the cache and in the lagging copy. Takes that
+    /// shard's lock, for one step. Expected O(1), as there. Not promised: that it returns.
+    pub fn slide<R: Wait>(
+        &self,
+        rt: &R,
+        pass: &mut Pass<K, V, B>,
+        key: K,
+        wider: bool,
+        now: u64,
+        notices: &mut Notices<K, V>,
+    ) -> Result<Done<bool>, Fault>
+        requires room { self.now.config.entries ≤ notices.old.room }
+        ensures made { IsHomeCall (members_of K.CacheKey V.Value) (home_at K.word key self.now)
+            (call.Slide wider now) reply.Slid pass.old pass.new notices.old notices.new result }
+        ensures none { notices.new ≡ notices.old }
+    {
+        let home = shard_of(key.word(), self.shards);
+        let done = self.step(rt, pass, home, Call::Slide { wider, now }, notices)?;
+        let Reply::Slid(moved) = done.reply else {
+            unreachable!()
+        };
+        Ok(Done {
+            step: done.step,
+            reply: moved,
+        })
+    }
 }

@@ -1,10 +1,16 @@
-// The reads of shards: settings and numbers. None of them is a step, and each lock is held only
-// while the numbers of its shard are read.
-ghost use Rattle.std.specs.Prelude.{◌≡◌, ◌+◌};
+// The reads of shards: settings, numbers, and the value of a key. None of them is a step, and each
+// lock is held only while its shard is read.
+ghost use Rattle.std.specs.Prelude.{◌≡◌, ◌+◌, ◌≤◌, ◌==◌, ◌||◌, IfOk, IsTrue};
 ghost use Rattle.wt_core.specs.Lawful.{AreSmall};
+ghost use Rattle.wt_shards.specs.Members.{members_of};
+ghost use Rattle.wt_shards.specs.Peeks.{FoundAnswers, IsHomePeek, IsLockedPeek};
+ghost use Rattle.wt_shards.specs.Place.{home_at};
 
+use crate::at_home::at_home;
 use crate::books::Books;
 use crate::hold::hold;
+use crate::mine::Mine;
+use crate::pass::Pass;
 use crate::recorded::Recorded;
 use crate::shard_ledger::ShardLedger;
 use crate::shards::Shards;
@@ -12,7 +18,7 @@ use crate::value::Value;
 use std::sync::ledger::Ledger;
 use std::sync::{Mutex, Wait};
 use wt_core::Stats;
-use wt_keys::CacheKey;
+use wt_keys::{CacheKey, Fault, shard_of};
 
 // The numbers of one shard, if there is one.
 fn stats_at<K: CacheKey, V: Value<K>, S: ShardLedger, H: Ledger, R: Wait>(
@@ -31,6 +37,22 @@ fn stats_at<K: CacheKey, V: Value<K>, S: ShardLedger, H: Ledger, R: Wait>(
     held.shard.stats()
 }
 
+// A share of the value that a look at one shard would hit, if it would hit.
+#[inline(always)]
+fn peek_at<K: CacheKey, V: Value<K>, S: ShardLedger, H: Ledger, R: Wait>(
+    rt: &R,
+    shard: &Mutex<Recorded<K, V, S, H>>,
+    mine: &mut Mine<K, V, S, H>,
+    key: K,
+    now: u64,
+) -> Result<Option<V>, Fault>
+    ensures made { IsLockedPeek (members_of K.CacheKey V.Value) S.ShardLedger.place key now
+        mine.old mine.new result }
+    ensures answers { IfOk result (FoundAnswers V.answers key) }
+{
+    hold(rt, shard).peek(rt, mine, key, now)
+}
+
 impl<K: CacheKey, V: Value<K>, B: Books> Shards<K, V, B> {
     /// Returns how many entries one shard may hold. Takes no lock. O(1).
     pub fn entries(&self) -> u32
@@ -39,11 +61,39 @@ impl<K: CacheKey, V: Value<K>, B: Books> Shards<K, V, B> {
         self.config.entries
     }
 
-    /// Returns how many shards there are. Takes no lock. O(1).
+    /// Returns how many shards there are: 1, 2 or 4. Takes no lock. O(1).
     pub fn shards(&self) -> usize
-        ensures { result ≡ self.now.shards }
+        ensures value { result ≡ self.now.shards }
+        ensures few { result ≤ 4 }
+        ensures within { IsTrue (result == 1 || (result == 2 || result == 4)) }
     {
         self.shards
+    }
+
+    /// Returns a share of the value that a look of the key would hit at `now`, if it would hit.
+    ///
+    /// Is no step: it uses no entry, and neither the shard nor the pass counts it. `now` is in
+    /// milliseconds. Takes memory for that share alone, and that shard's lock. Expected O(1), unless
+    /// an attacker chooses the keys (see `Seeded`). Not promised: that the call returns, and that
+    /// the result still holds when it does.
+    pub fn peek<R: Wait>(
+        &self,
+        rt: &R,
+        pass: &mut Pass<K, V, B>,
+        key: K,
+        now: u64,
+    ) -> Result<Option<V>, Fault>
+        ensures made { IsHomePeek (members_of K.CacheKey V.Value) (home_at K.word key self.now)
+            key now pass.old pass.new result }
+        ensures answers { IfOk result (FoundAnswers V.answers key) }
+    {
+        let home = shard_of(key.word(), self.shards);
+        at_home!(
+            home,
+            self,
+            pass,
+            |shard, mine| peek_at(rt, shard, mine, key, now)
+        )
     }
 
     /// Returns the numbers of all shards, added up.
