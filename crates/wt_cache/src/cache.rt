@@ -1,5 +1,5 @@
 // The loading cache, how it is opened, and its reads.
-ghost use Rattle.std.specs.Prelude.{◌≡◌, ◌+◌, IfOk, IfErr, is_some};
+ghost use Rattle.std.specs.Prelude.{◌≡◌, ◌+◌, ◌≤◌, ◌==◌, ◌||◌, IfOk, IfErr, IsTrue, is_some};
 ghost use Rattle.wt_keys.specs.declared.fault.Fault.TheVariants as fault;
 ghost use Rattle.wt_shards.specs.Passes.{new_pass};
 
@@ -87,9 +87,11 @@ impl<K: CacheKey, V: Value<K>, L: Loader<K, V> + Drop, B: Books> LoadingCache<K,
         self.shards.entries()
     }
 
-    /// Returns how many shards there are. Takes no lock. O(1).
+    /// Returns how many shards there are: 1, 2 or 4. Takes no lock. O(1).
     pub fn shards(&self) -> usize
-        ensures { result ≡ self.now.layout.shards }
+        ensures value { result ≡ self.now.layout.shards }
+        ensures few { result ≤ 4 }
+        ensures within { IsTrue (result == 1 || (result == 2 || result == 4)) }
     {
         self.shards.shards()
     }

@@ -69,7 +69,7 @@ impl<K: Copy + Drop, V: Drop> JobLine<K, V> {
     /// O(capacity).
     ///
     /// In use: `uses::lines::new`.
-    pub fn new<R: Wait>(_rt: &R, alloc: Global, capacity: u32) -> Result<JobLine<K, V>, Fault>
+    pub fn new(alloc: Global, capacity: u32) -> Result<JobLine<K, V>, Fault>
         ensures refusal { IsNoCapacity capacity → result ≡ Err (fault.BadConfig field.Line) }
         ensures memory { 1 ≤ capacity → capacity ≤ 4096 → IsOkUnless result fault.NoMemory }
     {

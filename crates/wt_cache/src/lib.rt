@@ -4,6 +4,7 @@
 mod cache;
 mod caller;
 mod callers;
+mod followers;
 mod got;
 mod hand;
 mod idle;
@@ -19,6 +20,7 @@ mod workers;
 pub use cache::LoadingCache;
 pub use caller::Caller;
 pub use callers::Callers;
+pub use followers::Followers;
 pub use got::{Got, How, WorkerReport};
 pub use hand::Hand;
 pub use idle::Returned;

@@ -1,10 +1,11 @@
 // The calls of the cache but `get`. A call with a key is one step at the key's shard; a sweep is a step
 // at each shard in turn.
-ghost use Rattle.std.specs.Prelude.{◌≤◌, IsTrue, IfOk};
+ghost use Rattle.std.specs.Prelude.{◌≡◌, ◌≤◌, IsTrue, IfOk};
 ghost use Rattle.wt_core.specs.declared.calls.Call.TheVariants as call;
 ghost use Rattle.wt_core.specs.declared.calls.Reply.TheVariants as reply;
 ghost use Rattle.wt_shards.specs.Asked.{ReplyAnswers};
 ghost use Rattle.wt_shards.specs.Contract.{IsHomeCall, IsSweepCall};
+ghost use Rattle.wt_shards.specs.Peeks.{FoundAnswers, IsHomePeek};
 ghost use Rattle.wt_shards.specs.Members.{members_of};
 ghost use Rattle.wt_shards.specs.Place.{home_at};
 ghost use Rattle.wt_cache.specs.Cached.{most_entries};
@@ -39,6 +40,26 @@ impl<K: CacheKey, V: Value<K>, L: Loader<K, V> + Drop, B: Books> LoadingCache<K,
         ensures answers { IfOk result (λ done. ReplyAnswers V.answers key done.reply) }
     {
         self.shards.look(rt, pass, key, now, notices)
+    }
+
+    /// Returns a share of the value that `get_if_present` would return at `now`, if it would hit.
+    ///
+    /// Is no step: it uses no entry, and neither the cache nor the pass counts it. So a key that is
+    /// only peeked leaves as if nobody used it. `now` is in milliseconds. Takes memory for that
+    /// share alone, and the lock of the key's shard. Expected O(1), unless an attacker chooses the
+    /// keys (see `Seeded`).
+    pub fn peek<R: Wait>(
+        &self,
+        rt: &R,
+        pass: &mut Pass<K, V, B>,
+        key: K,
+        now: u64,
+    ) -> Result<Option<V>, Fault>
+        ensures made { IsHomePeek (members_of K.CacheKey V.Value)
+            (home_at K.word key self.now.layout) key now pass.old pass.new result }
+        ensures answers { IfOk result (FoundAnswers V.answers key) }
+    {
+        self.shards.peek(rt, pass, key, now)
     }
 
     /// Stores the value under the key, in place of one that is there. A load of the key that is
@@ -143,5 +164,29 @@ impl<K: CacheKey, V: Value<K>, L: Loader<K, V> + Drop, B: Books> LoadingCache<K,
             pass.old pass.new notices.old notices.new result }
     {
         self.shards.clean(rt, pass, now, notices)
+    }
+
+    /// Moves the border between window and main of the key's shard by one entry, and returns whether
+    /// it moved. No entry leaves. `Followers::follow` chooses the way.
+    ///
+    /// `now` is in milliseconds. `StepsSpent` comes before `NoMemory`. Takes memory as
+    /// [`Core::slide`](wt_core::Core::slide) does, in the shard and in its lagging copy, and the
+    /// lock of the key's shard for one step. Expected O(1), as there.
+    pub fn slide<R: Wait>(
+        &self,
+        rt: &R,
+        pass: &mut Pass<K, V, B>,
+        key: K,
+        wider: bool,
+        now: u64,
+        notices: &mut Notices<K, V>,
+    ) -> Result<Done<bool>, Fault>
+        requires room { self.now.layout.config.entries ≤ notices.old.room }
+        ensures made { IsHomeCall (members_of K.CacheKey V.Value)
+            (home_at K.word key self.now.layout) (call.Slide wider now) reply.Slid pass.old
+            pass.new notices.old notices.new result }
+        ensures none { notices.new ≡ notices.old }
+    {
+        self.shards.slide(rt, pass, key, wider, now, notices)
     }
 }

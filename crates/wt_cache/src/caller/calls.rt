@@ -1,13 +1,19 @@
 // The calls of a caller: those of its cache, with its pass and its list.
-ghost use Rattle.std.specs.Prelude.{◌≤◌, IsTrue, IfOk};
+ghost use Rattle.std.specs.Prelude.{◌≡◌, ◌≤◌, IsTrue, IfOk};
+ghost use Rattle.wt_regions.specs.Notices.{emptied};
 ghost use Rattle.wt_core.specs.declared.calls.Call.TheVariants as call;
 ghost use Rattle.wt_core.specs.declared.calls.Reply.TheVariants as reply;
 ghost use Rattle.wt_shards.specs.Asked.{ReplyAnswers};
 ghost use Rattle.wt_shards.specs.Members.{members_of};
 ghost use Rattle.wt_cache.specs.Cached.{most_entries};
+ghost use Rattle.wt_cache.specs.Follows.{IsFollowed};
+ghost use Rattle.wt_shards.specs.Place.{home_at};
 ghost use Rattle.wt_cache.specs.Contract.{IsLentCall, IsLentGet, IsLentPut, IsLentSweep};
+ghost use Rattle.wt_cache.specs.Peeks.{IsLentPeek};
+ghost use Rattle.wt_shards.specs.Peeks.{FoundAnswers};
 
 use crate::caller::Caller;
+use crate::followers::Followers;
 use crate::got::Got;
 use crate::loader::Loader;
 use std::sync::Wait;
@@ -51,6 +57,20 @@ impl<'c, K: CacheKey, V: Value<K>, L: Loader<K, V> + Drop, B: Books, R: Wait> Ca
         self.left.empty();
         let cache = self.callers.cache();
         cache.get_if_present(self.rt, &mut self.pass, key, now, &mut self.left)
+    }
+
+    /// Returns the key's value if it is there, and uses nothing: `LoadingCache::peek`, whose
+    /// documentation has the rest.
+    ///
+    /// `now` is in milliseconds. The list of entries that left stays as it is.
+    ///
+    /// In use: `uses::callers::peek`.
+    pub fn peek(&mut self, key: K, now: u64) -> Result<Option<V>, Fault>
+        ensures made { IsLentPeek (members_of K.CacheKey V.Value) key now self.old self.new result }
+        ensures answers { IfOk result (FoundAnswers V.answers key) }
+    {
+        let cache = self.callers.cache();
+        cache.peek(self.rt, &mut self.pass, key, now)
     }
 
     /// Stores the value under the key: `LoadingCache::put`, whose documentation has the rest.
@@ -127,5 +147,37 @@ impl<'c, K: CacheKey, V: Value<K>, L: Loader<K, V> + Drop, B: Books, R: Wait> Ca
     {
         let cache = self.callers.cache();
         cache.clean_up(self.rt, &mut self.pass, now, notices)
+    }
+
+    /// Moves the border between window and main of the key's shard by one entry, and returns whether
+    /// it moved: `LoadingCache::slide`, whose documentation has the rest.
+    ///
+    /// `now` is in milliseconds. First the list of entries that left is emptied.
+    ///
+    /// In use: `uses::callers::slide`.
+    pub fn slide(&mut self, key: K, wider: bool, now: u64) -> Result<Done<bool>, Fault>
+        ensures made { IsLentCall (members_of K.CacheKey V.Value) key (call.Slide wider now)
+            reply.Slid self.old self.new result }
+    {
+        self.left.empty();
+        let cache = self.callers.cache();
+        cache.slide(self.rt, &mut self.pass, key, wider, now, &mut self.left)
+    }
+
+    /// Lets the window of the key's shard follow a look-up of the key: call it behind each `get` and
+    /// `get_if_present`. `Followers::follow` has the rest.
+    ///
+    /// `now` is in milliseconds. First the list of entries that left is emptied.
+    ///
+    /// In use: `uses::callers::follow`.
+    pub fn follow(&mut self, followers: &Followers<K>, key: K, now: u64) -> Result<u32, Fault>
+        ensures made { IsFollowed (members_of K.CacheKey V.Value)
+            (home_at K.word key self.old.cache.layout) now self.old.pass self.new.pass
+            (emptied self.old.left) self.new.left result }
+        ensures same { self.new.cache ≡ self.old.cache }
+    {
+        self.left.empty();
+        let cache = self.callers.cache();
+        followers.follow(self.rt, cache, &mut self.pass, key, now, &mut self.left)
     }
 }

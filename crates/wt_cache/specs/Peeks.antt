@@ -1,0 +1,15 @@
+-- What a caller's peek promises, which is no step.
+use Rattle.std.specs.Prelude.{◌≡◌, ℕ, Option, Result}
+use Rattle.wt_keys.specs.declared.fault.Fault.{Fault}
+use Rattle.wt_shards.specs.Members.{Members}
+use Rattle.wt_shards.specs.Peeks.{IsHomePeek}
+use Rattle.wt_shards.specs.Place.{home_at}
+use Rattle.wt_cache.specs.Calling.{Calling}
+
+-- what a caller's peek promises: that of the cache, with its pass
+pub record IsLentPeek {K V : Type 0} (members : Members K V) (key : K) (now : ℕ)
+    (old new : Calling K V) (result : Result (Option V) Fault) : Type 0 where
+  -- the peek at the key's shard
+  pub made : IsHomePeek members (home_at members.word key old.cache.layout) key now old.pass new.pass result
+  -- the caller's cache and its own list are the same
+  pub same : (new.cache ≡ old.cache) × (new.left ≡ old.left)
