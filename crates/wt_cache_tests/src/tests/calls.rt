@@ -143,9 +143,6 @@ pub fn sweep<N: Names, R: Wait>(
     pass: &mut Pass<u64, Version, Of<N>>,
 ) -> Result<(Told, Told), Fault> {
     let shards = cache.shards();
-    if shards > 4 {
-        return Err(Fault::Mixed);
-    }
     let mut notices = Notices::new(alloc, shards * cache.entries() as usize)?;
     cache.clean_up(rt, pass, 10, &mut notices)?;
     let cleaned = told_in(&notices);

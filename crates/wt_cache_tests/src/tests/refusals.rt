@@ -255,13 +255,9 @@ fn settled<N: Names, R: Wait>(
     }
 }
 
-fn line_if<R: Wait>(
-    rt: &R,
-    alloc: Global,
-    lined: bool,
-) -> Result<Option<JobLine<u64, Version>>, Fault> {
+fn line_if(alloc: Global, lined: bool) -> Result<Option<JobLine<u64, Version>>, Fault> {
     if lined {
-        Ok(Some(JobLine::new(rt, alloc, 1)?))
+        Ok(Some(JobLine::new(alloc, 1)?))
     } else {
         Ok(None)
     }
@@ -321,7 +317,7 @@ fn played<N: Names, R: Wait + Abort>(
 {
     let way = Way::Plain;
     let marks = new_marks(alloc)?;
-    let line = line_if(rt, alloc, lined)?;
+    let line = line_if(alloc, lined)?;
     let shards: Plain<N> = Shards::new(rt, alloc, blanks, config, 1)?;
     let (mut pass, both) = led_two(rt, alloc, &shards)?;
     let cache: Cache<N> = LoadingCache::new(shards, Rules { way, marks }, line);

@@ -232,7 +232,7 @@ fn soak<N: Names + Send + Sync, R: Threads + Wait + Sync>(
         way: Way::FailsFifth,
         marks: Arc::try_clone(&marks)?,
     };
-    let line = JobLine::new(rt, alloc, 4)?;
+    let line = JobLine::new(alloc, 4)?;
     let shards: Plain<N> = Shards::new(rt, alloc, blanks, config, 4)?;
     let cache: Cache<N> = LoadingCache::new(shards, rules, Some(line));
     let mut passes = Vec::new(alloc);

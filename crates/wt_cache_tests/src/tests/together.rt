@@ -160,15 +160,11 @@ fn led_for<N: Names, R: Wait>(
 }
 
 // A line of `places` places, or none if it is 0.
-fn line_of<R: Wait>(
-    rt: &R,
-    alloc: Global,
-    places: u32,
-) -> Result<Option<JobLine<u64, Version>>, Fault> {
+fn line_of(alloc: Global, places: u32) -> Result<Option<JobLine<u64, Version>>, Fault> {
     if places == 0 {
         return Ok(None);
     }
-    let line = JobLine::new(rt, alloc, places)?;
+    let line = JobLine::new(alloc, places)?;
     Ok(Some(line))
 }
 
@@ -215,7 +211,7 @@ fn played<N: Names + Send + Sync, R: Threads + Wait + Abort + Sync>(
     let way = scene.way();
     let marks = new_marks(alloc)?;
     let theirs = Arc::try_clone(&marks)?;
-    let line = line_of(rt, alloc, scene.places())?;
+    let line = line_of(alloc, scene.places())?;
     let shards: Plain<N> = Shards::new(rt, alloc, blanks, config, count)?;
     let open = led_for(rt, alloc, &shards, scene)?;
     let cache: Cache<N> = LoadingCache::new(shards, Rules { way, marks: theirs }, line);

@@ -47,7 +47,7 @@ fn closes<R: Wait>(rt: &R, line: &Line, turns: u64) {
 
 // Returns whether the post beside the close is `Late`.
 fn meets<R: Threads + Wait + Sync>(rt: &R, alloc: Global, turns: u64) -> Result<bool, Fault> {
-    let line = Line::new(rt, alloc, 1)?;
+    let line = Line::new(alloc, 1)?;
     let shared = &line;
     let (late, ()) = thread::join(
         rt,

@@ -104,7 +104,7 @@ fn post_and_take<R: Wait + Abort>(
 
 #[test]
 fn loads_are_taken_in_the_order_of_the_posts(rt: HostRuntime) -> Result<(), Fail> {
-    let line = Line::new(&rt, rt.alloc(), 2)?;
+    let line = Line::new(rt.alloc(), 2)?;
     let mut hand = line.pass(&rt)?;
     post_and_take(&rt, rt.alloc(), &line, &mut hand)?;
     Ok(())
@@ -135,7 +135,7 @@ fn fills<R: Wait + Abort>(
 #[test]
 fn a_line_holds_as_many_loads_as_it_was_made_for(rt: HostRuntime) -> Result<(), Fail> {
     for places in [1, 2, 3, 64, 4096] {
-        let line = Line::new(&rt, rt.alloc(), places)?;
+        let line = Line::new(rt.alloc(), places)?;
         let mut hand = line.pass(&rt)?;
         fills(&rt, rt.alloc(), &line, &mut hand, places)?;
     }
@@ -166,7 +166,7 @@ fn close_twice<R: Wait + Abort>(
 
 #[test]
 fn a_closed_line_stays_closed_and_is_taken_from(rt: HostRuntime) -> Result<(), Fail> {
-    let line = Line::new(&rt, rt.alloc(), 2)?;
+    let line = Line::new(rt.alloc(), 2)?;
     let mut hand = line.pass(&rt)?;
     close_twice(&rt, rt.alloc(), &line, &mut hand)?;
     Ok(())
@@ -178,17 +178,13 @@ fn a_line_has_1_to_4096_places(rt: HostRuntime) -> Result<(), Fail> {
     holds(
         &rt,
         "no line of 0 places",
-        matches!(Line::new(&rt, alloc, 0), Err(Fault::BadConfig { .. })),
+        matches!(Line::new(alloc, 0), Err(Fault::BadConfig { .. })),
     );
-    holds(
-        &rt,
-        "a line of 4096 places",
-        Line::new(&rt, alloc, 4096).is_ok(),
-    );
+    holds(&rt, "a line of 4096 places", Line::new(alloc, 4096).is_ok());
     holds(
         &rt,
         "no line of 4097 places",
-        matches!(Line::new(&rt, alloc, 4097), Err(Fault::BadConfig { .. })),
+        matches!(Line::new(alloc, 4097), Err(Fault::BadConfig { .. })),
     );
     Ok(())
 }
@@ -223,7 +219,7 @@ fn take_three<R: Wait>(rt: &R, line: &Line) -> Result<u64, Fault> {
 
 // Two threads post the loads 1 to 6, two take three each: the bits of all ids, if each came once.
 fn crossed<R: Threads + Wait + Sync>(rt: &R, alloc: Global) -> Result<u64, Fault> {
-    let line = Line::new(rt, alloc, 8)?;
+    let line = Line::new(alloc, 8)?;
     let shared = &line;
     let (posted, taken) = thread::join(
         rt,

@@ -326,13 +326,9 @@ fn asked<N: Names, R: Wait + Abort>(
 }
 
 // A line for a worker's load, where a worker asks.
-fn line_for<R: Wait>(
-    rt: &R,
-    alloc: Global,
-    who: Who,
-) -> Result<Option<JobLine<u64, Scarce>>, Fault> {
+fn line_for(alloc: Global, who: Who) -> Result<Option<JobLine<u64, Scarce>>, Fault> {
     if who == Who::Worker {
-        Ok(Some(JobLine::new(rt, alloc, 1)?))
+        Ok(Some(JobLine::new(alloc, 1)?))
     } else {
         Ok(None)
     }
@@ -388,7 +384,7 @@ fn played<N: Names, R: Wait + Abort>(
     requires blanks { AreBlanksOf N.name N.book blanks }
 {
     let both = shared(alloc)?;
-    let line = line_for(rt, alloc, row.0)?;
+    let line = line_for(alloc, row.0)?;
     let shards: Shards<u64, Scarce, Of<N>> = Shards::new(rt, alloc, blanks, config, count)?;
     plays_on(rt, alloc, shards, line, both, row)
 }
