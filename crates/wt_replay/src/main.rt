@@ -17,7 +17,7 @@ const VERSION: &str = "0.2.0-dev";
 
 // Each option with what it does, its range and its default, in the order in which the ranges are
 // checked.
-const OPTIONS: [(&str, &str); 14] = [
+const OPTIONS: [(&str, &str); 15] = [
     ("shards", "Shards: 1, 2 or 4 [default: 1]"),
     (
         "entries",
@@ -52,6 +52,10 @@ const OPTIONS: [(&str, &str); 14] = [
     (
         "workers",
         "Threads that load for --turn: 0 to 64 [default: 0]",
+    ),
+    (
+        "adaptive",
+        "The window follows the stream: 0 or 1 [default: 0]",
     ),
 ];
 
@@ -97,6 +101,7 @@ fn options_of(matches: &ArgMatches) -> Options {
         threads: matches.get_one("threads").unwrap_or(default.threads),
         turn: matches.get_one("turn").unwrap_or(default.turn),
         workers: matches.get_one("workers").unwrap_or(default.workers),
+        adaptive: matches.get_one("adaptive").unwrap_or(default.adaptive),
     }
 }
 

@@ -233,14 +233,16 @@ pub faults_of_options : map option_fault
     ∷ record four { ring = Some 65537 } ∷ record four { flights = 4096; ring = Some 4096 } ∷ record four
     { threads = 65 } ∷ record four { turn = 1 } ∷ record four { turn = 64; workers = 64 } ∷ record four
     { turn = 65 } ∷ record four { turn = 2; threads = 2 } ∷ record four { turn = 2; workers = 65 }
-    ∷ record four { workers = 1 } ∷ [])
+    ∷ record four { workers = 1 } ∷ record default_options { adaptive = 1 } ∷ record default_options
+    { adaptive = 1; entries = 511 } ∷ record default_options { adaptive = 1; window = Some 10 }
+    ∷ record default_options { adaptive = 1; turn = 1 } ∷ record default_options { adaptive = 2 } ∷ [])
     ≡ None ∷ None ∷ Some field.Shards ∷ Some field.Shards ∷ Some field.Entries ∷ Some field.Entries ∷ Some
     field.Window ∷ Some field.Window ∷ Some field.Bound
     ∷ Some field.Bound ∷ Some field.Modulus ∷ Some field.Modulus ∷ Some field.AfterWrite ∷ Some
     field.AfterAccess ∷ Some field.Refresh ∷ Some field.FailMod
     ∷ Some field.Flights ∷ Some field.Flights ∷ Some field.Ring ∷ Some field.Ring ∷ Some field.Ring ∷ Some
     field.Threads ∷ None ∷ None ∷ Some field.Turn ∷ Some field.Turn ∷ Some field.Workers ∷ Some
-    field.Workers ∷ []
+    field.Workers ∷ None ∷ Some field.Adaptive ∷ Some field.Adaptive ∷ Some field.Adaptive ∷ Some field.Adaptive ∷ []
 faults_of_options = refl
 
 pub fault_lines : map fault_line

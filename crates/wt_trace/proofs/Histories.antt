@@ -1,6 +1,6 @@
 -- What the lines of a trace do to a shard is a run of the calls that they make.
-use Rattle.std.proofs.Common.{◌≡◌, ℕ, ◌+◌, Bool, true, false, List, [], ◌∷◌, ◌++◌, Option, Some, None, refl, sym, ap, ◌∙◌}
-use Rattle.std.specs.Prelude.{codes, if◌then◌else◌}
+use Rattle.std.proofs.Common.{◌≡◌, ℕ, zero, suc, ◌+◌, ◌==◌, Bool, true, false, List, [], ◌∷◌, ◌++◌, Option, Some, None, refl, sym, ap, ◌∙◌}
+use Rattle.std.specs.Prelude.{codes, nat_lt, if◌then◌else◌}
 use Rattle.std.specs.Option.{option_map_or}
 use Rattle.wt_flights.specs.declared.row.Row.{Row}
 use Rattle.wt_flights.specs.Rows.{first_of}
@@ -8,17 +8,20 @@ use Rattle.wt_core.specs.declared.calls.Call.{Call}
 use Rattle.wt_core.specs.declared.calls.Call.TheVariants as call
 use Rattle.wt_core.specs.declared.calls.Reply.{Reply}
 use Rattle.wt_core.specs.declared.calls.Reply.TheVariants as reply
-use Rattle.wt_core.specs.State.{State, Made, opening, stats_of}
+use Rattle.wt_core.specs.State.{State, Made, stats_of}
 use Rattle.wt_core.specs.Run.{run}
+use Rattle.wt_adviser.specs.Advice.{Advice, opening as nothing_seen, saw, wanted}
+use Rattle.wt_adviser.specs.Follow.{slid_by, slid_towards}
 use Rattle.wt_trace.specs.declared.trace.line.Act.{Act}
 use Rattle.wt_trace.specs.declared.trace.line.Act.TheVariants as act
 use Rattle.wt_trace.specs.declared.trace.line.Line.{Line}
 use Rattle.wt_trace.specs.declared.shard.version.Version.{Version}
 use Rattle.wt_trace.specs.declared.options.Options.{Options}
-use Rattle.wt_trace.specs.Answers.{act_step, answers, answers_from, belongs, fetched, line_step, line_if, landing_of, one_call, shown, take}
-use Rattle.wt_trace.specs.Calls.{landing_calls, act_calls, line_calls, calls_from, state_from, IsRun}
+use Rattle.wt_trace.specs.Answers.{Cache, Shown, act_step, answers, answers_from, belongs, fetched, followed_by, line_step, line_if, landing_of, new_cache, one_call, shown, take}
+use Rattle.wt_trace.specs.Calls.{landing_calls, act_calls, slide_if, slide_calls, following_calls, own_calls, line_calls, calls_from, cache_from, IsRun}
 use Rattle.wt_trace.specs.Keys.{Keys}
-use Rattle.wt_trace.specs.Options.{config_of}
+use Rattle.wt_trace.specs.Laws.{ActsAlone}
+use Rattle.wt_trace.specs.Line.{looked_up}
 
 module _ {K : Type 0} (keys : Keys K) (o : Options) where
   -- a run of a trace's calls
@@ -65,33 +68,83 @@ module _ {K : Type 0} (keys : Keys K) (o : Options) where
   act-ran shard n moment act.Clean s = refl
   act-ran shard n moment act.Clear s = refl
 
-  if-ran : (b : Bool) (shard n : ℕ) (l : Line K) (s : State K (Version K))
-      → (line_if keys o b shard n l s).state ≡ ran s (if b then act_calls keys o n l.moment l.act s else [])
-  if-ran true shard n l s = act-ran shard n l.moment l.act s
-  if-ran false shard n l s = refl
+  slide-ran : (as_wide wider : Bool) (moment : ℕ) (s : State K (Version K))
+      → (if as_wide then s else (take keys s (call.Slide wider moment)).state) ≡ ran s (slide_if keys o as_wide wider moment)
+  slide-ran true wider moment s = refl
+  slide-ran false wider moment s = refl
 
-  line-ran : (shard n : ℕ) (l : Line K) (s : State K (Version K))
-      → (line_step keys o shard n l s).state ≡ ran s (line_calls keys o shard n l s)
+  slides-ran : (slides want moment : ℕ) (s : State K (Version K))
+      → slid_by keys.eq keys.word (λ v. v.weight) slides want moment s ≡ ran s (slide_calls keys o slides want moment s)
+  unfolding slid_by slid_towards
+  slides-ran zero want moment s = refl
+  slides-ran (suc slides) want moment s =
+      let now : State K (Version K) = slid_by keys.eq keys.word (λ v. v.weight) slides want moment s in
+      let last : List (Call K (Version K)) =
+      slide_if keys o (now.regions.caps.window == want) (nat_lt now.regions.caps.window want) moment in
+      slide-ran (now.regions.caps.window == want) (nat_lt now.regions.caps.window want) moment now
+      ∙ ap (λ x. ran x last) (slides-ran slides want moment s) ∙ sym (ran-append s (slide_calls keys o slides want moment s) last)
+
+  following-ran : (looked : Option K) (advice : Option (Advice K)) (moment : ℕ) (s : State K (Version K))
+      → (followed_by keys looked advice moment s).state ≡ ran s (following_calls keys o looked advice moment s)
+  following-ran (Some k) (Some a) moment s = slides-ran 4 (wanted (saw keys.eq keys.word k a)) moment s
+  following-ran (Some k) None moment s = refl
+  following-ran None (Some a) moment s = refl
+  following-ran None None moment s = refl
+
+  own-ran : (shard n : ℕ) (l : Line K) (c : Cache K)
+      → (line_if keys o true shard n l c).cache.state ≡ ran c.state (own_calls keys o shard n l c)
+  own-ran shard n l c =
+      let acted : State K (Version K) = (act_step keys o shard n l.moment l.act c.state).state in
+      let follow : List (Call K (Version K)) = following_calls keys o (looked_up l.act) c.advice l.moment acted in
+      following-ran (looked_up l.act) c.advice l.moment acted
+      ∙ ap (λ x. ran x follow) (act-ran shard n l.moment l.act c.state)
+      ∙ sym (ran-append c.state (act_calls keys o n l.moment l.act c.state) follow)
+
+  if-ran : (b : Bool) (shard n : ℕ) (l : Line K) (c : Cache K)
+      → (line_if keys o b shard n l c).cache.state ≡ ran c.state (if b then own_calls keys o shard n l c else [])
+  if-ran true shard n l c = own-ran shard n l c
+  if-ran false shard n l c = refl
+
+  line-ran : (shard n : ℕ) (l : Line K) (c : Cache K)
+      → (line_step keys o shard n l c).cache.state ≡ ran c.state (line_calls keys o shard n l c)
   unfolding line_step
-  line-ran shard n l s = if-ran (belongs keys o shard l.act) shard n l s
+  line-ran shard n l c = if-ran (belongs keys o shard l.act) shard n l c
 
-  lines-ran : (shard n : ℕ) (ls : List (Line K)) (s : State K (Version K))
-      → state_from keys o shard n ls s ≡ ran s (calls_from keys o shard n ls s)
-  lines-ran shard n [] s = refl
-  lines-ran shard n (l ∷ ls) s =
-      lines-ran shard (n + 1) ls (line_step keys o shard n l s).state
-      ∙ ap (λ x. ran x (calls_from keys o shard (n + 1) ls (line_step keys o shard n l s).state)) (line-ran shard n l s)
-      ∙ sym (ran-append s (line_calls keys o shard n l s) (calls_from keys o shard (n + 1) ls (line_step keys o shard n l s).state))
+  lines-ran : (shard n : ℕ) (ls : List (Line K)) (c : Cache K)
+      → (cache_from keys o shard n ls c).state ≡ ran c.state (calls_from keys o shard n ls c)
+  lines-ran shard n [] c = refl
+  lines-ran shard n (l ∷ ls) c =
+      lines-ran shard (n + 1) ls (line_step keys o shard n l c).cache
+      ∙ ap (λ x. ran x (calls_from keys o shard (n + 1) ls (line_step keys o shard n l c).cache)) (line-ran shard n l c)
+      ∙ sym (ran-append c.state (line_calls keys o shard n l c) (calls_from keys o shard (n + 1) ls (line_step keys o shard n l c).cache))
 
-  stats-told : (shard n : ℕ) (ls : List (Line K)) (s : State K (Version K))
-      → (answers_from keys o shard n ls s).stats ≡ stats_of (state_from keys o shard n ls s)
-  stats-told shard n [] s = refl
-  stats-told shard n (l ∷ ls) s = stats-told shard (n + 1) ls (line_step keys o shard n l s).state
+  stats-told : (shard n : ℕ) (ls : List (Line K)) (c : Cache K)
+      → (answers_from keys o shard n ls c).stats ≡ stats_of (cache_from keys o shard n ls c).state
+  stats-told shard n [] c = refl
+  stats-told shard n (l ∷ ls) c = stats-told shard (n + 1) ls (line_step keys o shard n l c).cache
 
   answers-told : (n : ℕ) (ls : List (Line K)) (shard : ℕ)
-      → (answers keys o n ls shard).stats ≡ stats_of (state_from keys o shard n ls (opening (config_of o)))
+      → (answers keys o n ls shard).stats ≡ stats_of (cache_from keys o shard n ls (new_cache o)).state
   unfolding answers
-  answers-told n ls shard = stats-told shard n ls (opening (config_of o))
+  answers-told n ls shard = stats-told shard n ls (new_cache o)
 
   pub lines_are_a_run : (n : ℕ) (ls : List (Line K)) (shard : ℕ) → IsRun keys o n ls shard
-  lines_are_a_run n ls shard = record { state = lines-ran shard n ls (opening (config_of o)); stats = answers-told n ls shard }
+  lines_are_a_run n ls shard = record { state = lines-ran shard n ls (new_cache o); stats = answers-told n ls shard }
+
+-- nothing follows without an adviser
+module _ {K : Type 0} (keys : Keys K) where
+  unfollowed : (looked : Option K) (moment : ℕ) (s : State K (Version K))
+      → followed_by keys looked None moment s ≡ record { state = s; advice = None }
+  unfollowed (Some k) moment s = refl
+  unfollowed None moment s = refl
+
+  no_adviser : (o : Options) → o.adaptive ≡ 0 → (new_cache {K = K} o).advice ≡ None
+  no_adviser o is = λ i. if nat_lt 0 (is i) then Some (nothing_seen o.entries) else None
+
+  pub acts_alone : ActsAlone keys
+  acts_alone = record {
+    none = no_adviser;
+    alone = λ o shard n line s.
+        let one : Shown K = act_step keys o shard n line.moment line.act s in
+        (λ i. record { cache = unfollowed (looked_up line.act) line.moment one.state i; text = one.text });
+  }

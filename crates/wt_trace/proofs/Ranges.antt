@@ -47,6 +47,11 @@ modulus_fits o none =
 pub divisor_fits : (o : Options) → option_fault o ≡ None → is_zero o.fail_mod ≡ false
 divisor_fits o none = in_range (is_zero o.fail_mod) FailMod (later_fault o) (from_divisor o none)
 
+pub entries_few : (o : Options) → option_fault o ≡ None → o.entries ≤ 65536
+entries_few o none =
+    let is = in_range (is_outside 1 65536 o.entries) Entries _ (otherwise (not (is_shard_count o.shards)) Shards _ none) in
+    grind (arith, nat_tests, is)
+
 pub flights_few : (o : Options) → option_fault o ≡ None → o.flights ≤ 4096
 flights_few o none = let is = in_range (is_outside 1 4096 o.flights) Flights _ (later_none o none) in grind (arith, nat_tests, is)
 

@@ -5,12 +5,11 @@ use Rattle.std.specs.List.{flat_map, fold, range_with_len, sum_by}
 use Rattle.std.proofs.lemmas.List.{flat_map_more, get_or-map, map-set, map_push, take_more}
 use Rattle.std.proofs.lemmas.List.FromFn.{map-range_with_len_more}
 use Rattle.std.proofs.lemmas.List.Edits.{map_over_more}
-use Rattle.wt_core.specs.State.{opening, stats_of}
+use Rattle.wt_core.specs.State.{stats_of}
 use Rattle.wt_core.specs.Sums.{AreSums}
 use Rattle.wt_core.specs.declared.stats.Stats.{Stats}
-use Rattle.wt_trace.specs.Answers.{ShardAnswers, Work, answers, answers_from, line_step}
+use Rattle.wt_trace.specs.Answers.{ShardAnswers, Work, answers, answers_from, line_step, new_cache}
 use Rattle.wt_trace.specs.Keys.{Keys}
-use Rattle.wt_trace.specs.Options.{config_of}
 use Rattle.wt_trace.specs.Report.{line_text, lines_text, printed, summary, summary_of}
 use Rattle.wt_trace.specs.Standing.{Standing, standing_of, new_standing, new_standings, added_text, next_standing, line_by, lines_by, standings_after}
 use Rattle.wt_trace.specs.Trace.{Trace, Verdict, onto_trace}
@@ -45,10 +44,10 @@ module _ {K : Type 0} (keys : Keys K) (n : ℕ) (line : Line K) (shards now : Li
 -- a new shard more
 pub new_more : {K : Type 0} (o : Options) (n : ℕ) (ws longer : List (Work K)) (w : Work K)
     → map standing_of ws ≡ map (new_standing o) (range_with_len 0 n) → longer ≡ ws ++ w ∷ []
-    → w.options ≡ o → w.shard ≡ n → w.state ≡ opening (config_of o)
+    → w.options ≡ o → w.shard ≡ n → w.cache ≡ new_cache o
     → map standing_of longer ≡ map (new_standing o) (range_with_len 0 (n + 1))
-new_more {K} o n ws longer w made more options number state =
-    let stands : standing_of w ≡ new_standing o n = λ j. record { options = options j; shard = number j; state = state j } in
+new_more {K} o n ws longer w made more options number cache =
+    let stands : standing_of w ≡ new_standing o n = λ j. record { options = options j; shard = number j; cache = cache j } in
     ap (λ (xs : List (Work K)). map standing_of xs) more ∙ map_push standing_of ws w ∙ (λ j. made j ++ stands j ∷ [])
     ∙ sym (map-range_with_len_more (new_standing o) 0 n n (omega arith))
 
@@ -57,13 +56,13 @@ pub one_work : {K : Type 0} (keys : Keys K) (n : ℕ) (line : Line K) (shards : 
     (old new : Work K) (before out longer : List ℕ) → i < length shards → i < length ws
     → map standing_of ws ≡ map (next_standing keys n line) (take i shards) ++ drop i shards → old ≡ get_or ws i old
     → out ≡ before ++ flat_map (added_text keys n line) (take i shards)
-    → new.options ≡ old.options → new.shard ≡ old.shard → new.state ≡ (line_step keys old.options old.shard n line old.state).state
+    → new.options ≡ old.options → new.shard ≡ old.shard → new.cache ≡ (line_step keys old.options old.shard n line old.cache).cache
     → longer ≡ out ++ added_text keys n line (standing_of old)
     → (longer ≡ before ++ flat_map (added_text keys n line) (take (i + 1) shards))
     × (map standing_of (set ws i new) ≡ map (next_standing keys n line) (take (i + 1) shards) ++ drop (i + 1) shards)
-one_work {K} keys n line shards ws i old new before out longer within here are at text options number state more =
+one_work {K} keys n line shards ws i old new before out longer within here are at text options number cache more =
     let stands : standing_of new ≡ next_standing keys n line (standing_of old) =
-    λ j. record { options = options j; shard = number j; state = state j } in
+    λ j. record { options = options j; shard = number j; cache = cache j } in
     let found : standing_of old ≡ get_or (map standing_of ws) i (standing_of old) =
     ap (λ (w : Work K). standing_of w) at ∙ sym (get_or-map standing_of ws i old (standing_of old) here) in
     let both = one_shard keys n line shards (map standing_of ws) i (standing_of old) before out longer within are found text more in
@@ -104,7 +103,7 @@ shifted f g same a (suc m) =
 module _ {K : Type 0} (keys : Keys K) where
   -- what a shard that stands so answers to the lines from line n on
   abbrev answers_by : ℕ → List (Line K) → Standing K → ShardAnswers
-  answers_by n ls s = answers_from keys s.options s.shard n ls s.state
+  answers_by n ls s = answers_from keys s.options s.shard n ls s.cache
 
   texts-first : (n : ℕ) (l : Line K) (ls : List (Line K)) (ss : List (Standing K))
       → flat_map (λ (a : ShardAnswers). get_or a.texts 0 []) (map (answers_by n (l ∷ ls)) ss) ≡ flat_map (added_text keys n l) ss
@@ -147,9 +146,9 @@ module _ {K : Type 0} (keys : Keys K) where
 
   -- ---- and their numbers
   numbers-none : (n : ℕ) (ss : List (Standing K))
-      → map (λ (a : ShardAnswers). a.stats) (map (answers_by n []) ss) ≡ map (λ (s : Standing K). stats_of s.state) ss
+      → map (λ (a : ShardAnswers). a.stats) (map (answers_by n []) ss) ≡ map (λ (s : Standing K). stats_of s.cache.state) ss
   numbers-none n [] = refl
-  numbers-none n (s ∷ ss) = ap (λ (ts : List Stats). stats_of s.state ∷ ts) (numbers-none n ss)
+  numbers-none n (s ∷ ss) = ap (λ (ts : List Stats). stats_of s.cache.state ∷ ts) (numbers-none n ss)
 
   numbers-later : (n : ℕ) (l : Line K) (ls : List (Line K)) (ss : List (Standing K))
       → map (λ (a : ShardAnswers). a.stats) (map (answers_by n (l ∷ ls)) ss)
@@ -160,14 +159,14 @@ module _ {K : Type 0} (keys : Keys K) where
 
   numbers-after : (n : ℕ) (ls : List (Line K)) (ss : List (Standing K))
       → map (λ (a : ShardAnswers). a.stats) (map (answers_by n ls) ss)
-      ≡ map (λ (s : Standing K). stats_of s.state) (standings_after keys n ls ss)
+      ≡ map (λ (s : Standing K). stats_of s.cache.state) (standings_after keys n ls ss)
   numbers-after n [] ss = numbers-none n ss
   numbers-after n (l ∷ ls) ss = numbers-later n l ls ss ∙ numbers-after (n + 1) ls (map (next_standing keys n l) ss)
 
   numbers-standing : (ws : List (Work K))
-      → map (λ (w : Work K). stats_of w.state) ws ≡ map (λ (s : Standing K). stats_of s.state) (map standing_of ws)
+      → map (λ (w : Work K). stats_of w.cache.state) ws ≡ map (λ (s : Standing K). stats_of s.cache.state) (map standing_of ws)
   numbers-standing [] = refl
-  numbers-standing (w ∷ ws) = ap (λ (ts : List Stats). stats_of w.state ∷ ts) (numbers-standing ws)
+  numbers-standing (w ∷ ws) = ap (λ (ts : List Stats). stats_of w.cache.state ∷ ts) (numbers-standing ws)
 
 -- sums are those of the numbers
 fold-map : {X Y : Type 0} (f : Y → ℕ) (g : X → Y) (k : ℕ) (xs : List X)
@@ -194,15 +193,15 @@ AreSums-same g h t xs ys is are = record {
 
 -- the summary of new shards that did the lines
 pub summary_of-new : {K : Type 0} (keys : Keys K) (o : Options) (n : ℕ) (ls : List (Line K)) (ws : List (Work K)) (t : Stats)
-    → map standing_of ws ≡ standings_after keys n ls (new_standings o) → AreSums (λ (w : Work K). stats_of w.state) t ws
+    → map standing_of ws ≡ standings_after keys n ls (new_standings o) → AreSums (λ (w : Work K). stats_of w.cache.state) t ws
     → summary_of t ≡ summary (map (answers keys o n ls) (range_with_len 0 o.shards))
 summary_of-new {K} keys o n ls ws t stand are =
     let all : List ShardAnswers = map (answers keys o n ls) (range_with_len 0 o.shards) in
-    let numbers : map (λ (w : Work K). stats_of w.state) ws ≡ map (λ (a : ShardAnswers). a.stats) all =
-    numbers-standing keys ws ∙ ap (λ (ss : List (Standing K)). map (λ (s : Standing K). stats_of s.state) ss) stand
+    let numbers : map (λ (w : Work K). stats_of w.cache.state) ws ≡ map (λ (a : ShardAnswers). a.stats) all =
+    numbers-standing keys ws ∙ ap (λ (ss : List (Standing K)). map (λ (s : Standing K). stats_of s.cache.state) ss) stand
     ∙ sym (numbers-after keys n ls (new_standings o))
     ∙ ap (λ (all : List ShardAnswers). map (λ (a : ShardAnswers). a.stats) all) (answers-new keys o n ls (range_with_len 0 o.shards)) in
-    summary_of-totals t all (AreSums-same (λ (w : Work K). stats_of w.state) (λ (a : ShardAnswers). a.stats) t ws all numbers are)
+    summary_of-totals t all (AreSums-same (λ (w : Work K). stats_of w.cache.state) (λ (a : ShardAnswers). a.stats) t ws all numbers are)
 
 -- a verdict is good or not
 pub not_ok : (v : Verdict) (t : Bool) → t ≡ true → t ≡ is_err v → is_ok v ≡ false
@@ -221,7 +220,7 @@ module _ {K : Type 0} (keys : Keys K) (o : Options) (n : ℕ) (ls : List (Line K
   -- with the summary
   pub printed-whole : (ws : List (Work K)) (t : Stats) (longer : List ℕ) → out ≡ lines_by keys n ls (new_standings o)
       → map standing_of ws ≡ standings_after keys n ls (new_standings o)
-      → AreSums (λ (w : Work K). stats_of w.state) t ws → longer ≡ out ++ summary_of t → longer ≡ printed n (length ls) true all_answers
+      → AreSums (λ (w : Work K). stats_of w.cache.state) t ws → longer ≡ out ++ summary_of t → longer ≡ printed n (length ls) true all_answers
   unfolding printed
   printed-whole ws t longer text stand are more =
       let lines : out ≡ lines_text n all_answers 0 (length ls) = text ∙ lines_by-new keys o n ls in

@@ -3,7 +3,7 @@ use Rattle.std.specs.Prelude.{◌≡◌, ◌++◌, ◌+◌, ◌<◌, ◌≤◌, 
 use Rattle.std.specs.List.{range_with_len}
 use Rattle.std.specs.Io.KnownBytes.{Appends}
 use Rattle.wt_keys.specs.declared.fault.Fault.TheVariants as cache
-use Rattle.wt_trace.specs.Answers.{ShardAnswers, Shown, Work, answers, belongs}
+use Rattle.wt_trace.specs.Answers.{ShardAnswers, Shown, Stepped, Work, answers, belongs}
 use Rattle.wt_trace.specs.Keys.{Keys}
 use Rattle.wt_trace.specs.Options.{option_fault}
 use Rattle.wt_trace.specs.Parts.{IsPart}
@@ -46,10 +46,19 @@ IsChecked o result = MatchOption (option_fault o) (result ≡ Ok tt) (λ field. 
 
 -- what a shard at work promises that shows something of a line behind a text
 pub record Adds {K E : Type 0} (shown : Shown K) (old new : Work K) (before after : List ℕ) (result : Result (Unit {0}) E) : Type 0 where
-  -- its cache is in the state that is shown
-  pub state : OnOk result (new.state ≡ shown.state)
+  -- its cache is in the state that is shown, and its adviser as it was
+  pub cache : OnOk result (new.cache ≡ record old.cache { state = shown.state })
   -- the text that is shown stands behind the one that was there
   pub text : OnOk result (after ≡ before ++ shown.text)
+  -- whatever is returned: its options and its number stay
+  pub same : (new.options ≡ old.options) × (new.shard ≡ old.shard)
+
+-- what it promises that does a line
+pub record AddsLine {K E : Type 0} (stepped : Stepped K) (old new : Work K) (before after : List ℕ) (result : Result (Unit {0}) E) : Type 0 where
+  -- its cache is as the line leaves it
+  pub cache : OnOk result (new.cache ≡ stepped.cache)
+  -- the text that the line adds stands behind the one that was there
+  pub text : OnOk result (after ≡ before ++ stepped.text)
   -- whatever is returned: its options and its number stay
   pub same : (new.options ≡ old.options) × (new.shard ≡ old.shard)
 

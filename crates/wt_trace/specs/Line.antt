@@ -32,6 +32,13 @@ module _ {K : Type 0} where
   key_of Clean = None
   key_of Clear = None
 
+  -- the key that a line looks up, if it looks one up
+  abbrev pub looked_up : Act K → Option K
+  looked_up (Look k) = Some k
+  looked_up (Seek k) = Some k
+  looked_up (Get k) = Some k
+  looked_up _ = None
+
 -- ---- the relation
 
 module _ {K : Type 0} (IsKey : List ℕ → K → Type 0) where

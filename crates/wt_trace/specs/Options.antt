@@ -1,14 +1,18 @@
 -- The options: their defaults and their ranges.
-use Rattle.std.specs.Prelude.{ℕ, ◌+◌, ◌/◌, ◌==◌, nat_lt, max, Bool, not, ◌&&◌, ◌||◌, if◌then◌else◌, Option, None, Some, unwrap_or}
+use Rattle.std.specs.Prelude.{ℕ, ◌+◌, ◌*◌, ◌/◌, ◌==◌, nat_lt, nat_le, max, Bool, not, is_none, ◌&&◌, ◌||◌, if◌then◌else◌, Option, None, Some, unwrap_or}
 use Rattle.wt_keys.specs.declared.fault.Field.{Field}
-use Rattle.wt_keys.specs.declared.fault.Field.TheVariants.{Shards, Entries, Window, Bound, Modulus, AfterWrite, AfterAccess, Refresh, FailMod, Flights, Ring, Threads, Turn, Workers}
+use Rattle.wt_keys.specs.declared.fault.Field.TheVariants.{Adaptive, Shards, Entries, Window, Bound, Modulus, AfterWrite, AfterAccess, Refresh, FailMod, Flights, Ring, Threads, Turn, Workers}
 use Rattle.wt_core.specs.declared.config.Config.{Config}
 use Rattle.wt_regions.specs.Lawful.{is_zero}
 use Rattle.wt_trace.specs.declared.options.Options.{Options}
 
--- the window, by default a hundredth of the entries and at least 1
+-- the window that is used if none is given: a hundredth of the entries and at least 1, or where an adviser begins
+abbrev pub default_window : Options → ℕ
+default_window o = if nat_lt 0 o.adaptive then max ((o.entries * 40) / 100) 1 else max (o.entries / 100) 1
+
+-- the window
 abbrev pub window_of : Options → ℕ
-window_of o = unwrap_or o.window (max (o.entries / 100) 1)
+window_of o = unwrap_or o.window (default_window o)
 
 -- the ring, by default one more than the flights and at least 64
 abbrev pub ring_of : Options → ℕ
@@ -22,6 +26,10 @@ is_outside low high n = nat_lt n low || nat_lt high n
 abbrev pub is_shard_count : ℕ → Bool
 is_shard_count n = n == 1 || (n == 2 || n == 4)
 
+-- whether the window may follow the stream: an adviser has enough entries, no window is given, and the run isn't by turn
+abbrev pub can_adapt : Options → Bool
+can_adapt o = nat_le 512 o.entries && (is_none o.window && not (nat_lt 0 o.turn))
+
 -- the first of the options from flights on that is out of its range: a run is by shard or by turn, and only turns have workers
 abbrev pub later_fault : Options → Option Field
 later_fault o =
@@ -30,6 +38,7 @@ later_fault o =
     if is_outside 0 64 o.threads then Some Threads else
     if is_outside 0 64 o.turn || (nat_lt 0 o.turn && nat_lt 0 o.threads) then Some Turn else
     if is_outside 0 64 o.workers || (nat_lt 0 o.workers && not (nat_lt 0 o.turn)) then Some Workers else
+    if is_outside 0 1 o.adaptive || (nat_lt 0 o.adaptive && not (can_adapt o)) then Some Adaptive else
     None
 
 -- the first option that is out of its range
@@ -52,4 +61,4 @@ config_of o = record { entries = o.entries; window = window_of o; bound = o.weig
 
 -- what stands if nothing is given
 abbrev pub default_options : Options
-default_options = record { shards = 1; entries = 1024; window = None; weight = 281474976710656; modulus = 1; write = None; access = None; refresh = None; fail_mod = None; flights = 32; ring = None; threads = 0; turn = 0; workers = 0 }
+default_options = record { shards = 1; entries = 1024; window = None; weight = 281474976710656; modulus = 1; write = None; access = None; refresh = None; fail_mod = None; flights = 32; ring = None; threads = 0; turn = 0; workers = 0; adaptive = 0 }

@@ -1,28 +1,25 @@
 -- How shards stand between two lines, and the report a line at a time.
 use Rattle.std.specs.Prelude.{ℕ, ◌+◌, List, [], ◌∷◌, ◌++◌, map, codes, decimal}
 use Rattle.std.specs.List.{flat_map, range_with_len}
-use Rattle.wt_core.specs.State.{State, opening}
-use Rattle.wt_trace.specs.Answers.{Work, line_step}
+use Rattle.wt_trace.specs.Answers.{Cache, Work, line_step, new_cache}
 use Rattle.wt_trace.specs.Keys.{Keys}
-use Rattle.wt_trace.specs.Options.{config_of}
 use Rattle.wt_trace.specs.declared.trace.line.Line.{Line}
 use Rattle.wt_trace.specs.declared.options.Options.{Options}
-use Rattle.wt_trace.specs.declared.shard.version.Version.{Version}
 
 -- how a shard stands between two lines
 pub record Standing (K : Type 0) : Type 0 where
   pub options : Options
   pub shard : ℕ
-  pub state : State K (Version K)
+  pub cache : Cache K
 
 module _ {K : Type 0} where
   -- how a shard at work stands
   abbrev pub standing_of : Work K → Standing K
-  standing_of w = record { options = w.options; shard = w.shard; state = w.state }
+  standing_of w = record { options = w.options; shard = w.shard; cache = w.cache }
 
   -- how a new shard stands
   abbrev pub new_standing : Options → ℕ → Standing K
-  new_standing o shard = record { options = o; shard = shard; state = opening (config_of o) }
+  new_standing o shard = record { options = o; shard = shard; cache = new_cache o }
 
   -- how all new shards stand
   abbrev pub new_standings : Options → List (Standing K)
@@ -31,11 +28,11 @@ module _ {K : Type 0} where
 module _ {K : Type 0} (keys : Keys K) where
   -- what a shard adds to line n
   abbrev pub added_text : ℕ → Line K → Standing K → List ℕ
-  added_text n l s = (line_step keys s.options s.shard n l s.state).text
+  added_text n l s = (line_step keys s.options s.shard n l s.cache).text
 
   -- how it stands behind line n
   abbrev pub next_standing : ℕ → Line K → Standing K → Standing K
-  next_standing n l s = record s { state = (line_step keys s.options s.shard n l s.state).state }
+  next_standing n l s = record s { cache = (line_step keys s.options s.shard n l s.cache).cache }
 
   -- line n of the report: its number, and what each shard adds to it
   abbrev pub line_by : ℕ → Line K → List (Standing K) → List ℕ

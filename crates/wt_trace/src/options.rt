@@ -20,7 +20,8 @@ pub struct Options {
     pub shards: u64,
     /// How many entries a shard may hold: 1 to 65,536.
     pub entries: u64,
-    /// How many of them its window may hold: 1 to `entries`. By default a hundredth of them.
+    /// How many of them its window may hold: 1 to `entries`. By default a hundredth of them, and with
+    /// `adaptive` two fifths at first.
     pub window: Option<u64>,
     /// How much the entries of a shard may weigh together: 1 to 2^48.
     pub weight: u64,
@@ -48,6 +49,9 @@ pub struct Options {
     /// The number of threads that run loads beside those of a replay turn by turn: 0 to 64, and 0
     /// where `turn` is.
     pub workers: u64,
+    /// 1 if the window of each shard follows the stream of its look-ups, else 0. 1 only from 512
+    /// entries on, and not with `window` or with `turn` above 0.
+    pub adaptive: u64,
 }
 
 impl Default for Options {
@@ -71,6 +75,7 @@ impl Default for Options {
             threads: 0,
             turn: 0,
             workers: 0,
+            adaptive: 0,
         }
     }
 }
@@ -90,13 +95,33 @@ fn is_shard_count(n: u64) -> bool
 }
 
 impl Options {
-    ghost use Rattle.wt_trace.specs.Options.{option_fault, later_fault, window_of, ring_of, config_of};
+    ghost use Rattle.wt_trace.specs.Options.{option_fault, later_fault, window_of, default_window, can_adapt, ring_of, config_of};
 
     // The window, its default if none was given.
     fn window(&self) -> u64
+        requires { self.now.entries < 2 ^ 32 }
         ensures { result ≡ window_of self.now }
     {
-        self.window.unwrap_or((self.entries / 100).max(1))
+        self.window.unwrap_or(self.default_window())
+    }
+
+    // The window where none was given.
+    fn default_window(&self) -> u64
+        requires { self.now.entries < 2 ^ 32 }
+        ensures { result ≡ default_window self.now }
+    {
+        if 0 < self.adaptive {
+            (self.entries * 40 / 100).max(1)
+        } else {
+            (self.entries / 100).max(1)
+        }
+    }
+
+    // Whether the window may follow the stream.
+    fn can_adapt(&self) -> bool
+        ensures { result ≡ can_adapt self.now }
+    {
+        512 <= self.entries && (self.window.is_none() && !(0 < self.turn))
     }
 
     // The ring, its default if none was given.
@@ -160,6 +185,9 @@ impl Options {
         }
         if is_outside(0, MOST_THREADS, self.workers) || (0 < self.workers && !(0 < self.turn)) {
             return Some(Field::Workers);
+        }
+        if is_outside(0, 1, self.adaptive) || (0 < self.adaptive && !self.can_adapt()) {
+            return Some(Field::Adaptive);
         }
         None
     }

@@ -104,7 +104,7 @@ fn show_lines<K: TraceKey>(
 // The sums of the numbers of all shards.
 fn totals<K: TraceKey>(shards: &[Shard<K>]) -> Stats
     requires { length shards.now ≤ 4 }
-    ensures { AreSums (λ shard. stats_of shard.state) result shards.now }
+    ensures { AreSums (λ shard. stats_of shard.cache.state) result shards.now }
 {
     let mut sum = Stats::NOTHING;
     for shard in shards {

@@ -1,10 +1,11 @@
 // One shard of a replay: it does its lines of the trace, and writes their part of the report.
 ghost use Rattle.std.specs.Prelude.{◌≡◌, ◌++◌, [], ◌∷◌, IfOk, IfErr, OnOk, length, vec_len, None, true, false};
 ghost use Rattle.wt_trace.specs.Keys.{keys_of};
-ghost use Rattle.wt_core.specs.State.{opening};
-ghost use Rattle.wt_trace.specs.Options.{config_of, option_fault};
+ghost use Rattle.wt_trace.specs.Options.{option_fault};
 ghost use Rattle.wt_trace.specs.Answers as spec;
-ghost use Rattle.wt_trace.specs.Contract.{Adds, IsOfShard, IsReady};
+ghost use Rattle.wt_trace.specs.Answers.{new_cache};
+ghost use Rattle.wt_trace.specs.Line.{looked_up};
+ghost use Rattle.wt_trace.specs.Contract.{Adds, AddsLine, IsOfShard, IsReady};
 ghost use Rattle.wt_trace.specs.Stops.{IsStop};
 ghost use Rattle.wt_trace.specs.declared.trace.line.Act.TheVariants as act;
 
@@ -28,6 +29,7 @@ use crate::trace::line::{Act, Line};
 use crate::trace::pieces::Walk;
 use std::alloc::Global;
 use std::marker::Model;
+use wt_adviser::{Adviser, follow};
 use wt_core::{Call, Core, Notices, Reply, Stats};
 use wt_keys::{NoMemory, shard_of};
 
@@ -41,6 +43,8 @@ pub(crate) struct Shard<K: TraceKey> {
     options: Options,
     number: usize,
     core: Core<K, Version<K>>,
+    // Where the window follows the stream.
+    adviser: Option<Adviser<K>>,
     told: Notices<K, Version<K>>,
     // The notices of the landing on a `G` line.
     later: Notices<K, Version<K>>,
@@ -56,7 +60,7 @@ impl<K: TraceKey> Model for Shard<K> {
     ghost view = { λ s. record {
       options = s.options;
       shard = s.number;
-      state = s.core;
+      cache = record { state = s.core; advice = s.adviser };
       told = s.told.list;
     } };
 
@@ -67,17 +71,17 @@ impl<K: TraceKey> Model for Shard<K> {
 
 impl<K: TraceKey> Shard<K> {
     ghost use Rattle.wt_core.specs.Lawful.{AreSmall};
-    ghost use Rattle.wt_core.specs.State.{opening, stats_of};
-    ghost use Rattle.wt_trace.specs.Options.{config_of};
+    ghost use Rattle.wt_core.specs.State.{stats_of};
 
     // Makes a shard of this number with a new cache.
     //
-    // Takes memory for the cache, and for two lists of notices with room for its entries.
+    // Takes memory for the cache, for its adviser if it has one, and for two lists of notices with
+    // room for its entries.
     pub(crate) fn new(alloc: Global, options: &Options, number: usize) -> Result<Shard<K>, NoMemory>
         requires { option_fault options.now ≡ None }
         ensures options { IfOk result (λ shard. shard.options ≡ options.now) }
         ensures number { IfOk result (λ shard. shard.shard ≡ number) }
-        ensures state { IfOk result (λ shard. shard.state ≡ opening (config_of options.now)) }
+        ensures cache { IfOk result (λ shard. shard.cache ≡ new_cache options.now) }
     {
         let Ok(core) = Core::new(alloc, &options.config()) else {
             return Err(NoMemory);
@@ -86,6 +90,7 @@ impl<K: TraceKey> Shard<K> {
             options: *options,
             number,
             core,
+            adviser: adviser_for(alloc, options)?,
             told: Notices::new(alloc, options.entries as usize)?,
             later: Notices::new(alloc, options.entries as usize)?,
         })
@@ -93,7 +98,7 @@ impl<K: TraceKey> Shard<K> {
 
     // The numbers of the shard's cache.
     pub(crate) fn stats(&self) -> Stats
-        ensures numbers { result ≡ stats_of self.now.state }
+        ensures numbers { result ≡ stats_of self.now.cache.state }
         ensures small { AreSmall result }
     {
         self.core.stats()
@@ -101,7 +106,7 @@ impl<K: TraceKey> Shard<K> {
 
     // Makes one call, and appends its words and its notices.
     fn one_call(&mut self, call: Call<K, Version<K>>, out: &mut Vec<u8>) -> Result<(), NoMemory>
-        ensures { Adds (spec.one_call (keys_of K.TraceKey) self.old.shard self.old.state call)
+        ensures { Adds (spec.one_call (keys_of K.TraceKey) self.old.shard self.old.cache.state call)
             self.old self.new out.old.items out.new.items result }
     {
         self.told.empty();
@@ -199,6 +204,21 @@ impl<K: TraceKey> Shard<K> {
         }
     }
 
+    // Lets the window follow the line's look-up, if it makes one and there is an adviser.
+    fn follow(&mut self, line: &Line<K>) -> Result<(), NoMemory>
+        ensures cache { OnOk result (self.new.cache ≡ spec.followed (keys_of K.TraceKey)
+            (looked_up line.now.act) line.now.moment self.old.cache) }
+        ensures same { (self.new.options ≡ self.old.options) × (self.new.shard ≡ self.old.shard) }
+    {
+        let Some(key) = line.act.looked_up() else {
+            return Ok(());
+        };
+        match &mut self.adviser {
+            Some(adviser) => follow(adviser, &mut self.core, key, line.moment),
+            None => Ok(()),
+        }
+    }
+
     // Does line n, if it belongs to the shard and the gate lets it through, and appends the shard's
     // text for it.
     #[tactic(auto, unfolding(crate::specs::Answers::line_step))]
@@ -209,8 +229,8 @@ impl<K: TraceKey> Shard<K> {
         line: &Line<K>,
         out: &mut Vec<u8>,
     ) -> Result<(), ReplayFault>
-        ensures made { Adds (spec.line_step (keys_of K.TraceKey) self.old.options self.old.shard n
-            line.now self.old.state) self.old self.new out.old.items out.new.items result }
+        ensures made { AddsLine (spec.line_step (keys_of K.TraceKey) self.old.options self.old.shard
+            n line.now self.old.cache) self.old self.new out.old.items out.new.items result }
         ensures asked { OnOk result (spec.belongs (keys_of K.TraceKey) self.old.options
             self.old.shard line.now.act ≡ true → G.answers gate.now n true) }
         ensures err { IfErr result (IsStop (λ m. G.answers gate.now m false)) }
@@ -222,6 +242,7 @@ impl<K: TraceKey> Shard<K> {
             return Err(ReplayFault::GateShut { n });
         }
         self.act(n, line, out)?;
+        self.follow(line)?;
         Ok(())
     }
 
@@ -234,8 +255,8 @@ impl<K: TraceKey> Shard<K> {
         text: &mut Vec<u8>,
         ends: &mut Vec<u32>,
     ) -> Result<(), ReplayFault>
-        ensures made { Adds (spec.line_step (keys_of K.TraceKey) self.old.options self.old.shard n
-            line.now self.old.state) self.old self.new text.old.items text.new.items result }
+        ensures made { AddsLine (spec.line_step (keys_of K.TraceKey) self.old.options self.old.shard
+            n line.now self.old.cache) self.old self.new text.old.items text.new.items result }
         ensures ends { OnOk result (ends.new.items
             ≡ ends.old.items ++ length text.new.items ∷ []) }
         ensures asked { OnOk result (spec.belongs (keys_of K.TraceKey) self.old.options
@@ -246,6 +267,23 @@ impl<K: TraceKey> Shard<K> {
         let end = end_of(text)?;
         ends.push(end)?;
         Ok(())
+    }
+}
+
+// The adviser of a new shard, if its window follows the stream.
+fn adviser_for<K: TraceKey>(
+    alloc: Global,
+    options: &Options,
+) -> Result<Option<Adviser<K>>, NoMemory>
+    requires { option_fault options.now ≡ None }
+    ensures { IfOk result (λ adviser. adviser ≡ (new_cache options.now).advice) }
+{
+    if options.adaptive == 0 {
+        return Ok(None);
+    }
+    match Adviser::new(alloc, options.entries as u32) {
+        Ok(adviser) => Ok(Some(adviser)),
+        Err(_) => Err(NoMemory),
     }
 }
 
@@ -285,7 +323,7 @@ fn answers_of<K: TraceKey, G: Gate>(
     requires ready { IsReady job.now.options.now first (length lines) }
     requires options { shard.options ≡ job.now.options.now }
     requires number { shard.shard ≡ number }
-    requires state { shard.state ≡ opening (config_of job.now.options.now) }
+    requires cache { shard.cache ≡ new_cache job.now.options.now }
     requires none { (text.items ≡ []) × (ends.items ≡ []) }
     ensures made { IsOfShard (keys_of K.TraceKey) job.now.options.now (G.answers job.now.gate.now)
         first lines.entry number result }
@@ -320,8 +358,8 @@ pub fn shard_answers<K: TraceKey, G: Gate>(
     ensures made { IsOfShard (keys_of K.TraceKey) job.now.options.now (G.answers job.now.gate.now)
         first lines.entry number result }
 {
-    let shard = Shard::new(job.alloc, job.options, number)?;
     let text = Vec::with_capacity(job.alloc, lines.room().saturating_mul(TEXT_A_LINE))?;
     let ends = Vec::with_capacity(job.alloc, lines.room())?;
+    let shard = Shard::new(job.alloc, job.options, number)?;
     answers_of(job, number, first, lines, shard, text, ends)
 }

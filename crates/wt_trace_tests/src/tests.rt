@@ -59,6 +59,7 @@ fn four_but(field: Field, value: u64) -> Options {
         Field::Threads => options.threads = value,
         Field::Turn => options.turn = value,
         Field::Workers => options.workers = value,
+        Field::Adaptive => options.adaptive = value,
         Field::Line => {}
     }
     options

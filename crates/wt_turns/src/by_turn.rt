@@ -94,7 +94,7 @@ fn opened<K: TraceKey, N: Names + Send + Sync, R: Wait>(
     if options.workers == 0 {
         return Ok(LoadingCache::new(shards, loader, None));
     }
-    let line = JobLine::new(rt, alloc, MOST_WAITING)?;
+    let line = JobLine::new(alloc, MOST_WAITING)?;
     Ok(LoadingCache::new(shards, loader, Some(line)))
 }
 

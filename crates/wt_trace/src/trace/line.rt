@@ -41,6 +41,16 @@ impl<K: Copy> Act<K> {
             Act::Clean | Act::Clear => None,
         }
     }
+
+    /// Returns the key that is looked up, if one is.
+    pub fn looked_up(&self) -> Option<K>
+        ensures { result ≡ spec.looked_up self.now }
+    {
+        match *self {
+            Act::Look(key) | Act::Seek(key) | Act::Get(key) => Some(key),
+            _ => None,
+        }
+    }
 }
 
 /// A line: its moment in milliseconds, and its call.

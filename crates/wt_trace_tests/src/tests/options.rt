@@ -6,7 +6,7 @@ use wt_keys::{Fault, Field};
 use wt_trace::{Options, ReplayFault, Tallied, replay};
 
 // A field, a value, and whether it is in the field's range.
-const ROWS: [(Field, u64, bool); 40] = [
+const ROWS: [(Field, u64, bool); 43] = [
     (Field::Entries, 0, false),
     (Field::Entries, 1, true),
     (Field::Entries, 65536, true),
@@ -47,6 +47,9 @@ const ROWS: [(Field, u64, bool); 40] = [
     (Field::Turn, 64, true),
     (Field::Turn, 65, false),
     (Field::Workers, 1, false),
+    (Field::Adaptive, 0, true),
+    (Field::Adaptive, 1, false),
+    (Field::Adaptive, 2, false),
 ];
 
 #[test]

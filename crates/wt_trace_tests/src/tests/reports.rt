@@ -1,5 +1,5 @@
 // Reports of whole traces, with values from the rules' own text.
-use super::compare::same;
+use super::compare::{holds, same};
 use super::{FIRST, FIRST_REPORT, four, four_but, of, replayed};
 use std::alloc::Global;
 use std::process::Abort;
@@ -135,6 +135,42 @@ fn durations_weights_and_failures_are_the_options(rt: HostRuntime) {
         ),
     ];
     expect_reports(&rt, rt.alloc(), &rows);
+}
+
+// Until its first choice an adviser wants two fifths of the entries, and a store is no look-up.
+#[test]
+fn an_adaptive_window_begins_with_two_fifths(rt: HostRuntime) -> Result<(), Fail> {
+    let mut input = Vec::new(rt.alloc());
+    for n in 0..600u32 {
+        let (hundreds, tens, ones) = (n / 100 % 10, n / 10 % 10, n % 10);
+        input.extend_from_slice(b"0 P 1")?;
+        input.push(b'0' + hundreds as u8)?;
+        input.push(b'0' + tens as u8)?;
+        input.push(b'0' + ones as u8)?;
+        input.push(b'\n')?;
+    }
+    let of_512 = |window, adaptive| Options {
+        entries: 512,
+        window,
+        adaptive,
+        ..Options::default()
+    };
+    let (two_fifths, _) = replayed(rt.alloc(), &input, &of_512(Some(204), 0));
+    let (hundredth, _) = replayed(rt.alloc(), &input, &of_512(None, 0));
+    let (adaptive, ended) = replayed(rt.alloc(), &input, &of_512(None, 1));
+    same(&rt, "how the run ends", ended, Ok(()));
+    same(
+        &rt,
+        "the report",
+        adaptive.as_slice(),
+        two_fifths.as_slice(),
+    );
+    holds(
+        &rt,
+        "another window gives up other keys",
+        hundredth.as_slice() != two_fifths.as_slice(),
+    );
+    Ok(())
 }
 
 // Asserts how many bytes are written for an input, and how the run ends.

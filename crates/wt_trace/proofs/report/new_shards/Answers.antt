@@ -10,7 +10,7 @@ loop-number-preserved g c =
     record {
       made = new_more c.args.options.now c.loop-number.number c.loop-number.shards.items _ _ inv.made
           c.in_ok-push.ensures.items c.in_ok-new.ensures.options c.in_ok-new.ensures.number
-          c.in_ok-new.ensures.state;
+          c.in_ok-new.ensures.cache;
       count = search rules;
     }
 

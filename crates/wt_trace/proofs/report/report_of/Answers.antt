@@ -54,8 +54,8 @@ returns g c =
     let lens : c.in_ok-shards.shards.len ≡ length after = search (rules, arith) in
     let seen : c.deref.result.now ≡ c.show_lines.new.shards = c.deref.ensures.value
     ∙ ap (λ n. take n (after ++ beyond)) lens ∙ take-append_seam after beyond in
-    let sums : AreSums (λ (w : Work g.row.K.Denot). stats_of w.state) c.totals.result c.show_lines.new.shards =
-    subst (AreSums (λ (w : Work g.row.K.Denot). stats_of w.state) c.totals.result) seen c.totals.ensures in
+    let sums : AreSums (λ (w : Work g.row.K.Denot). stats_of w.cache.state) c.totals.result c.show_lines.new.shards =
+    subst (AreSums (λ (w : Work g.row.K.Denot). stats_of w.cache.state) c.totals.result) seen c.totals.ensures in
     let good = not_err c.in_ok-verdict.verdict c.is_err.result c.if-is_err.false c.is_err.ensures.value in
     let end = ap (λ v. is_ok v) (sym shown.verdict) ∙ good in
     record {

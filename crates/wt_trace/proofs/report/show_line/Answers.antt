@@ -19,10 +19,10 @@ loop-shard-preserved g c =
     let old = get_or ws c.loop-shard.shard-index c.shard-item.result in
     let options : c.do_line.new.self.options ≡ old.options = done.same.0 in
     let number : c.do_line.new.self.shard ≡ old.shard = done.same.1 in
-    let state : c.do_line.new.self.state ≡ (line_step keys old.options old.shard c.args.n c.args.line.now old.state).state = done.state in
+    let cache : c.do_line.new.self.cache ≡ (line_step keys old.options old.shard c.args.n c.args.line.now old.cache).cache = done.cache in
     let text : c.do_line.new.out.items ≡ c.loop-shard.out.items ++ added_text keys c.args.n c.args.line.now (standing_of old) = done.text in
     let both = one_work keys c.args.n c.args.line.now first ws c.loop-shard.shard-index old c.do_line.new.self _
     c.loop-shard.out.items c.do_line.new.out.items
     within here inv.standings (ap (λ (w : Work g.row.K.Denot). get_or ws c.loop-shard.shard-index w)
-    c.shard-item.is) inv.text options number state text in
+    c.shard-item.is) inv.text options number cache text in
     record { text = both.0; standings = both.1 }

@@ -6,6 +6,6 @@ use Rattle.wt_trace.proofs.report.totals.Given as goal
 
 abbrev pub invariant-loop-shard : goal.invariant-loop-shard
 invariant-loop-shard g l = record {
-  totals : AreSums (λ (w : Work g.row.K.Denot). stats_of w.state) l.sum (take l.shard-index l.shards);
+  totals : AreSums (λ (w : Work g.row.K.Denot). stats_of w.cache.state) l.sum (take l.shard-index l.shards);
   below : AreBelow (2 ^ 61 * l.shard-index + 1) l.sum;
 }

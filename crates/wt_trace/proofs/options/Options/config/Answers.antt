@@ -1,5 +1,5 @@
 use Rattle.std.proofs.Common.{arith}
-use Rattle.wt_trace.proofs.Ranges.{flights_few, ring_few}
+use Rattle.wt_trace.proofs.Ranges.{entries_few, flights_few, ring_few}
 use Rattle.wt_trace.proofs.options.Options.config.Goals as goal
 
 pub overflow_cast-result-3 : goal.overflow_cast-result-3
@@ -10,3 +10,6 @@ overflow_cast-result-4 c = let few = ring_few c.args.self.now c.requires in omeg
 
 pub ring-requires : goal.ring-requires
 ring-requires c = let few = flights_few c.args.self.now c.requires in omega (arith, few)
+
+pub window-requires : goal.window-requires
+window-requires c = let few = entries_few c.args.self.now c.requires in omega (arith, few)

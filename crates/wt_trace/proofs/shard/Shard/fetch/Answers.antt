@@ -26,7 +26,7 @@ returns-in_ok-show_notices-in_default g c =
     ∙ ap (λ (t : NoticeList g.row.K.Denot (Version g.row.K.Denot)). t.list)
     (c.in_ok-reply.ensures.notices ∙ ap (appended m.notices) c.empty.ensures) in
     rw (← c.self.view_is) (record {
-      state = c.in_ok-reply.ensures.state ∙ ap (λ (s : Shown g.row.K.Denot). s.state) (sym is);
+      cache = λ j. record { state = (c.in_ok-reply.ensures.state ∙ ap (λ (s : Shown g.row.K.Denot). s.state) (sym is)) j; advice = i.adviser };
       text = c.in_ok-show_notices-in_default.ensures ∙ ap (λ xs. xs ++ told c.list.result.now) c.in_ok-show_reply-in_default.ensures
           ∙ (λ j. (before ++ words_of 0 (reply j)) ++ told (left j))
           ∙ append_assoc before (words_of 0 m.reply) (told m.notices)

@@ -21,7 +21,7 @@ returns g c =
     ∙ ap (λ (t : NoticeList g.row.K.Denot (Version g.row.K.Denot)). t.list)
     (c.in_ok-reply.ensures.notices ∙ ap (appended m.notices) c.empty.ensures) in
     rw (← c.self.view_is) (record {
-      state = c.in_ok-reply.ensures.state;
+      cache = λ j. record { state = c.in_ok-reply.ensures.state j; advice = i.adviser };
       text = c.in_ok-show_notices.ensures ∙ ap (λ xs. xs ++ told c.list.result.now) c.in_ok-show_reply.ensures
           ∙ (λ j. (before ++ words_of i.number (reply j)) ++ told (left j))
           ∙ append_assoc before (words_of i.number m.reply) (told m.notices);
