@@ -12,13 +12,24 @@ pub enum Load {
     Failed(u32),
 }
 
+/// Whether a slide makes the window wider, and its moment.
+#[derive(Clone, Copy, Debug)]
+pub struct Slide {
+    pub wider: bool,
+    pub now: u64,
+}
+
 /// A line.
 #[derive(Drop)]
 pub enum Line {
     /// A call of the cache.
     Call(Call<u64, Loaded>),
+    /// A peek at a key at a moment.
+    Peek(u64, u64),
     /// A get of a key at a moment, and what the source returns if it is asked.
     Get(u64, Load, u64),
+    /// A slide at the shard of a key.
+    Slide(u64, Slide),
     /// The numbers of the cache.
     Stats,
     /// The keys of the regions in their order.
@@ -74,11 +85,13 @@ fn line_of(words: &[&str]) -> Option<Line> {
         ["order"] => Some(Line::Order),
         [moment, "clean"] => Some(Line::Call(Call::Clean(number(moment)?))),
         [moment, "clear"] => Some(Line::Call(Call::Clear(number(moment)?))),
-        [moment, "slide", way] => Some(Line::Call(Call::Slide {
-            wider: is_wider(way)?,
-            now: number(moment)?,
-        })),
+        [moment, "peek", key] => Some(Line::Peek(number(key)?, number(moment)?)),
         [moment, word, key] => Some(Line::Call(asked(word, number(key)?, number(moment)?)?)),
+        [moment, "slide", key, way] => {
+            let wider = is_wider(way)?;
+            let now = number(moment)?;
+            Some(Line::Slide(number(key)?, Slide { wider, now }))
+        }
         [moment, "get", key, value, weight] => {
             let load = load_of(value, weight)?;
             Some(Line::Get(number(key)?, load, number(moment)?))

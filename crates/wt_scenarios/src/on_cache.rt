@@ -1,18 +1,17 @@
 // The lines on a `LoadingCache`, with one pass.
 ghost use Rattle.std.specs.Prelude.{◌≤◌};
 
-use crate::line::{Line, Load};
+use crate::line::{Line, Load, Slide};
 use crate::source::Source;
 use crate::told::{
-    Said, Told, drop_told, forget_told, print_stats, print_told, put_told, refused, sweep_told,
-    told_by,
+    Said, Told, drop_told, forget_told, peek_told, print_stats, print_told, put_told, refused,
+    slide_told, sweep_told, told_by,
 };
 use std::alloc::Global;
 use std::io::Print;
 use std::sync::Wait;
 use wt_cache::LoadingCache;
 use wt_core::{Call, Notices, Reply};
-use wt_keys::Fault;
 use wt_shards::{Books, Pass, Shards};
 use wt_tests::Loaded;
 
@@ -60,13 +59,27 @@ fn play_line<'s, B: Books, R: Print + Wait>(
         Line::Call(Call::Clean(now)) => play_sweep(rt, alloc, cache, pass, false, now),
         Line::Call(Call::Clear(now)) => play_sweep(rt, alloc, cache, pass, true, now),
         Line::Call(call) => play_call(rt, alloc, cache, pass, call),
+        Line::Peek(key, now) => play_peek(rt, cache, pass, key, now),
         Line::Get(key, load, now) => {
             source.tell(load);
             play_get(rt, alloc, cache, pass, key, now)
         }
+        Line::Slide(key, slide) => play_slide(rt, alloc, cache, pass, key, slide),
         Line::Stats => Ok(print_stats(rt, &cache.stats(rt))?),
         Line::Order | Line::Nothing => Ok(()),
     }
+}
+
+fn play_peek<'s, B: Books, R: Print + Wait>(
+    rt: &R,
+    cache: &Cache<'s, B>,
+    pass: &mut Pass<u64, Loaded, B>,
+    key: u64,
+    now: u64,
+) -> anyhow::Result<()> {
+    let (step, said) = peek_told(cache.peek(rt, pass, key, now));
+    print_told(rt, step, &said, &[], &[])?;
+    Ok(())
 }
 
 // A call at every shard. It reports how many steps the pass made at the first.
@@ -79,9 +92,6 @@ fn play_sweep<'s, B: Books, R: Print + Wait>(
     now: u64,
 ) -> anyhow::Result<()> {
     let count = cache.shards();
-    if count > 4 {
-        return Err(Fault::Mixed.into());
-    }
     let mut left = Notices::new(alloc, count * cache.entries() as usize)?;
     let (outcome, reply) = if all {
         (
@@ -92,6 +102,21 @@ fn play_sweep<'s, B: Books, R: Print + Wait>(
         (cache.clean_up(rt, pass, now, &mut left), Reply::Cleaned)
     };
     let (step, said) = sweep_told(outcome, reply, pass.steps(0));
+    print_told(rt, step, &said, left.list(), &[])?;
+    Ok(())
+}
+
+fn play_slide<'s, B: Books, R: Print + Wait>(
+    rt: &R,
+    alloc: Global,
+    cache: &Cache<'s, B>,
+    pass: &mut Pass<u64, Loaded, B>,
+    key: u64,
+    slide: Slide,
+) -> anyhow::Result<()> {
+    let Slide { wider, now } = slide;
+    let mut left = Notices::new(alloc, cache.entries() as usize)?;
+    let (step, said) = slide_told(cache.slide(rt, pass, key, wider, now, &mut left));
     print_told(rt, step, &said, left.list(), &[])?;
     Ok(())
 }

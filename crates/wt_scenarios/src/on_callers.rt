@@ -1,16 +1,15 @@
 // The lines on a `LoadingCache`, each call by a caller that is lent for it.
-use crate::line::{Line, Load};
+use crate::line::{Line, Load, Slide};
 use crate::source::Source;
 use crate::told::{
-    Said, Told, drop_told, forget_told, print_stats, print_told, put_told, refused, sweep_told,
-    told_by,
+    Said, Told, drop_told, forget_told, peek_told, print_stats, print_told, put_told, refused,
+    slide_told, sweep_told, told_by,
 };
 use std::alloc::Global;
 use std::io::Print;
 use std::sync::Wait;
 use wt_cache::{Caller, Callers, LoadingCache};
 use wt_core::{Call, Notices, Reply};
-use wt_keys::Fault;
 use wt_shards::{Books, Shards};
 use wt_tests::Loaded;
 
@@ -56,10 +55,26 @@ fn play_line<'s, B: Books, R: Print + Wait>(
         Line::Call(Call::Clean(now)) => play_sweep(rt, alloc, callers, false, now),
         Line::Call(Call::Clear(now)) => play_sweep(rt, alloc, callers, true, now),
         Line::Call(call) => play_call(rt, callers, call),
+        Line::Peek(key, now) => play_peek(rt, callers, key, now),
         Line::Get(key, load, now) => play_get(rt, callers, source, key, load, now),
+        Line::Slide(key, slide) => play_slide(rt, callers, key, slide),
         Line::Stats => Ok(print_stats(rt, &callers.cache().stats(rt))?),
         Line::Order | Line::Nothing => Ok(()),
     }
+}
+
+fn play_peek<'s, B: Books, R: Print + Wait>(
+    rt: &R,
+    callers: &Lender<'s, B>,
+    key: u64,
+    now: u64,
+) -> anyhow::Result<()> {
+    let mut caller = callers.lend(rt)?;
+    let (step, said) = peek_told(caller.peek(key, now));
+    let printed = print_told(rt, step, &said, caller.left(), &[]);
+    caller.give_back();
+    printed?;
+    Ok(())
 }
 
 // A call at every shard. A caller isn't told how many steps it made, and lists only what left by its
@@ -73,9 +88,6 @@ fn play_sweep<'s, B: Books, R: Print + Wait>(
 ) -> anyhow::Result<()> {
     let cache = callers.cache();
     let count = cache.shards();
-    if count > 4 {
-        return Err(Fault::Mixed.into());
-    }
     let mut left = Notices::new(alloc, count * cache.entries() as usize)?;
     let mut caller = callers.lend(rt)?;
     let (outcome, reply) = if all {
@@ -85,6 +97,20 @@ fn play_sweep<'s, B: Books, R: Print + Wait>(
     };
     let (step, said) = sweep_told(outcome, reply, 0);
     let printed = print_told(rt, step, &said, left.list(), caller.left());
+    caller.give_back();
+    printed?;
+    Ok(())
+}
+
+fn play_slide<'s, B: Books, R: Print + Wait>(
+    rt: &R,
+    callers: &Lender<'s, B>,
+    key: u64,
+    slide: Slide,
+) -> anyhow::Result<()> {
+    let mut caller = callers.lend(rt)?;
+    let (step, said) = slide_told(caller.slide(key, slide.wider, slide.now));
+    let printed = print_told(rt, step, &said, caller.left(), &[]);
     caller.give_back();
     printed?;
     Ok(())

@@ -1,6 +1,6 @@
 // The lines on a `Core`.
-use crate::line::{Line, Load};
-use crate::told::{Said, print_keys, print_stats, print_told};
+use crate::line::{Line, Load, Slide};
+use crate::told::{Said, peek_told, print_keys, print_stats, print_told};
 use std::alloc::Global;
 use std::io::Print;
 use wt_cache::How;
@@ -40,7 +40,11 @@ fn play_lines<R: Print>(
 fn play_line<R: Print>(rt: &R, alloc: Global, core: &mut Cache, line: Line) -> anyhow::Result<()> {
     match line {
         Line::Call(call) => play_call(rt, alloc, core, call),
+        Line::Peek(key, now) => play_peek(rt, core, key, now),
         Line::Get(key, load, now) => play_get(rt, alloc, core, key, load, now),
+        Line::Slide(_, Slide { wider, now }) => {
+            play_call(rt, alloc, core, Call::Slide { wider, now })
+        }
         Line::Stats => Ok(print_stats(rt, &core.stats())?),
         Line::Order => print_order(rt, alloc, core),
         Line::Nothing => Ok(()),
@@ -56,6 +60,12 @@ fn play_call<R: Print>(
     let mut left = Notices::new(alloc, core.entries() as usize)?;
     let reply = core.take(call, &mut left)?;
     print_told(rt, core.step(), &Said::Reply(reply), left.list(), &[])?;
+    Ok(())
+}
+
+fn play_peek<R: Print>(rt: &R, core: &Cache, key: u64, now: u64) -> anyhow::Result<()> {
+    let (step, said) = peek_told(core.peek(key, now));
+    print_told(rt, step, &said, &[], &[])?;
     Ok(())
 }
 

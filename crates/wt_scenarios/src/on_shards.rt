@@ -1,10 +1,10 @@
 // The lines on `Shards`, with one pass.
 ghost use Rattle.std.specs.Prelude.{◌≤◌};
 
-use crate::line::Line;
+use crate::line::{Line, Slide};
 use crate::told::{
-    Said, Told, drop_told, forget_told, print_stats, print_told, put_told, refused, sweep_told,
-    told_by,
+    Said, Told, drop_told, forget_told, peek_told, print_stats, print_told, put_told, refused,
+    slide_told, sweep_told, told_by,
 };
 use std::alloc::Global;
 use std::io::Print;
@@ -62,10 +62,24 @@ fn play_line<B: Books, R: Print + Wait>(
         Line::Call(Call::Clean(now)) => play_sweep(rt, alloc, shards, pass, false, now),
         Line::Call(Call::Clear(now)) => play_sweep(rt, alloc, shards, pass, true, now),
         Line::Call(call) => play_call(rt, alloc, shards, pass, leads, call),
+        Line::Peek(key, now) => play_peek(rt, shards, pass, key, now),
+        Line::Slide(key, slide) => play_slide(rt, alloc, shards, pass, key, slide),
         Line::Get(_, _, _) => Ok(print_told(rt, 0, &Said::NoSuchCall, &[], &[])?),
         Line::Stats => Ok(print_stats(rt, &shards.stats(rt))?),
         Line::Order | Line::Nothing => Ok(()),
     }
+}
+
+fn play_peek<B: Books, R: Print + Wait>(
+    rt: &R,
+    shards: &Cache<B>,
+    pass: &mut Pass<u64, Loaded, B>,
+    key: u64,
+    now: u64,
+) -> anyhow::Result<()> {
+    let (step, said) = peek_told(shards.peek(rt, pass, key, now));
+    print_told(rt, step, &said, &[], &[])?;
+    Ok(())
 }
 
 // A call at every shard. It reports how many steps the pass made at the first.
@@ -78,9 +92,6 @@ fn play_sweep<B: Books, R: Print + Wait>(
     now: u64,
 ) -> anyhow::Result<()> {
     let count = shards.shards();
-    if count > 4 {
-        return Err(Fault::Mixed.into());
-    }
     let mut left = Notices::new(alloc, count * shards.entries() as usize)?;
     let (outcome, reply) = if all {
         (shards.clear(rt, pass, now, &mut left), Reply::Cleared)
@@ -88,6 +99,21 @@ fn play_sweep<B: Books, R: Print + Wait>(
         (shards.clean(rt, pass, now, &mut left), Reply::Cleaned)
     };
     let (step, said) = sweep_told(outcome, reply, pass.steps(0));
+    print_told(rt, step, &said, left.list(), &[])?;
+    Ok(())
+}
+
+fn play_slide<B: Books, R: Print + Wait>(
+    rt: &R,
+    alloc: Global,
+    shards: &Cache<B>,
+    pass: &mut Pass<u64, Loaded, B>,
+    key: u64,
+    slide: Slide,
+) -> anyhow::Result<()> {
+    let Slide { wider, now } = slide;
+    let mut left = Notices::new(alloc, shards.entries() as usize)?;
+    let (step, said) = slide_told(shards.slide(rt, pass, key, wider, now, &mut left));
     print_told(rt, step, &said, left.list(), &[])?;
     Ok(())
 }

@@ -34,6 +34,15 @@ pub fn refused(fault: Fault) -> Told {
     (0, Said::Reply(Reply::Refused(fault)))
 }
 
+/// Returns the result of a peek, which is no step.
+pub fn peek_told(outcome: Result<Option<Loaded>, Fault>) -> Told {
+    match outcome {
+        Ok(Some(value)) => (0, Said::Reply(Reply::Hit(value))),
+        Ok(None) => (0, Said::Reply(Reply::Absent)),
+        Err(fault) => refused(fault),
+    }
+}
+
 /// Returns the result of a store.
 pub fn put_told(outcome: Result<Done<()>, Fault>) -> Told {
     match outcome {
@@ -54,6 +63,14 @@ pub fn drop_told(outcome: Result<Done<bool>, Fault>) -> Told {
 pub fn forget_told(outcome: Result<Done<bool>, Fault>) -> Told {
     match outcome {
         Ok(done) => (done.step, Said::Reply(Reply::Forgot(done.reply))),
+        Err(fault) => refused(fault),
+    }
+}
+
+/// Returns the result of a slide.
+pub fn slide_told(outcome: Result<Done<bool>, Fault>) -> Told {
+    match outcome {
+        Ok(done) => (done.step, Said::Reply(Reply::Slid(done.reply))),
         Err(fault) => refused(fault),
     }
 }
