@@ -3,6 +3,7 @@
 // one pass is left out, and `settle` returns a fault.
 mod handing;
 mod page;
+mod peeking;
 mod reading;
 mod session;
 mod writer;
@@ -35,14 +36,17 @@ fn run<R: Threads + Wait + Sync>(rt: &R, alloc: Global, all: bool) -> Result<See
     session::<Brand, R>(rt, alloc, Blanks::new(), &CONFIG, all)
 }
 
-/// Prints what the second caller reads, and what `settle` returns, with all passes and without one.
+/// Prints what the second caller finds, and what `settle` returns, with all passes and without one.
 pub fn show<R: Print + Threads + Wait + Sync>(rt: &R, alloc: Global) -> anyhow::Result<()> {
     for all in [true, false] {
         match run(rt, alloc, all) {
             Ok(seen) => {
-                println!(rt; "the second caller reads version {}", seen.version)?;
-                println!(rt; "after 999 ms it reads version {}", seen.young)?;
-                println!(rt; "after 1000 ms it reads version {}", seen.old)?;
+                println!(rt; "the second caller reads version {}", seen.read.new)?;
+                println!(rt; "after 999 ms it reads version {}", seen.read.young)?;
+                println!(rt; "after 1000 ms it reads version {}", seen.read.old)?;
+                println!(rt; "it peeks at version {}", seen.peeked.new)?;
+                println!(rt; "after 999 ms it peeks at version {}", seen.peeked.young)?;
+                println!(rt; "after 1000 ms it peeks at version {}", seen.peeked.old)?;
                 println!(rt; "{} steps, and no pass is missing", seen.steps)?;
             }
             Err(fault) => println!(rt; "fault {}: {fault}", fault.number())?,

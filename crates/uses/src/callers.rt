@@ -3,7 +3,7 @@ ghost use Rattle.std.specs.Prelude.{◌*◌, ◌≤◌};
 
 use crate::source::{Page, Source};
 use std::sync::Wait;
-use wt_cache::{Caller, Callers, How, Tally};
+use wt_cache::{Caller, Callers, Followers, How, Tally};
 use wt_core::{Notices, Reply};
 use wt_keys::Fault;
 use wt_shards::Books;
@@ -27,6 +27,18 @@ pub fn get_if_present<B: Books, R: Wait>(
     match caller.get_if_present(number, now)?.reply {
         Reply::Hit(page) => Ok(Some(page.value)),
         _absent => Ok(None),
+    }
+}
+
+/// Returns the words of a page, if it is there, with nothing used.
+pub fn peek<B: Books, R: Wait>(
+    caller: &mut Caller<u64, Page, &Source, B, R>,
+    number: u64,
+    now: u64,
+) -> Result<Option<u64>, Fault> {
+    match caller.peek(number, now)? {
+        Some(page) => Ok(Some(page.value)),
+        None => Ok(None),
     }
 }
 
@@ -61,6 +73,28 @@ pub fn forget<B: Books, R: Wait>(
     now: u64,
 ) -> Result<bool, Fault> {
     Ok(caller.forget(number, now)?.reply)
+}
+
+/// Makes the window of a page's shard wider, and returns whether that was possible.
+pub fn slide<B: Books, R: Wait>(
+    caller: &mut Caller<u64, Page, &Source, B, R>,
+    number: u64,
+    now: u64,
+) -> Result<bool, Fault> {
+    Ok(caller.slide(number, true, now)?.reply)
+}
+
+/// Returns the words of a page, and lets the window of its shard follow this look-up.
+pub fn follow<B: Books, R: Wait>(
+    caller: &mut Caller<u64, Page, &Source, B, R>,
+    followers: &Followers<u64>,
+    number: u64,
+    now: u64,
+) -> Result<u64, Fault> {
+    let got = caller.get(number, now)?;
+    // A window that stays for once is no reason to refuse the page.
+    let _slides = caller.follow(followers, number, now);
+    Ok(got.value.value)
 }
 
 /// Takes all pages out. `left` has room for those of all shards.

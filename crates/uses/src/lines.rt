@@ -12,12 +12,8 @@ use wt_shards::{Books, Pass, Shards};
 pub type Cached<B> = LoadingCache<u64, Page, Source, B>;
 
 /// Puts a cache before the source, with a line where 64 loads may wait for workers.
-pub fn new<B: Books, R: Wait>(
-    rt: &R,
-    alloc: Global,
-    shards: Shards<u64, Page, B>,
-) -> Result<Cached<B>, Fault> {
-    let line = JobLine::new(rt, alloc, 64)?;
+pub fn new<B: Books>(alloc: Global, shards: Shards<u64, Page, B>) -> Result<Cached<B>, Fault> {
+    let line = JobLine::new(alloc, 64)?;
     Ok(LoadingCache::new(shards, Source {}, Some(line)))
 }
 

@@ -95,9 +95,10 @@ pub fn clean(alloc: Global, pages: &mut Pages, now: u64) -> Result<usize, Fault>
     Ok(left.list().len())
 }
 
-/// Gives window a place of main, and returns whether it took it.
-pub fn slide(pages: &mut Pages, now: u64) -> Result<bool, Fault> {
-    pages.slide(true, now)
+/// Gives window a place of main, if it can, and returns how many entries window may hold then.
+pub fn slide(pages: &mut Pages, now: u64) -> Result<u32, Fault> {
+    pages.slide(true, now)?;
+    Ok(pages.window())
 }
 
 /// Makes a call that came as data, and returns whether it hit. A refusal is a reply here.

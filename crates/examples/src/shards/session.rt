@@ -5,6 +5,7 @@ ghost use Rattle.wt_shards.specs.Opening.{AreBlanksOf};
 
 use crate::shards::handing::hand_over;
 use crate::shards::page::Page;
+use crate::shards::peeking::{peek, put_and_peek};
 use crate::shards::reading::read;
 use crate::shards::writer::put_ten;
 use std::alloc::Global;
@@ -15,15 +16,24 @@ use wt_core::{Config, Notices, Reply};
 use wt_keys::Fault;
 use wt_shards::{Blanks, Books, Names, Of, Pass, Shards};
 
-/// What the second caller reads, and how many steps were made.
+/// The versions of a page that was put for the second caller; 0 if it isn't served.
+#[derive(Clone, Copy)]
+pub struct Versions {
+    /// At once.
+    pub new: u64,
+    /// After 999 ms.
+    pub young: u64,
+    /// After 1000 ms.
+    pub old: u64,
+}
+
+/// What the second caller finds, and how many steps were made.
 #[derive(Clone, Copy)]
 pub struct Seen {
-    /// The version of the page that was handed over, at moment 0.
-    pub version: u64,
-    /// Its version at moment 999.
-    pub young: u64,
-    /// Its version at moment 1000; 0 if it isn't served.
-    pub old: u64,
+    /// What it reads, by steps of its own.
+    pub read: Versions,
+    /// What it peeks at, which is no step.
+    pub peeked: Versions,
     /// How many steps the settled books hold.
     pub steps: u64,
 }
@@ -36,15 +46,15 @@ fn version_of(found: Reply<Page>) -> u64 {
     }
 }
 
-// Hands a page over from the first caller to the second one. Returns the version that this one reads
-// at moment 0, at 999 and at 1000.
+// Hands a page over from the first caller to the second one, which reads it at moment 0, at 999 and
+// at 1000.
 fn hands_over<B: Books, R: Wait>(
     rt: &R,
     alloc: Global,
     shards: &Shards<u64, Page, B>,
     a: &mut Pass<u64, Page, B>,
     b: &mut Pass<u64, Page, B>,
-) -> Result<(u64, u64, u64), Fault> {
+) -> Result<Versions, Fault> {
     let mut notices = Notices::new(alloc, 2 * shards.entries() as usize)?;
     let page = Page {
         number: 5,
@@ -53,11 +63,43 @@ fn hands_over<B: Books, R: Wait>(
     let (_, found) = hand_over(rt, shards, a, b, page.number, page, 0, &mut notices)?;
     let later = read(rt, alloc, shards, b, page.number, 999)?;
     let latest = read(rt, alloc, shards, b, page.number, 1000)?;
-    Ok((
-        version_of(found.reply),
-        version_of(later.reply),
-        version_of(latest.reply),
-    ))
+    Ok(Versions {
+        new: version_of(found.reply),
+        young: version_of(later.reply),
+        old: version_of(latest.reply),
+    })
+}
+
+// The version that a peek finds, or 0.
+fn peeked_version(found: Option<Page>) -> u64 {
+    match found {
+        Some(page) => page.version,
+        None => 0,
+    }
+}
+
+// Puts a page with the first caller's pass at moment 1000. The second one peeks at it then, at 1999
+// and at 2000.
+fn puts_and_peeks<B: Books, R: Wait>(
+    rt: &R,
+    alloc: Global,
+    shards: &Shards<u64, Page, B>,
+    a: &mut Pass<u64, Page, B>,
+    b: &mut Pass<u64, Page, B>,
+) -> Result<Versions, Fault> {
+    let mut notices = Notices::new(alloc, shards.entries() as usize)?;
+    let page = Page {
+        number: 6,
+        version: 98,
+    };
+    let (_, found) = put_and_peek(rt, shards, a, b, page.number, page, 1000, &mut notices)?;
+    let later = peek(rt, shards, b, page.number, 1999)?;
+    let latest = peek(rt, shards, b, page.number, 2000)?;
+    Ok(Versions {
+        new: peeked_version(found),
+        young: peeked_version(later),
+        old: peeked_version(latest),
+    })
 }
 
 type Passes<B> = (Pass<u64, Page, B>, Pass<u64, Page, B>);
@@ -111,9 +153,9 @@ fn settles<N: Names, R: Wait>(
     Ok(steps)
 }
 
-/// Lets two threads put ten pages each, and hands a page over from the first one to the second.
+/// Lets two threads put ten pages each, and hands two pages over from the first one to the second.
 ///
-/// Returns what the second one reads of it, then and later. If not all passes are handed back,
+/// Returns what the second one finds of them, then and later. If not all passes are handed back,
 /// returns the fault that tells of it.
 pub fn session<N: Names + Send + Sync, R: Threads + Wait + Sync>(
     rt: &R,
@@ -127,12 +169,12 @@ pub fn session<N: Names + Send + Sync, R: Threads + Wait + Sync>(
 {
     let shards: Shards<u64, Page, Of<N>> = Shards::new(rt, alloc, blanks, config, 4)?;
     let (mut a, mut b) = puts(rt, alloc, &shards)?;
-    let (version, young, old) = hands_over(rt, alloc, &shards, &mut a, &mut b)?;
+    let read = hands_over(rt, alloc, &shards, &mut a, &mut b)?;
+    let peeked = puts_and_peeks(rt, alloc, &shards, &mut a, &mut b)?;
     let steps = settles(rt, alloc, shards, (a, b), all)?;
     Ok(Seen {
-        version,
-        young,
-        old,
+        read,
+        peeked,
         steps,
     })
 }
