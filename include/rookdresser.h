@@ -68,7 +68,7 @@ static inline rd_name rd_name_of(const void *bytes, size_t length) {
  * entry has expired by then. */
 typedef struct rd_setup {
     uint32_t entries;      /* at most so many entries: 1 to 65,536 */
-    uint32_t window;       /* so many of them in the window: 1 to entries; a hundredth is a good choice */
+    uint32_t window;       /* so many of them in the window: 1 to entries; a hundredth is a good choice if the same keys stay popular */
     uint32_t flights;      /* at most so many open loads: 1 to 4,096 */
     uint64_t bound;        /* the most that all entries may weigh together: 1 to 2^48 */
     uint64_t after_write;  /* an entry expires so many ms after it was written; 0: never */
@@ -110,7 +110,8 @@ enum rd_kind {
     RD_CLEARED = 12,
     RD_FORGOT = 13,   /* number: 1 if there was a load, else 0 */
     RD_CLEANED = 14,
-    RD_REFUSED = 15   /* number: the fault, which the call also returns */
+    RD_REFUSED = 15,  /* number: the fault, which the call also returns */
+    RD_SLID = 16      /* number: 1 if the border moved, else 0 */
 };
 
 /* The answer of a call. */
@@ -183,7 +184,7 @@ uint64_t rd_open_names(const rd_setup *setup, rd_cache *cache);
  * the cache is closed already. */
 uint64_t rd_close(rd_cache *cache);
 
-/* Each of the ten calls below makes one step at the moment now and writes its answer, or is refused. On a closed cache it
+/* Each of the eleven calls below makes one step at the moment now and writes its answer, or is refused. On a closed cache it
  * returns RD_CLOSED and writes nothing. On a cache of names, a call with a key returns RD_OTHER_KEYS and writes nothing. */
 
 /* Looks the key up: RD_HIT, which is a use, or RD_ABSENT. Only a hit of an entry in probation takes memory: one that came
@@ -223,6 +224,10 @@ uint64_t rd_clear(rd_cache *cache, uint64_t now, rd_answer *answer);
 /* Removes every expired entry: RD_CLEANED. Takes no memory. */
 uint64_t rd_clean(rd_cache *cache, uint64_t now, rd_answer *answer);
 
+/* Makes the window wider by one entry, or narrower: RD_SLID. A window of all entries can't become wider, nor one of one entry
+ * narrower. No entry leaves. Only a slide that moves something takes memory. */
+uint64_t rd_slide(rd_cache *cache, bool wider, uint64_t now, rd_answer *answer);
+
 /* The eight calls with a key, for a cache of names. Each does the same as its namesake for numbers, or writes nothing and
  * returns RD_NAME_TOO_LONG, RD_CLOSED, or RD_OTHER_KEYS, in this order. */
 uint64_t rd_look_name(rd_cache *cache, const rd_name *key, uint64_t now, rd_answer *answer);
@@ -254,6 +259,14 @@ uint64_t rd_drop_name_with_notice(rd_cache *cache, const rd_name *key, uint64_t 
  * A call that returns RD_CLOSED or RD_OTHER_KEYS writes nothing. */
 uint64_t rd_look_many(rd_cache *cache, rd_looked *looks, size_t n, uint64_t *made);
 
+/* Writes the answer that rd_look would have, RD_HIT or RD_ABSENT, and is no step: it uses no entry, counts nothing, leaves
+ * the latest moment, and the notices of the call before it can still be read. Takes no memory. On a closed cache it returns
+ * RD_CLOSED, on a cache of names RD_OTHER_KEYS, and writes nothing. */
+uint64_t rd_peek(rd_cache *cache, uint64_t key, uint64_t now, rd_answer *answer);
+
+/* The same by name. It is refused as the calls by name are. */
+uint64_t rd_peek_name(rd_cache *cache, const rd_name *key, uint64_t now, rd_answer *answer);
+
 /* Writes notice i, from 0, of the latest of these calls. RD_NO_SUCH_NOTICE if there is none. */
 uint64_t rd_get_notice(rd_cache *cache, uint64_t i, rd_notice *notice);
 
@@ -262,6 +275,32 @@ uint64_t rd_get_notice_name(rd_cache *cache, uint64_t i, rd_name_notice *notice)
 
 /* Writes the numbers of the cache. */
 uint64_t rd_get_numbers(rd_cache *cache, rd_numbers *numbers);
+
+/* Writes how many entries the window may hold now: as many as the setup has, unless slides moved its border. */
+uint64_t rd_get_window(rd_cache *cache, uint32_t *window);
+
+/* An adviser says how many entries the window should hold: of a cache, or of several with one policy together. It keeps four
+ * small caches with windows of 1, 10, 40 and 100 hundredths, which look a sample of the keys up, and wants the window of the
+ * one that hits most. It takes keys that are numbers; for a cache of names, give it a number for each name, as a hash is. The
+ * rules for an rd_cache hold for it too. If all its bytes are zero, it is closed. */
+typedef struct rd_adviser {
+    void *at;
+    bool is_open;
+} rd_adviser;
+#define RD_ADVISER_INIT {0, false}
+
+/* Opens an adviser for entries entries, 512 to 4,194,304. Faults, in this order: RD_OPEN_ALREADY; RD_BAD_SETUP if entries is
+ * out of its range; RD_OUT_OF_MEMORY. A fault leaves the adviser as it was. It keeps at most entries / 16 keys, or 256. */
+uint64_t rd_open_adviser(uint32_t entries, rd_adviser *adviser);
+
+/* Shows the adviser the look-ups of n keys, in their order and whether they hit or not, and sets window to how many entries it
+ * wants the window to hold: 1 to entries, and 40 hundredths at first. A call of rd_slide then moves the window by one entry.
+ * RD_OUT_OF_MEMORY if a small cache was refused memory: it has not seen a key then, but all else is done, so the caller may go
+ * on. RD_CLOSED writes nothing. keys isn't null even if n is 0. */
+uint64_t rd_advise(rd_adviser *adviser, const uint64_t *keys, size_t n, uint32_t *window);
+
+/* Closes the adviser and frees its memory. Returns RD_CLOSED if it is closed already. */
+uint64_t rd_close_adviser(rd_adviser *adviser);
 
 #ifdef __cplusplus
 }

@@ -5,7 +5,7 @@ use mir.Syntax.{impl, tnil, dnil, ty_ptr}
 use mir.Val.{Val, vstruct, vcons, vnil, has_ty, WT}
 use denote.RawPtr.{Ptr, block_ptr, null_ptr, ptr_val}
 use denote.Signature.{Slot, plain}
-use Rattle.core.proofs.alloc.Calls.{α, Fits}
+use Rattle.core.proofs.alloc.Calls.{Al, α, Fits}
 use Rattle.std_alloc.proofs.ResultValues.{and_tt}
 use Rattle.std_alloc.proofs.BoxSteps.Form.{Bx, box_ty}
 use Rattle.std_heap.specs.contracts.Global as Heap
@@ -16,14 +16,13 @@ use Rattle.wt_ffi.proofs.opened.Opened.TheLaws as opened
 use Rattle.wt_ffi.specs.contracts.raw_box.RawBox as RawBox
 use Rattle.wt_ffi.specs.contracts.pointer.Pointer as Pointer
 
+-- the heap
+abbrev pub heap_al : Al
+heap_al = record { row = Heap.the_row; laws = heap.the_row_laws; g = ghosts; d = dict; drops = impl [] tnil dnil }
+
 -- a box of an open cache, on the heap
 abbrev pub cache_box : Bx
-cache_box = record {
-  row = Opened.the_row;
-  laws = opened.the_row_laws;
-  al =
-      record { row = Heap.the_row; laws = heap.the_row_laws; g = ghosts; d = dict; drops = impl [] tnil dnil };
-}
+cache_box = record { row = Opened.the_row; laws = opened.the_row_laws; al = heap_al }
 
 -- its parts, as a parameter
 abbrev pub Parts : Slot 0

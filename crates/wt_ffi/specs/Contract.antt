@@ -1,5 +1,5 @@
 -- What C's calls promise that come twice or more: one record for the steps of an open cache, one for steps by number, one for steps by
--- name, one for sweeps, one for openings, one for notices, one for several look-ups. `told` is what is told after the call and `before` what stood there, `old` and `new` are the handle.
+-- name, one for calls that name no key, one for openings, one for notices, one for several look-ups. `told` is what is told after the call and `before` what stood there, `old` and `new` are the handle.
 use Rattle.std.specs.Prelude.{◌≡◌, ◌<◌, ℕ, Bool, List, Option, IfSome, IsNone, IsSome}
 use Rattle.wt_core.specs.State.{config_fault}
 use Rattle.wt_core.specs.declared.calls.Call.{Call}
@@ -8,7 +8,7 @@ use Rattle.wt_ffi.specs.declared.handle.Handle.{Handle}
 use Rattle.wt_ffi.specs.declared.opened.Opened.{Opened}
 use Rattle.wt_ffi.specs.declared.setup.Setup.{Setup}
 use Rattle.wt_ffi.specs.declared.steps.look_many.Looked.{Looked}
-use Rattle.wt_ffi.specs.declared.sweeps.Sweep.{Sweep}
+use Rattle.wt_ffi.specs.declared.keyless.Keyless.{Keyless}
 use Rattle.wt_ffi.specs.declared.text.Text.{Text}
 use Rattle.wt_ffi.specs.declared.token.Token.{Token}
 use Rattle.wt_ffi.specs.Calls as calls
@@ -20,7 +20,7 @@ use Rattle.wt_ffi.specs.Numbered as by_number
 use Rattle.wt_ffi.specs.Open.{Open}
 use Rattle.wt_ffi.specs.Setups.{Opens, config_of}
 use Rattle.wt_ffi.specs.Shows.{Reads}
-use Rattle.wt_ffi.specs.Sweeps as by_sweep
+use Rattle.wt_ffi.specs.Keyless as keyless
 
 -- a step of an open cache, whose keys are compared by eq and counted by their words
 pub record IsStepMade {K : Type 0} (eq : K → K → Bool) (word : K → ℕ) (call : Call K Token) (old new : Open K) (told : Answer) (result : ℕ) : Type 0 where
@@ -67,18 +67,18 @@ pub record IsNameCall (call : List ℕ → ℕ → Call (List ℕ) Token) (key :
   -- nothing happens if the name is too long, the cache closed or its keys numbers
   pub unasked : IsNone (asked key old) → (result ≡ number_unasked key old) × (cache_of new ≡ cache_of old) × (told ≡ before)
 
--- a call that goes through all entries: on an open cache the definition's step, and else nothing, which the number returned tells
-pub record IsSweptCall (sweep : Sweep) (now : ℕ) (old new : Handle) (before told : Answer) (result : ℕ) : Type 0 where
-  -- the cache after the step
-  pub state : IfOpen old (λ c. Has new (by_sweep.after told sweep now c))
+-- a call that names no key: on an open cache the definition's step, and else nothing, which the number returned tells
+pub record IsKeylessCall (call : Keyless) (now : ℕ) (old new : Handle) (before told : Answer) (result : ℕ) : Type 0 where
+  -- the cache after the step; kind 0 stands for a refusal of memory, which changes nothing but the notices
+  pub state : IfOpen old (λ c. Has new (keyless.after told call now c))
   -- the number that is returned: 0, or the fault's
-  pub number : IfOpen old (λ c. result ≡ by_sweep.number_after told sweep now c)
+  pub number : IfOpen old (λ c. result ≡ keyless.number_after told call now c)
   -- what is told of the step
-  pub answer : IfOpen old (λ c. told ≡ by_sweep.answer_after told sweep now c)
-  -- what the state refuses is refused
-  pub refusal : IfOpen old (λ c. by_sweep.IsRefused sweep now c → 0 < told.kind)
-  -- it takes no memory, and is refused none
-  pub memory : IsSome (cache_of old) → 0 < told.kind
+  pub answer : IfOpen old (λ c. told ≡ keyless.answer_after told call now c)
+  -- what the state refuses is refused whatever the memory does
+  pub refusal : IfOpen old (λ c. keyless.IsRefused call now c → 0 < told.kind)
+  -- a call that takes no memory isn't refused any
+  pub memory : IfOpen old (λ c. keyless.IsFree call now c → 0 < told.kind)
   -- nothing happens if the cache is closed
   pub closed : IsIdleIfClosed old new before told result
 

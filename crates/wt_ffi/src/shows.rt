@@ -2,7 +2,7 @@
 ghost use Rattle.std.specs.Prelude.{◌≡◌};
 ghost use Rattle.wt_ffi.specs.Contract.{IsNoticeRead};
 ghost use Rattle.wt_ffi.specs.Handle.{cache_of, IfOpen, IsIdleIfClosed};
-ghost use Rattle.wt_ffi.specs.Shows.{numbers_of, shown_of, IsLawfulOpen, IsLawfulOpened};
+ghost use Rattle.wt_ffi.specs.Shows.{numbers_of, shown_of, IsLawfulOpen, IsLawfulOpened, window_of};
 ghost use Rattle.wt_ffi.specs.Shows.{cause_number, left_of, left_in, Reads};
 
 use crate::cached::Cached;
@@ -119,6 +119,26 @@ pub extern "C" fn rd_get_numbers(alloc: Global, handle: &mut Handle, numbers: &m
     *numbers = match &*opened {
         Opened::Numbers(cache) => cache.numbers(),
         Opened::Names(cache) => cache.numbers(),
+    };
+    handle.give(opened);
+    0
+}
+
+/// Tells how many entries the window may hold now, and returns 0; 100 if the cache is closed.
+///
+/// It is the setup's, unless slides moved the border. Takes no memory. O(1).
+#[unsafe(no_mangle)]
+pub extern "C" fn rd_get_window(alloc: Global, handle: &mut Handle, window: &mut u32) -> u64
+    ensures answer { IfOpen handle.old (λ c. (result ≡ 0) × (window.new ≡ window_of c)) }
+    ensures closed { IsIdleIfClosed handle.old handle.new window.old window.new result }
+    ensures same { cache_of handle.new ≡ cache_of handle.old }
+{
+    let Some(opened) = handle.take(alloc) else {
+        return CLOSED;
+    };
+    *window = match &*opened {
+        Opened::Numbers(cache) => cache.core.window(),
+        Opened::Names(cache) => cache.core.window(),
     };
     handle.give(opened);
     0

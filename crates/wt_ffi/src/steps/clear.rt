@@ -1,12 +1,14 @@
 // The removal of every entry, whichever keys the cache has.
-ghost use Rattle.wt_ffi.specs.declared.sweeps.Sweep.TheVariants as sweep;
+ghost use Rattle.std.specs.Prelude.{◌<◌, IsSome};
+ghost use Rattle.wt_ffi.specs.declared.keyless.Keyless.TheVariants as keyless;
 ghost use Rattle.wt_core.specs.declared.calls.Call.TheVariants.{Clear};
-ghost use Rattle.wt_ffi.specs.Contract.{IsStepMade, IsSweptCall};
+ghost use Rattle.wt_ffi.specs.Contract.{IsStepMade, IsKeylessCall};
+ghost use Rattle.wt_ffi.specs.Handle.{cache_of};
 
 use crate::answer::{Answer, answer_of, number_of};
 use crate::cached::{Cached, answered};
 use crate::handle::Handle;
-use crate::sweeps::{Sweep, make_sweep};
+use crate::keyless::{Keyless, make_keyless};
 use std::alloc::Global;
 use wt_core::Reply;
 use wt_keys::{CacheKey, Fault};
@@ -26,7 +28,8 @@ impl<K: CacheKey> Cached<K> {
 /// Takes no memory. O(entries).
 #[unsafe(no_mangle)]
 pub extern "C" fn rd_clear(alloc: Global, handle: &mut Handle, now: u64, answer: &mut Answer) -> u64
-    ensures made { IsSweptCall sweep.Clear now handle.old handle.new answer.old answer.new result }
+    ensures made { IsKeylessCall keyless.Clear now handle.old handle.new answer.old answer.new result }
+    ensures memory { IsSome (cache_of handle.old) → 0 < answer.new.kind }
 {
-    make_sweep(alloc, handle, Sweep::Clear, now, answer)
+    make_keyless(alloc, handle, Keyless::Clear, now, answer)
 }

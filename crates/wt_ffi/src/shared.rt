@@ -1,0 +1,12 @@
+// A cache that C's threads share: a handle for each thread, and calls that never wait.
+pub(crate) mod calls;
+mod handle;
+pub(crate) mod keyless;
+mod make;
+pub(crate) mod opening;
+pub(crate) mod pointer;
+pub(crate) mod reads;
+mod sharing;
+
+pub use handle::SharedHandle;
+pub use sharing::Sharing;

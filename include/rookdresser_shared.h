@@ -1,0 +1,125 @@
+/* rookdresser_shared: one proved cache that several threads call at once, for C and whatever calls C.
+ *
+ * Each thread has a handle of its own, a caller. No call waits: if another thread's call is at work, it returns RD_BUSY and
+ * nothing has happened, so call again. rookdresser_waiting.h does that, and sleeps meanwhile.
+ *
+ *     rd_caller mine = RD_CALLER_INIT, theirs = RD_CALLER_INIT;
+ *     if (rd_shared_open(&setup, &mine) || rd_shared_another(&mine, &theirs)) return 1;
+ *     while (rd_shared_put(&mine, 1, (rd_token){7, 2}, 0, &answer) == RD_BUSY);      in one thread
+ *     while (rd_shared_look(&theirs, 1, 0, &answer) == RD_BUSY);                     in another one
+ *
+ * What is proved, of all threads and whatever they do at once: all callers of a cache agree on one list of calls, its
+ * history. A call that isn't busy stands in it, behind every call that its caller had made or met, and its answer and its
+ * notices are those that rd_look and the others of rookdresser.h give at this place. A call that is refused memory changes
+ * nothing, and isn't in the list. No clause says that a call isn't always busy, or is made once and not twice; tests show it.
+ *
+ * The rules of rookdresser.h hold for an rd_caller as for an rd_cache, but that the callers of one cache may be used at the
+ * same time. Nothing checks them, unless you define RD_CHECK before you include this header and in each file that does: then a
+ * call aborts the program if another thread's call is at work in the same caller.
+ *
+ *  - A caller has one call at a time. Another thread may use it next, if a lock or that thread's start or join orders the calls.
+ *  - Two callers that one call takes are different ones.
+ *
+ * A token stands for a value of yours. Once another thread's call has a notice that a token left, that thread may free its
+ * value, while this one still uses it. So let the token be the value, or count the users of each value yourself.
+ */
+#ifndef ROOKDRESSER_SHARED_H
+#define ROOKDRESSER_SHARED_H
+#include "rookdresser.h"
+#ifdef __cplusplus
+extern "C" {
+#endif
+
+/* A caller of a shared cache. If all its bytes are zero, it is closed. */
+typedef struct rd_caller {
+    void *at;
+    bool is_open;
+#ifdef RD_CHECK
+    uint64_t in_use; /* behind what the library knows of */
+#endif
+} rd_caller;
+#ifdef RD_CHECK
+#define RD_CALLER_INIT {0, false, 0}
+#else
+#define RD_CALLER_INIT {0, false}
+#endif
+
+enum rd_shared_fault {
+    RD_BUSY = 105, /* another call is at work in the cache: nothing has happened, and the same call may succeed later */
+    RD_LOST = 106  /* no code leads here, but no clause says so: the cache is lost, and from now on each call is busy. Report it */
+};
+
+/* Opens an empty cache whose keys are numbers, and its first caller. Faults, in this order: RD_OPEN_ALREADY, RD_BAD_SETUP,
+ * RD_OUT_OF_MEMORY. A fault leaves the caller as it was. */
+uint64_t rd_shared_open(const rd_setup *setup, rd_caller *caller);
+
+/* Opens theirs as another caller of the cache of mine, which has met all that mine has. Faults, in this order: RD_OPEN_ALREADY
+ * if theirs is open, RD_CLOSED if mine is closed, RD_OUT_OF_MEMORY. A fault leaves both as they were. A caller takes memory
+ * for as many notices as the cache may hold entries, 32 bytes each, which are touched only if they are used. */
+uint64_t rd_shared_another(rd_caller *mine, rd_caller *theirs);
+
+/* Orders the next calls of mine behind the calls that theirs has made or met. Both are callers of one cache. It does nothing
+ * while the program runs: it is where a program says what it relies on. RD_CLOSED if one of them is closed. */
+uint64_t rd_shared_meet(rd_caller *mine, rd_caller *theirs);
+
+/* Closes the caller. The last one of a cache closes the cache and frees its memory. RD_CLOSED if it is closed already. */
+uint64_t rd_shared_close(rd_caller *caller);
+
+/* Each of the eleven calls below does at its place in the history what its namesake of rookdresser.h does, or is busy. On a
+ * closed caller it returns RD_CLOSED and writes nothing. If it returns RD_BUSY or RD_LOST it writes nothing. */
+uint64_t rd_shared_look(rd_caller *caller, uint64_t key, uint64_t now, rd_answer *answer);
+uint64_t rd_shared_seek(rd_caller *caller, uint64_t key, uint64_t now, rd_answer *answer);
+uint64_t rd_shared_land_keep(rd_caller *caller, uint64_t id, uint64_t key, rd_token value, uint64_t now, rd_answer *answer);
+uint64_t rd_shared_land_loose(rd_caller *caller, uint64_t id, uint64_t key, uint64_t now, rd_answer *answer);
+uint64_t rd_shared_land_failed(rd_caller *caller, uint64_t id, uint64_t key, uint64_t now, rd_answer *answer);
+uint64_t rd_shared_put(rd_caller *caller, uint64_t key, rd_token value, uint64_t now, rd_answer *answer);
+uint64_t rd_shared_drop_key(rd_caller *caller, uint64_t key, uint64_t now, rd_answer *answer);
+uint64_t rd_shared_forget(rd_caller *caller, uint64_t key, uint64_t now, rd_answer *answer);
+uint64_t rd_shared_clear(rd_caller *caller, uint64_t now, rd_answer *answer);
+uint64_t rd_shared_clean(rd_caller *caller, uint64_t now, rd_answer *answer);
+uint64_t rd_shared_slide(rd_caller *caller, bool wider, uint64_t now, rd_answer *answer);
+
+/* Writes notice i, from 0, of this caller's latest call that wasn't busy. RD_NO_SUCH_NOTICE if there is none. */
+uint64_t rd_shared_get_notice(rd_caller *caller, uint64_t i, rd_notice *notice);
+
+/* Writes the place of this caller's latest call in the history, from 1; 0 before its first. A call that the cache refused has a
+ * place too; of one that was refused memory, or that was busy, it is an earlier place. */
+uint64_t rd_shared_get_place(rd_caller *caller, uint64_t *place);
+
+#ifdef RD_CHECK
+#include <stdio.h>
+#include <stdlib.h>
+static inline void rd_enter(rd_caller *caller) {
+    if (__atomic_exchange_n(&caller->in_use, 1, __ATOMIC_SEQ_CST)) {
+        fputs("rookdresser: two threads are in one caller at once\n", stderr);
+        abort();
+    }
+}
+static inline uint64_t rd_leave(rd_caller *caller, uint64_t fault) {
+    __atomic_store_n(&caller->in_use, 0, __ATOMIC_SEQ_CST);
+    return fault;
+}
+/* A macro isn't expanded again in its own text, so these call the functions. */
+#define RD_CHECKED(caller, call) (rd_enter(caller), rd_leave(caller, call))
+#define rd_shared_close(c) RD_CHECKED(c, rd_shared_close(c))
+#define rd_shared_look(c, key, now, a) RD_CHECKED(c, rd_shared_look(c, key, now, a))
+#define rd_shared_seek(c, key, now, a) RD_CHECKED(c, rd_shared_seek(c, key, now, a))
+#define rd_shared_land_keep(c, id, key, value, now, a) RD_CHECKED(c, rd_shared_land_keep(c, id, key, value, now, a))
+#define rd_shared_land_loose(c, id, key, now, a) RD_CHECKED(c, rd_shared_land_loose(c, id, key, now, a))
+#define rd_shared_land_failed(c, id, key, now, a) RD_CHECKED(c, rd_shared_land_failed(c, id, key, now, a))
+#define rd_shared_put(c, key, value, now, a) RD_CHECKED(c, rd_shared_put(c, key, value, now, a))
+#define rd_shared_drop_key(c, key, now, a) RD_CHECKED(c, rd_shared_drop_key(c, key, now, a))
+#define rd_shared_forget(c, key, now, a) RD_CHECKED(c, rd_shared_forget(c, key, now, a))
+#define rd_shared_clear(c, now, a) RD_CHECKED(c, rd_shared_clear(c, now, a))
+#define rd_shared_clean(c, now, a) RD_CHECKED(c, rd_shared_clean(c, now, a))
+#define rd_shared_slide(c, wider, now, a) RD_CHECKED(c, rd_shared_slide(c, wider, now, a))
+#define rd_shared_get_notice(c, i, notice) RD_CHECKED(c, rd_shared_get_notice(c, i, notice))
+#define rd_shared_get_place(c, place) RD_CHECKED(c, rd_shared_get_place(c, place))
+#define rd_shared_another(c, d) (rd_enter(c), rd_enter(d), rd_leave(c, rd_leave(d, rd_shared_another(c, d))))
+#define rd_shared_meet(c, d) (rd_enter(c), rd_enter(d), rd_leave(c, rd_leave(d, rd_shared_meet(c, d))))
+#endif
+
+#ifdef __cplusplus
+}
+#endif
+#endif
