@@ -14,6 +14,7 @@ from pathlib import Path
 from edit_sums import sum_of
 from edit_trials import AT_LIMIT, BY_OTHER, REFUSED
 from edits import batches_of
+from kit import store
 from places import TOP
 from progress import Line
 
@@ -29,9 +30,9 @@ class Verdicts:
         self.folder, self.logic = folder, logic
 
     @classmethod
-    def of_kit(cls, kit, logic):
-        store = Path(kit.KIT).parent / "rattle-kept"
-        return cls(store / "edits-rookdresser" if os.access(store, os.W_OK) else TOP / "out" / "tried_edits", logic)
+    def of_kit(cls, logic):
+        kept = store()
+        return cls(kept / "edits-rookdresser" if os.access(kept, os.W_OK) else TOP / "out" / "tried_edits", logic)
 
     def path(self, crate, edit):
         return self.folder / ("%s.%s.%s" % (crate.name, edit.name, sum_of(self.logic, crate, edit)))

@@ -7,13 +7,10 @@ is no goal of its own.
 Why a refusal here is one of a whole check too: the prover is asked for the named functions and what they call in their modules, and a
 whole check proves those and more. An edit that only another function's proof refuses shows as not refused.
 """
-import importlib.machinery
-import importlib.util
 import os
 import re
 import shutil
 import subprocess
-import sys
 import tempfile
 from pathlib import Path
 
@@ -23,16 +20,6 @@ BY_CALL = re.compile(r"it calls `[^;]*, which (?:is|are) not proved")
 SEARCHED = re.compile(r"`search` did not prove (.*)$")
 GOAL = re.compile(r"^(?:\./)?proofs/(\S+)/(?:Answers|Invariants|Proof)\.antt:\d+:\d+: error: (?:`([^`]*)`)?")
 LIMIT = re.compile(r"^fn (\S+): could not tell", re.M)
-
-
-def kit_library():
-    """The kit's own reader of crates.txt, which knows the words of a check."""
-    path = os.path.join(os.path.dirname(os.path.realpath(shutil.which("rt"))), "rtlib.py")
-    loader = importlib.machinery.SourceFileLoader("rtlib", path)
-    made = importlib.util.module_from_spec(importlib.util.spec_from_loader("rtlib", loader))
-    sys.modules["rtlib"] = made
-    loader.exec_module(made)
-    return made
 
 
 def own_goals(lines):

@@ -8,7 +8,7 @@ import os
 import shutil
 import sys
 
-import unproved_program
+from kit import unproved
 from places import TOP
 from progress import Line
 from source_sum import sum_of
@@ -24,7 +24,7 @@ def build(folder):
     made.mkdir()
     try:
         with Line("tools/try").each_second(lambda: "building, which takes some 60 s"):
-            unproved_program.build(made / "wt_replay")
+            unproved.build_program(made / "wt_replay")
         for other in KEPT.iterdir():
             if other not in (made, folder) and "." not in other.name:
                 shutil.rmtree(other, ignore_errors=True)

@@ -48,7 +48,7 @@ def random_pages(seed):
     while True:
         number += 1
         rng = random.Random("page %d %d" % (seed, number))
-        options, trace = cases.random_case(rng)
+        options, trace = cases.short_case(rng)
         s, outside = settings(options)
         run = None if outside or s["turn"] else Run(s, trace)
         if run and run.lines and not run.fault:

@@ -1,5 +1,4 @@
-"""Where things stand in the repository, its version, and what is said while something isn't built yet."""
-import re
+"""Where things stand in the repository, and what is said while something isn't built yet."""
 from pathlib import Path
 
 TOOLS = Path(__file__).resolve().parent.parent
@@ -7,8 +6,7 @@ TOP = TOOLS.parent
 CRATES = TOP / "crates"
 # A release has the tools in share/rookdresser, and the program in bin.
 PROGRAM = CRATES / "wt_replay" / "out" / "wt_replay" if CRATES.exists() else TOP.parent.parent / "bin" / "wt_replay"
-VERSION_FILE = "crates/wt_replay/src/main.rt"
-PAGES = ("*.md", "docs/*.md", "bench/*.md", "tools/*.md", "traces/*.md", "embed/**/*.md", "crates/*/*.md")
+PAGES = ("*.md", "docs/*.md", "bench/*.md", "tools/**/*.md", "embed/**/*.md", "crates/*/*.md")
 MADE = {"out", "target", "build"}
 
 
@@ -22,34 +20,22 @@ def not_built(path=PROGRAM, by="sh tools/replay --build"):
     return "%s isn't built yet; `%s` builds it" % (shown(path), by)
 
 
+def files(folder, *patterns):
+    """The files of a folder, in order, that patterns name. Raises OSError for a pattern that names none: then files have moved, and whoever
+    reads them would pass over them."""
+    found = set()
+    for pattern in patterns:
+        new = {path for path in folder.glob(pattern) if path.is_file() and not MADE & set(path.relative_to(folder).parts)}
+        if not new:
+            raise OSError("there is no file %s: what reads such files would read nothing" % shown(folder / pattern))
+        found |= new
+    return sorted(found)
+
+
 def tests_outside():
     """The tests that aren't functions of Rattle, by their names: the scenarios, and the checks of tools/gate."""
-    return {**{path.stem: path for path in (TOP / "scenarios").glob("*.txt")}, **{path.name: path for path in (TOOLS / "gate").glob("check_*")}}
+    return {**{path.stem: path for path in files(TOP, "scenarios/*.txt")}, **{path.name: path for path in files(TOOLS, "gate/check_*")}}
 
 
 def markdown_pages():
-    return sorted({path for pattern in PAGES for path in TOP.glob(pattern) if not MADE & set(path.relative_to(TOP).parts)})
-
-
-def stands_on(page=TOP / "crates.txt"):
-    """The crates below each crate, by crates.txt."""
-    direct = {}
-    for line in page.read_text().split("\n"):
-        if ":" in line and not line.startswith("#"):
-            head, _, tail = line.partition(":")
-            direct[head.split()[0]] = set(tail.split())
-    below = {name: set(of) for name, of in direct.items()}
-    for _ in below:
-        for name, of in below.items():
-            below[name] = of.union(*(direct.get(c, set()) for c in of))
-    return below
-
-
-def version_of():
-    """The version, as the program says it."""
-    return re.search(r'^const VERSION: &str = "(.*)";$', (TOP / VERSION_FILE).read_text(), re.M).group(1)
-
-
-def version_of_package():
-    """The version as Python's packages spell it: 0.2.0.dev0 for 0.2.0-dev."""
-    return version_of().replace("-dev", ".dev0")
+    return files(TOP, *PAGES)

@@ -9,6 +9,7 @@ import time
 import zlib
 
 import elf
+from facts import TESTED
 from places import TOP
 
 # In what tools/prove prints, and in PROVENANCE.txt.
@@ -63,15 +64,6 @@ def said_by(*command):
                            env={**os.environ, "LC_ALL": "C"}).stdout.splitlines() or [""])[0]
 
 
-def tested_only():
-    """What is tested and not proved."""
-    found = re.search(r"^Tested, not proved: (.*?)\. Not promised", (TOP / "README.md").read_text(), re.S | re.M)
-    if not found:
-        raise OSError("README.md has no sentence on what is tested and not proved")
-    yield "tested, not proved: " + " ".join(found.group(1).split())
-    yield "tested, not proved: the header for C, and the wrappers for Rust, Go and Python"
-
-
 def made_with():
     """What else the bytes of the files may depend on."""
     yield "made with: " + said_by("cc", "--version")
@@ -91,7 +83,7 @@ def text(version, commit, changed, moment, gate, needs):
         "toolchain: %s" % said_by("rt", "version"),
         *(["verdict of %s: %s" % row for row in gate.verdicts.items()] if gate else []),
         "gate: %s" % gate.last if gate else "gate: not seen",
-        *tested_only(),
+        *("tested, not proved: " + what for what in TESTED.values()),
         *("needs: %s: Linux on x86-64, a processor of %s or later, glibc %s or later" % (name, elf.PROCESSOR, glibc)
           for name, glibc in needs.items()),
         *made_with(),

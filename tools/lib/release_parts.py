@@ -1,11 +1,11 @@
 """What goes into each file of a release: entries by their names, from what was built and what git holds of the checkout."""
 import re
-import subprocess
 import sys
 from pathlib import Path
 
 from archives import Entry
-from places import TOOLS, TOP
+from places import TOOLS, TOP, files
+from trees import in_git
 
 sys.path.append(str(TOP / "embed/python"))
 import backend
@@ -18,8 +18,13 @@ UNPROVED = b"This was built by tools/release --unproved: nothing of its program 
 
 def tracked(*paths):
     """The files below some paths that git holds, each with its name from the top."""
-    listed = subprocess.run(["git", "ls-files", "-z", "--", *paths], cwd=TOP, stdout=subprocess.PIPE, check=True).stdout
-    return sorted(name for name in listed.decode().split("\0") if name and (TOP / name).is_file())
+    found = set()
+    for path in paths:
+        names = {name for name in in_git(TOP, "ls-files", "-z", "--", path).split("\0") if name and (TOP / name).is_file()}
+        if not names:
+            raise OSError("git holds no file %s, which a release has" % path)
+        found |= names
+    return sorted(found)
 
 
 def entry(name):
@@ -63,7 +68,7 @@ def for_system(built):
         "lib/" + soname: Entry((library / soname).read_bytes(), runs=True),
         "lib/librookdresser.so": Entry(link=soname),
         "lib/pkgconfig/rookdresser.pc": pkg_config((library / "rookdresser.pc").read_text()),
-        **{"include/" + header.name: Entry(header.read_bytes()) for header in library.glob("*.h")},
+        **{"include/" + header.name: Entry(header.read_bytes()) for header in files(library, "*.h")},
         "share/man/man1/wt_replay.1": entry("docs/wt_replay.1"),
         "share/bash-completion/completions/wt_replay": entry("tools/completions/wt_replay.bash"),
         "share/zsh/site-functions/_wt_replay": entry("tools/completions/_wt_replay"),

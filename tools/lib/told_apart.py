@@ -11,7 +11,7 @@ from options import NAMES, OPTIONS, settings
 
 BASE = {"entries": 4}
 # Options that change no report as long as they are in their range: their rows are faults.
-SILENT = ("ring", "threads", "turn", "workers")
+SILENT = ("ring", "threads", "turn", "workers", "adaptive")
 NUMBERS = {"entries": 3, "window": 2, "weight": 3, "mod": 5, "write": 6, "access": 4, "refresh": 5, "fail-mod": 2, "flights": 1}
 
 

@@ -2,6 +2,7 @@
 import argparse
 import math
 import os
+import shutil
 import sys
 from pathlib import Path
 
@@ -14,6 +15,14 @@ class Parser(argparse.ArgumentParser):
 
     def error(self, message):
         self.exit(2, "%s: %s; `%s --help` tells what it takes\n" % (self.prog, message, self.prog))
+
+
+def wants(parser, *tools):
+    """Ends a program, with a sentence, if a command that it needs isn't there."""
+    for tool in tools:
+        if not shutil.which(tool):
+            where = ": it comes with Rattle's kit (README.md, 'The toolchain')" if tool == "rt" else ""
+            parser.exit(2, "%s: there is no command %s%s\n" % (parser.prog, tool, where))
 
 
 def whole(least, greatest=2 ** 64 - 1):

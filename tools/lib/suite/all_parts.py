@@ -2,13 +2,15 @@
 import re
 import sys
 
+from places import files
+
 from .part import Part
 
 # The checks of pages and sources, each with the seconds that it takes.
-CHECKS = {"check_facts": 1, "check_layout": 2, "check_prose": 1, "check_guards": 1, "check_rules": 1, "check_options": 1, "check_readers": 1,
+CHECKS = {"check_facts": 1, "check_layout": 2, "check_prose": 1, "check_guards": 1, "check_rules": 1, "check_readers": 1, "check_kit": 1,
           "check_checkers": 30, "check_native_steps": 1, "check_native_steps --wrong": 5}
 # Those of the program, which stands where a proved one would.
-OF_PROGRAM = {"check_program": ((), 40), "check_options --built": ((), 1), "refuse_memory --program": (("cc",), 5), "check_tools": ((), 60),
+OF_PROGRAM = {"check_program": ((), 40), "check_facts --built": ((), 1), "refuse_memory --program": (("cc",), 5), "check_tools": ((), 60),
               "check_page": (("chromium",), 60)}
 LANGUAGES = {"c": (("gcc", "g++", "nm", "objdump", "pkg-config"), 90), "rust": (("cargo", "cargo-clippy"), 300),
              "python": (("mypy", "python3-dbg"), 300), "go": (("go",), 200)}
@@ -27,13 +29,13 @@ def of_sources(copy):
     for words, seconds in CHECKS.items():
         name, *flags = words.split()
         yield Part("sources: " + words, python(copy / "tools" / "gate" / name, *flags), copy, seconds,
-                   needs=("rt",) if name == "check_layout" else ())
+                   needs=("rt",) if name in ("check_layout", "check_kit") else ())
 
 
 def of_crates(copy):
     run = copy / "tools" / "lib" / "suite" / "crate.py"
     for crate in sorted(path for path in (copy / "crates").iterdir() if path.is_dir()):
-        sources = [path.read_text() for path in (crate / "src").rglob("*.rt")]
+        sources = [path.read_text() for path in files(crate, "src/**/*.rt")]
         if any(re.search(r"^\s*#\[test\]", text, re.M) for text in sources):
             yield Part("tests of %s" % crate.name, python(run, "tests", crate), crate, SLOW.get(crate.name, 60), needs=("rt",))
         elif crate.name.startswith("example"):
@@ -52,7 +54,7 @@ def of_program(copy):
 
 def of_scenarios(copy):
     crate = copy / "crates" / "wt_scenarios"
-    yield Part("the player of scenarios", python(copy / "tools" / "lib" / "unproved_program.py", crate, crate / "out" / "wt_scenarios"), copy, 290,
+    yield Part("the player of scenarios", python(copy / "tools" / "lib" / "kit" / "unproved.py", crate, crate / "out" / "wt_scenarios"), copy, 290,
                needs=("rt",))
     yield Part("check_scenarios", python(copy / "tools" / "gate" / "check_scenarios"), copy, 10, after=("the player of scenarios",))
 
@@ -70,7 +72,7 @@ def of_library(copy):
 def of_pages(copy):
     """Each page with a block of commands, in a folder of its own; and what sentences tell to type."""
     run = copy / "tools" / "gate" / "run_pages"
-    names = sorted(str(path.relative_to(copy)) for path in copy.rglob("*.md") if ".git" not in path.parts)
+    names = [str(path.relative_to(copy)) for path in files(copy, "**/*.md")]
     for name in names:
         if re.search(r"^```sh$", (copy / name).read_text(), re.M):
             yield Part(name, python(run, name), copy, PAGES.get(name, 20),
@@ -80,8 +82,8 @@ def of_pages(copy):
 
 
 def of_benchmarks(copy):
-    for run in sorted((copy / "bench").glob("*/*")):
-        if run.is_file() and run.read_bytes().startswith(b"#!"):
+    for run in files(copy, "bench/*/*"):
+        if run.read_bytes().startswith(b"#!"):
             name = str(run.relative_to(copy))
             yield Part(name, [run, "--smoke"], copy, 60, needs=("rt", "valgrind", "cargo"), after=("the program", "the library"))
 

@@ -1,7 +1,6 @@
 #!/usr/bin/env python3
 """Runs a crate of the current folder's repository without any proof: its tests, or a program, whose output has to be its file stdout."""
 import re
-import shutil
 import subprocess
 import sys
 import tempfile
@@ -9,6 +8,7 @@ from pathlib import Path
 
 sys.path.insert(0, str(Path(__file__).resolve().parent.parent))
 
+from trees import copy_crates
 from words import Parser, end
 
 SECONDS = "240"
@@ -47,14 +47,12 @@ def run_program(crate):
 
 
 def compile_library(crate):
-    """In a copy of the repository's crates, as part of a program that does nothing."""
+    """In a copy, as part of a program that does nothing."""
     with tempfile.TemporaryDirectory(prefix="compiled-") as name:
         top, user = Path(name), Path(name, "crates", "nothing")
-        shutil.copytree(crate.parent, top / "crates", ignore=shutil.ignore_patterns("out"))
+        copy_crates(top, [crate.name], "nothing: %s" % crate.name)
         (user / "src").mkdir(parents=True)
         (user / "src" / "main.rt").write_text(NOTHING)
-        (top / "crates.txt").write_text((crate.parent.parent / "crates.txt").read_text() + "nothing: %s\n" % crate.name)
-        shutil.copy(crate.parent.parent / "HANDLES", top)
         done = tried(user)
     if not re.search(r"^run=ended status=0 ", done.stderr, re.M):
         fail(done, "%s: it could not be compiled" % crate.name)

@@ -1,7 +1,12 @@
-"""Runs the parts of tools/test in a fresh copy of the tree, and counts them."""
+"""All that can be known without a proof: the pages and what they tell you to type, every crate's tests, the examples, the program, the
+library for C and its wrappers, a release, the benchmarks' runners. Each of them is built without any proof, in a fresh copy of this tree.
+
+A part has a line as it ends, and a part that failed what it printed; all of it stays in out/test/logs. The last line is
+'N passed, M failed', with ', K skipped' if a tool isn't there.
+"""
 import os
 import shutil
-import signal
+import subprocess
 import sys
 import tempfile
 import time
@@ -10,11 +15,12 @@ from pathlib import Path
 LIB = Path(__file__).resolve().parent.parent
 sys.path.insert(0, str(LIB))
 
+from groups import end_at_signals
 from places import TOP
 from suite.all_parts import all_parts
-from suite.copy import fresh_copy
 from suite.lanes import Lanes
 from suite.part import AT_WORK, FAILED, PASSED
+from trees import fresh_copy
 from words import Parser, end, whole
 
 # A space in the folder's name shows which command leaves its words unquoted.
@@ -61,12 +67,14 @@ def last_line(outcomes, fail_skips):
 
 def main():
     parser = Parser(__doc__, "tools/test")
-    parser.add_argument("words", nargs="*", metavar="PART", help="run the parts whose names have one of these words, and those that they need")
-    parser.add_argument("--all", action="store_true", help="install what the tests need; a skipped part is a failure")
+    parser.add_argument("words", nargs="*", metavar="PART", help="only the parts whose names have one of these words, and those that they need")
+    parser.add_argument("--all", action="store_true", help="install first what the tests need (tools/setup); a skipped part is a failure")
     parser.add_argument("--list", action="store_true", help="name the parts")
     parser.add_argument("--lanes", type=whole(1, 64), default=len(os.sched_getaffinity(0)), help="so many parts at once [default: one for each core]")
     given = parser.parse_args()
-    signal.signal(signal.SIGTERM, lambda *_: sys.exit(143))
+    if given.all and subprocess.run(["sh", TOP / "tools" / "setup"]).returncode:
+        return 1
+    end_at_signals()
     with tempfile.TemporaryDirectory(prefix="rookdresser-") as room:
         try:
             return test(Path(room).resolve() / NAME, given)
@@ -75,7 +83,7 @@ def main():
 
 
 def test(copy, given):
-    parts = all_parts(fresh_copy(TOP, copy))
+    parts = all_parts(fresh_copy(copy))
     if given.list:
         print("\n".join(part.name for part in parts))
         return 0

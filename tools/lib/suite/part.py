@@ -1,12 +1,13 @@
 """A part of tools/test or of the gate, and how it ended."""
-import os
 import re
 import shutil
 import signal
-import subprocess
 import threading
+import time
 from dataclasses import dataclass, field
 from pathlib import Path
+
+import groups
 
 PASSED, FAILED, SKIPPED = "ok", "FAILED", "skipped"
 # A part says by such a line that it leaves something out, and why.
@@ -55,7 +56,7 @@ class AtWork:
         with self.lock:
             if self.is_over:
                 return -signal.SIGTERM
-            child = subprocess.Popen(words, stdin=subprocess.DEVNULL, stderr=subprocess.STDOUT, start_new_session=True, **how)
+            child = groups.started(words, **how)
             self.running.add(child)
         status = child.wait()
         with self.lock:
@@ -63,10 +64,16 @@ class AtWork:
         return status
 
     def end(self):
+        """Ends them: first so that each can end what it began in groups of its own, and those that are still there two seconds later at once."""
         with self.lock:
             self.is_over = True
-            for child in self.running:
-                os.killpg(child.pid, signal.SIGKILL)
+            left = list(self.running)
+        for by, seconds in ((signal.SIGTERM, 2), (signal.SIGKILL, 0)):
+            for child in left:
+                groups.end(child, by)
+            end = time.monotonic() + seconds
+            while any(child.poll() is None for child in left) and time.monotonic() < end:
+                time.sleep(0.05)
 
 
 AT_WORK = AtWork()
@@ -76,7 +83,7 @@ def outcome_of(part, environment, logs):
     """Runs a part; what it prints is kept in its log."""
     log = part.log(logs)
     with open(log, "wb") as out:
-        status = AT_WORK.run([str(word) for word in part.command], cwd=part.folder, env={**environment, **part.environment}, stdout=out)
+        status = AT_WORK.run(part.command, cwd=part.folder, env={**environment, **part.environment}, stdout=out)
     text = log.read_text(errors="replace")
     last = text.strip().rsplit("\n", 1)[-1][:100]
     if status:
