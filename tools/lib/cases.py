@@ -86,10 +86,36 @@ def random_trace(rng, entries):
     return b"\n".join(lines) + (b"" if rng.random() < 0.1 or not lines else b"\n")
 
 
-def random_case(rng):
+def adaptive_case(rng):
+    """The case of a window that follows the stream: long enough for several choices, with hot keys that stay, change or come round."""
+    entries = rng.choice((512, 513, 600, 1100))
+    options = {"entries": entries, "adaptive": 1, **rng.choice(({}, {"shards": 2}, {"threads": 2}, {"weight": 300, "mod": 3}, {"write": 300}, {"flights": 1}))}
+    items = list(options.items())
+    rng.shuffle(items)
+    letters = rng.choice(("G", "GGGP", "LP", "GGSE", "GGGGD"))
+    lines = []
+    for at in range(rng.choice((600, 2500, 4000))):
+        if at % 1300 == 0:
+            kind = rng.choice(("shift", "shift", "skewed", "round"))
+        if kind == "shift":
+            key = at // 3 + rng.randint(0, entries)
+        elif kind == "skewed":
+            key = int(rng.paretovariate(0.6)) % 4000
+        else:
+            key = at % (entries * 3 // 2)
+        lines.append(b"%d %s %d" % (at // 7, rng.choice(letters).encode(), key))
+    return dict(items), b"\n".join(lines) + b"\n"
+
+
+def short_case(rng):
     options = random_options(rng)
     trace = random_trace(rng, min(200, max(1, options["entries"])))
     return in_turn(rng, options, trace) if rng.random() < 0.15 else (options, trace)
+
+
+def random_case(rng):
+    case = short_case(rng)
+    return adaptive_case(rng) if rng.random() < 0.05 else case
 
 
 def in_turn(rng, options, trace):

@@ -1,9 +1,8 @@
-"""The options of the program, as the table of docs/FORMATS.md has them. The other tools and checks read them here."""
+"""The options of the program, as docs/facts.txt has them, and what their ranges and defaults come to."""
 import re
 
-from places import TOP
+from facts import rows_of_options
 
-PAGE = TOP / "docs" / "FORMATS.md"
 BELOW_64 = 2 ** 64 - 1
 
 
@@ -27,10 +26,10 @@ class Option:
 
     def default(self, given):
         """The number, or None where the option is absent by default."""
-        if self.default_text.startswith("absent"):
+        if self.default_text in ("never", "none fails"):
             return None
         if self.default_text.startswith("entries / 100"):
-            return max(1, given["entries"] // 100)
+            return max(1, given["entries"] * (40 if given.get("adaptive") else 1) // 100)
         if self.default_text.startswith("64, or flights + 1"):
             return max(64, given["flights"] + 1)
         return int(self.default_text)
@@ -43,7 +42,7 @@ class Option:
 
 def bounds_of(name, reach):
     """The least and the greatest number of a range, as texts; None is no upper bound; a list of the only ones."""
-    text = re.split(r"[;(]", reach)[0].replace(", milliseconds", "").replace("`", "").replace("--", "").strip()
+    text = reach.replace(", milliseconds", "")
     listed = re.fullmatch(r"(\d+(?:, \d+)*),? or (\d+)", text)
     if listed:
         return listed.group(1).split(", ") + [listed.group(2)], None
@@ -55,7 +54,7 @@ def bounds_of(name, reach):
         return both.groups()
     if re.fullmatch(r"\d+", text):
         return text, text
-    raise ValueError("docs/FORMATS.md: the range of --%s can't be read: %s" % (name, reach))
+    raise ValueError("docs/facts.txt: the range of --%s can't be read: %s" % (name, reach))
 
 
 def number_in(text, given):
@@ -64,25 +63,13 @@ def number_in(text, given):
     return given[word.group(1)] + (1 if word.group(2) else 0) if word else int(text)
 
 
-def read_options(page=PAGE):
-    """The options in the order in which they are checked."""
-    found = []
-    for line in page.read_text().split("\n"):
-        cells = [cell.strip() for cell in line.split("|")]
-        if len(cells) == 5 and cells[1].startswith("`--"):
-            found += [Option(name, cells[2], cells[3]) for name in re.findall(r"`--([a-z-]+)`", cells[1])]
-    if not found:
-        raise ValueError("docs/FORMATS.md: no table of options")
-    return found
-
-
-OPTIONS = read_options()
+OPTIONS = [Option(name, reach, default) for name, reach, default, _, _ in rows_of_options()]
 NAMES = [option.name for option in OPTIONS]
 
 
 def settings(given, options=OPTIONS):
     """All options, with the defaults of those that aren't given, and the name of the first that is out of its range."""
-    full = dict(given)
+    full, fixed = dict(given), given.get("window") is not None
     for option in options:
         full.setdefault(option.name, None)
         if full[option.name] is None:
@@ -93,6 +80,8 @@ def settings(given, options=OPTIONS):
         number = full[option.name]
         fits = number is None or option.allows(number, full)
         if option.name == "turn" and full["threads"] or option.name == "workers" and not full["turn"]:
+            fits = number == 0
+        if option.name == "adaptive" and (full["entries"] < 512 or fixed or full["turn"]):
             fits = number == 0
         if not fits:
             return full, option.name
