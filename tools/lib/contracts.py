@@ -138,6 +138,12 @@ class Crate:
         for mine, theirs in ((self.comments, found.comments), (self.texts, found.texts), (self.fields, found.fields)):
             mine.update({(module, name): value for name, value in theirs.items()})
 
+    def defined(self, name):
+        """The public words of specs/ of this name, which may have their module before it: the module and the name of each."""
+        module, _, word = name.rpartition(".")
+        found = [(".".join(path.relative_to(self.folder / "specs").with_suffix("").parts), word) for path in sorted(self.words.get(word, ()))]
+        return [one for one in found if module in ("", one[0])]
+
     def root(self):
         return self.folder / "src" / "lib.rt"
 
@@ -184,8 +190,9 @@ def add_fields(crate, call, label, record, crates):
                 crate.field_uses[call, "%s.%s" % (label, of)] = [crates[at].uses[module]]
 
 
-def all_crates():
-    return crates_in(c for c in sorted(CRATES.iterdir()) if (c / "src").is_dir() and c.name.startswith("wt_"))
+def all_crates(begin="wt_"):
+    """The repository's crates whose names begin so."""
+    return crates_in(c for c in sorted(CRATES.iterdir()) if (c / "src").is_dir() and c.name.startswith(begin))
 
 
 def said_of(call, crate, crates):

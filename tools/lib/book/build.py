@@ -5,7 +5,7 @@ from multiprocessing.pool import ThreadPool
 from places import TOP, markdown_pages
 from rules import PAGE
 
-from . import markdown, reference, wrappers
+from . import markdown, promises, reference, wrappers
 from .site import Site, plain
 from .tree import Tree, only_tests
 
@@ -64,7 +64,8 @@ def hand_written(site, names):
     for name, path, body in zip(names, paths, bodies):
         here, head = site.address_of(path), re.search(r"<h1[^>]*>(.*?)</h1>", body, re.S)
         titles[name] = plain(head.group(1)) if head else path.stem
-        site.add(here, titles[name], site.with_links(body, path, here))
+        body = site.with_links(body, path, here)
+        site.add(here, titles[name], promises.with_links(site, body) if path == PAGE else body)
     return titles
 
 

@@ -4,19 +4,13 @@ import re
 from urllib.parse import quote
 
 from contracts import said_of
-from rules import PAGE
 from spec_words import PATH
 
-from . import markdown
-from .site import plain
+from . import markdown, promises
+from .site import plain, quoted_names
 from .texts import Texts, code, declaration
-from .tree import slug
 
 IN_USE = re.compile(r"In use: (`uses::\w+::\w+`(?:(?:, | and )`uses::\w+::\w+`)*)\.")
-
-
-def quoted_names(names):
-    return ", ".join("<code>%s</code>" % html.escape(name) for name in names)
 
 
 class Calls:
@@ -119,11 +113,9 @@ class Calls:
         return '<details><summary>In use: <code>%s</code></summary>%s</details>' % (name, code(self.tree.use(name)))
 
     def rules(self, name):
-        rules = dict.fromkeys(self.tree.rules.get((self.crate.name, name), ()))
         items = []
-        for rule, section in rules:
-            address = "%s#%s" % (self.site.address_of(PAGE), slug(section))
-            items.append("<li>%s</li>" % self.site.link(address, self.here, html.escape(rule.replace("`", "").rstrip("\\"))))
+        for promise in self.tree.rules.get((self.crate.name, name), ()):
+            items.append("<li>%s</li>" % self.site.link(promises.address(self.site, promise), self.here, html.escape(promise.text.replace("`", ""))))
         return '<h4>Promises</h4><ul class="rules">%s</ul>' % "".join(items) if items else ""
 
     def edits(self, name):

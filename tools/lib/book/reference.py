@@ -4,8 +4,8 @@ import html
 from labels import labels_in
 
 from . import markdown
-from .calls import Calls, quoted_names
-from .site import plain
+from .calls import Calls
+from .site import plain, quoted_names
 from .texts import Texts, numbered
 
 READING = """# How to read the reference

@@ -10,7 +10,7 @@ from urllib.parse import unquote
 from places import CRATES, TOP
 
 PARTS = Path(__file__).resolve().parent
-HREF = re.compile(r'(<(?:a|img)\b[^>]*?\b(?:href|src)=")([^"]*)("(?:>(?=<code>([^<]+)</code></a>))?)')
+HREF = re.compile(r'(<(?:a|img)\b[^>]*?\b(?:href|src)=")([^"]*)')
 CODE = re.compile(r"(<a [^>]*>|<pre[^>]*>)?<code>([\w:]+)(?:\(\))?</code>")
 SECTION = re.compile(r'<h([23]) id="([^"]+)">(.*?)</h\1>(.*?)(?=<h[23] |\Z)', re.S)
 HEAD = re.compile("<h[23] ")
@@ -45,6 +45,10 @@ FRAME = """<!doctype html>
 def plain(text):
     """The text of HTML."""
     return " ".join(html.unescape(re.sub(r"<[^>]+>", "", text)).split())
+
+
+def quoted_names(names):
+    return ", ".join("<code>%s</code>" % html.escape(name) for name in names)
 
 
 def is_outside(href):
@@ -125,13 +129,12 @@ class Site:
     def with_links_led(self, body, source, here):
         """The same with its links alone led."""
         def led(found):
-            before, href, after, name = found.groups()
-            return before + html.escape(self.led(html.unescape(href), name, source, here)) + after
+            return found.group(1) + html.escape(self.led(html.unescape(found.group(2)), source, here))
 
         return HREF.sub(led, body)
 
-    def led(self, href, name, source, here):
-        """Where a link of a file of the tree leads in the book. A link whose text is a name leads to the entry of that name, if there is one."""
+    def led(self, href, source, here):
+        """Where a link of a file of the tree leads in the book."""
         target, _, fragment = href.partition("#")
         if is_outside(href) or not target:
             return href
@@ -139,10 +142,6 @@ class Site:
         if address:
             return relative(address, here)
         path = Path(os.path.normpath(source.parent / unquote(target)))
-        entry = self.tree.entry(path, name) if name and crate_of(path) else None
-        if entry:
-            self.want_if_source(entry)
-            return relative(entry, here)
         return relative(self.address_of(path) + ("#" + fragment if fragment else ""), here)
 
     def rust_path(self, path, crate):

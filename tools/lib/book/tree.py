@@ -3,10 +3,11 @@ import re
 from urllib.parse import quote
 
 from contracts import PROMISE_NOTHING, all_crates
+from crates_txt import stands_on
 from edits import file_of
 from labels import labels_in
-from places import CRATES, TOP, stands_on, tests_outside
-from rules import PAGE, linked, rules_in, tests_by_call
+from places import CRATES, TOP, tests_outside
+from rules import OTHERS, promises_in, tests_by_call
 from spec_words import Links
 
 RATTLE = TOP / "docs" / "rattle_words.txt"
@@ -36,8 +37,9 @@ class Tree:
     """The crates, and the addresses of their calls, types, words, edits and tests."""
 
     def __init__(self):
-        crates, below = all_crates(), stands_on()
-        self.crates = {name: crates[name] for name in sorted(crates, key=lambda name: (len(below.get(name, ())), name))}
+        self.every, below = all_crates(""), stands_on()
+        of_cache = [name for name in self.every if name.startswith("wt_")]
+        self.crates = {name: self.every[name] for name in sorted(of_cache, key=lambda name: (len(below.get(name, ())), name))}
         self.downwards = downwards(below)
         shown = {name: self.calls_shown(self.crates[name]) for name in self.downwards if name in self.crates and name not in PROMISE_NOTHING}
         self.shown = {name: calls for name, calls in shown.items() if calls}
@@ -45,8 +47,8 @@ class Tree:
         self.labels = {label: meaning for _, label, meaning in labels_in()}
         self.rattle = dict(line.split(": ", 1) for line in RATTLE.read_text().split("\n")
                            if line and not line.startswith("#"))
-        self.tests, self.tests_outside = tests_by_call(self.crates), tests_outside()
-        self.rules = self.rules_by_call()
+        self.promises, self.tests_outside = promises_in(), tests_outside()
+        self.tests, self.rules = tests_by_call(self.promises), self.rules_by_call()
         self.symbols = self.unique_symbols()
 
     @staticmethod
@@ -56,11 +58,12 @@ class Tree:
         return [call for call in crate.calls if call in shown]
 
     def rules_by_call(self):
-        """Of each call, by its crate, the rules that link to it: the sentence and the section."""
+        """Of each call, by its crate, the promises that lead to it."""
         found = {}
-        for section, _, rule, text in rules_in(PAGE):
-            for name, target, _ in linked(text):
-                found.setdefault((target.split("/")[2], name), []).append((rule, section))
+        for promise in self.promises:
+            for link in promise.links:
+                if link.kind == "code" and promise not in found.setdefault((link.crate, link.name), []):
+                    found[link.crate, link.name].append(promise)
         return found
 
     def unique_symbols(self):
@@ -116,15 +119,18 @@ class Tree:
                 return self.source(crate.calls[name].path, crate.calls[name].line)
         return None
 
-    def entry(self, path, name):
-        """The address of a name that a link leads to, in a file of a crate."""
-        crate, place, *inside = path.relative_to(CRATES).with_suffix("").parts
-        if path == file_of(CRATES / crate):
-            return self.edit(crate, name) if crate in self.crates else self.source(path)
-        if place == "specs":
-            return self.word(crate, ".".join(inside), name)
-        inner = self.crates[crate].calls.get(name) if crate in self.crates else None
-        return self.call(crate, name) or self.test(name) or self.type(crate, name) or (self.source(inner.path, inner.line) if inner else None)
+    def linked(self, link):
+        """The address to which a link of a promise leads, or None."""
+        crate = self.every.get(link.crate)
+        if link.kind == "definition":
+            return next((self.word(link.crate, *word) for word in crate.defined(link.name)), None) if crate else None
+        if link.kind == "edit":
+            return self.edit(link.crate, link.name) if link.crate in self.crates else self.source(file_of(CRATES / link.crate))
+        if link.kind in ("test", *OTHERS):
+            return self.test(link.name)
+        inner = crate.calls.get(link.name) if crate else None
+        line = self.source(inner.path, inner.line) if inner else next(map(self.source, sorted(crate.files.get(link.name, ())))) if crate else None
+        return self.call(link.crate, link.name) or self.type(link.crate, link.name) or line
 
     def use(self, name):
         """The text of a function of crates/uses, named as in a doc comment: `uses::plain::land`."""

@@ -1,6 +1,8 @@
 """The calls of embed/go: what is exported, by its doc comments, with the examples of the package's tests."""
 import re
 
+from places import files
+
 from . import EMBED, Call, Group, dedented, fenced, line_at
 
 FOLDER = EMBED / "go"
@@ -14,7 +16,7 @@ EXAMPLE = re.compile(COMMENT + r"^func Example(?:([A-Z][A-Za-z0-9]*)(?:_([A-Z][A
 def calls():
     types, functions, values = [], [], []
     examples = examples_by_name()
-    for path in sorted(FOLDER.glob("*.go")):
+    for path in files(FOLDER, "*.go"):
         if path.name.endswith("_test.go"):
             continue
         text = path.read_text()
@@ -66,7 +68,7 @@ def whole(text, start):
 def examples_by_name():
     """The examples of each call, which `go test` runs, each with its title."""
     found = {}
-    for path in sorted(FOLDER.glob("*_test.go")):
+    for path in files(FOLDER, "*_test.go"):
         for example in EXAMPLE.finditer(path.read_text()):
             _, owner, name, title, body = example.groups()
             found.setdefault(".".join(filter(None, (owner, name))), []).append((title, fenced(re.sub("^\t", "", body, flags=re.M), "go")))

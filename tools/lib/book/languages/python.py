@@ -2,6 +2,8 @@
 import ast
 import re
 
+from places import files
+
 from . import EMBED, Call, Group, fenced, line_at
 
 PACKAGE = EMBED / "python" / "rookdresser"
@@ -11,7 +13,7 @@ NATIVE = re.compile(r'\{"(\w+)",[^"{}]*?((?:"(?:[^"\\]|\\.)*"\s*)+)\}')
 def calls():
     names = exported()
     groups, functions = [], []
-    for path in sorted(PACKAGE.glob("_*.py")):
+    for path in files(PACKAGE, "_*.py"):
         tree = ast.parse(path.read_text())
         for node in tree.body:
             if getattr(node, "name", None) == "_Info":
@@ -70,7 +72,7 @@ def native_calls():
         if isinstance(node, ast.FunctionDef) and not node.name.startswith("_"):
             declared.setdefault(node.name, []).append(signature(node))
     found = {}
-    for source in sorted((PACKAGE / "native").glob("*.c")):
+    for source in files(PACKAGE / "native", "*.c"):
         text = source.read_text()
         for row in NATIVE.finditer(text):
             doc = "".join(ast.literal_eval(part) for part in re.findall(r'"(?:[^"\\]|\\.)*"', row.group(2)))

@@ -1,6 +1,9 @@
 """The calls of embed/rust: its exported types and what is public of them, by their doc comments."""
 import re
 
+from places import files
+
+from ..texts import declaration as without_private_fields
 from . import EMBED, Call, by_name, dedented, fenced, line_at
 
 SOURCES = EMBED / "rust" / "src"
@@ -16,7 +19,7 @@ def exported():
 
 def calls():
     known = exported()
-    found = [call for path in sorted(SOURCES.glob("*.rs")) for call in calls_in(path) if call.name.split("::")[0] in known]
+    found = [call for path in files(SOURCES, "*.rs") for call in calls_in(path) if call.name.split("::")[0] in known]
     return by_name(found)
 
 
@@ -43,15 +46,7 @@ def declaration(text, start, kind):
         shift = len(lines[0]) - len(lines[0].lstrip())
         return "\n".join(line[shift:] for line in lines).rstrip(",")
     end = re.compile(r"^\}|\)?;$", re.M).search(text, start)
-    lines, kept, above, hidden = text[start:end.end()].split("\n"), [], [], False
-    if kind == "enum" or kind == "trait" or len(lines) == 1:
-        return "\n".join(lines)
-    for line in lines[1:-1]:
-        above.append(line)
-        if not re.match(r"\s*(//|#\[|$)", line):
-            kept += above if line.startswith("    pub ") else []
-            hidden, above = hidden or not line.startswith("    pub "), []
-    return "\n".join([lines[0], *kept, *["    // private fields"] * hidden, lines[-1]])
+    return without_private_fields(text[start:end.end()])
 
 
 def markdown(doc):
