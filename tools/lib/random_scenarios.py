@@ -4,10 +4,8 @@ from model.scenario import Played, told
 from options import BELOW_64
 
 # How often each call is drawn: on layers with loads by hand, and on those with gets.
-BY_HAND = {"look": 4, "seek": 8, "land": 7, "put": 5, "drop": 2, "forget": 2, "clean": 0.5, "clear": 0.2}
-BY_GETS = {"look": 4, "get": 10, "put": 4, "drop": 2, "forget": 1, "clean": 0.5, "clear": 0.2}
-# Only a core has slides.
-WITH_SLIDES = {**BY_HAND, "slide": 4}
+BY_HAND = {"look": 4, "peek": 3, "seek": 8, "land": 7, "put": 5, "drop": 2, "forget": 2, "clean": 0.5, "clear": 0.2, "slide": 3}
+BY_GETS = {"look": 4, "peek": 3, "get": 10, "put": 4, "drop": 2, "forget": 1, "clean": 0.5, "clear": 0.2, "slide": 3}
 LINES, MOST_WEIGHT = 150, 1_000_000
 
 
@@ -59,7 +57,7 @@ class Maker:
         if word in ("clean", "clear"):
             return word
         if word == "slide":
-            return "slide " + self.rng.choice(("wider", "narrower"))
+            return "slide %d %s" % (key, self.rng.choice(("wider", "narrower")))
         if word == "land":
             return self.landing() if self.opened else "seek %d" % key
         if word == "put":
@@ -82,10 +80,8 @@ class Maker:
 def random_scenario(rng):
     """The text of a scenario."""
     settings = {**random_settings(rng), "shards": rng.choice((1, 1, 2, 4))}
-    calls = rng.choice((BY_HAND, BY_GETS, WITH_SLIDES))
-    if calls is WITH_SLIDES:
-        settings["shards"] = 1
-    layers = {id(BY_HAND): ["shards"], id(BY_GETS): ["cache", "callers"]}.get(id(calls), [])
+    calls = rng.choice((BY_HAND, BY_GETS))
+    layers = ["shards"] if calls is BY_HAND else ["cache", "callers"]
     layers = (["core"] if settings["shards"] == 1 else []) + layers
     maker = Maker(rng, {**dict.fromkeys(("write", "access", "refresh")), "weight": 2 ** 48, **settings}, calls)
     lines = ["# layers: " + " ".join(layers), "settings " + " ".join("%s %d" % pair for pair in settings.items())]

@@ -1,17 +1,96 @@
 """Models with one mistake each, for `--wrong` of `tools/gate/check_program` and `check_scenarios`: each check has to find every one."""
+from itertools import islice
+
 import model
+from model.adviser import SHARES, Adviser
 from model.shard import Shard
 from model.sketch import Sketch
 
 
-class EqualAgeIsServed(Shard):
-    def is_past(self, since, duration):
-        return duration is not None and self.latest - since > duration
+class AddsAtFull(Sketch):
+    def count(self, word):
+        for row, place in zip(self.rows, self.places(word)):
+            row[place] = min(15, row[place] + 1)
+        self.additions += 1
+        if self.is_time_to_halve():
+            self.halve()
 
 
-class TieAdmits(Shard):
-    def wins(self, candidate, victim):
-        return self.sketch.estimate(candidate.key[1]) >= self.sketch.estimate(victim.key[1])
+class StopsAt7(Sketch):
+    def count(self, word):
+        if self.estimate(word) < 7:
+            super().count(word)
+
+
+def opened(change):
+    """The opening of a shard, which is then changed."""
+    def init(self, s):
+        Shard.__init__(self, s)
+        change(self)
+    return init
+
+
+def with_sketch(kind):
+    return opened(lambda self: setattr(self, "sketch", kind(self.s["entries"])))
+
+
+def during(method, **members):
+    """A method that is done while the shard has these members in place of its own."""
+    def done(self, *given):
+        self.__dict__.update(members)
+        words = getattr(Shard, method)(self, *given)
+        for name in members:
+            del self.__dict__[name]
+        return words
+    return {method: done}
+
+
+def turned_round(lists, method):
+    """A method that is done while lists of the shard are turned round."""
+    def done(self, *given):
+        for one in lists(self):
+            one.reverse()
+        words = getattr(Shard, method)(self, *given)
+        for one in lists(self):
+            one.reverse()
+        return words
+    return {method: done}
+
+
+def set_current(load):
+    load.current = True
+    return load
+
+
+# What a shard has in place of its own members.
+CHANGED = {
+    "EqualAgeIsServed": {"is_past": lambda self, since, duration: duration is not None and self.latest - since > duration},
+    "TieAdmits": {"wins": lambda self, candidate, victim: self.sketch.estimate(candidate.key[1]) >= self.sketch.estimate(victim.key[1])},
+    "TrimBeginsAtWindow": {"trim_order": lambda self: (self.window, self.probation, self.protected)},
+    "TrimBeginsAtProtected": {"trim_order": lambda self: (self.protected, self.probation, self.window)},
+    # In a trace the weight of a key is always the same, so only a scenario shows it.
+    "TrimMayTakeTheStored": {"trim": lambda self, stored: Shard.trim(self, None)},
+    "HalvesLate": {"__init__": opened(lambda self: setattr(self.sketch, "full", self.sketch.full + 1))},
+    "NeverHalves": {"__init__": opened(lambda self: setattr(self.sketch, "full", 2 ** 60))},
+    "FullCountersStillAdd": {"__init__": with_sketch(AddsAtFull)},
+    "CountersStopAt7": {"__init__": with_sketch(StopsAt7)},
+    "ProtectedHoldsAllOfMain": {"__init__": opened(lambda self: setattr(self, "protected_most", self.main))},
+    "PutsAreNotCounted": during("letter_P", count=lambda key: None),
+    "ExpiredIsReplaced": during("letter_P", drop_own_expired=lambda key: None),
+    "PutKeepsTheLoadCurrent": during("letter_P", forget=lambda key: False),
+    "ForgottenLoadIsStored": {"land": lambda self, load, key, version: Shard.land(self, set_current(load), key, version)},
+    "OnlyCurrentLoadsFillTheLimit": {"may_open": lambda self: sum(1 for load in self.loads if load.current) < self.s["flights"]},
+    "NewestLoadIsLanded": turned_round(lambda self: [self.loads], "letter_E"),
+    "CleanFromTheFront": turned_round(Shard.regions, "letter_C"),
+    "ClearTellsExplicit": during("letter_X", is_expired=lambda entry: False),
+    "MomentsGoBack": {"begin_step": lambda self, moment: setattr(self, "latest", moment)},
+    "WeightOfTheKey": {"weight_of": lambda self, key: key[1] % self.s["mod"]},
+    "KeyZeroDoesNotFail": {"fails": lambda self, key: Shard.fails(self, key) and key[1] != 0},
+    "RefreshJoinsNothing": {"is_due": lambda self, entry: False},
+    "OneLatestMomentForAllShards": {"latest": property(lambda self: self.s["latest"], lambda self, moment: self.s.update(latest=moment))},
+    "OneCountOfLoadsForAllShards": {"next_load": property(lambda self: self.s["next load"], lambda self, number: self.s.update({"next load": number}))},
+}
+MADE = [type(name, (Shard,), members) for name, members in CHANGED.items()]
 
 
 class SlideForgetsProtected(Shard):
@@ -38,14 +117,42 @@ class SlideDropsAnEntry(Shard):
         return moved
 
 
-class TrimBeginsAtWindow(Shard):
-    def trim_order(self):
-        return (self.window, self.probation, self.protected)
+class PutsAreLookups(Shard):
+    def letter_P(self, moment, key, number):
+        words = super().letter_P(moment, key, number)
+        self.follow(moment, key)
+        return words
 
 
-class TrimBeginsAtProtected(Shard):
-    def trim_order(self):
-        return (self.protected, self.probation, self.window)
+class OtherAdviser:
+    def __init__(self, s):
+        super().__init__(s)
+        self.adviser = self.Adviser(s["entries"]) if s.get("adaptive") else None
+
+
+class FollowsByThree(OtherAdviser, Shard):
+    class Adviser(Adviser):
+        def slides(self, cache):
+            return islice(super().slides(cache), 3)
+
+
+class AdvisesByAnotherSample(OtherAdviser, Shard):
+    class Adviser(Adviser):
+        def __init__(self, entries):
+            super().__init__(entries)
+            self.below //= 2
+
+
+class AdvisesWithNoLead(OtherAdviser, Shard):
+    class Adviser(Adviser):
+        def choose(self):
+            self.chosen = max(SHARES, key=self.hits.get)
+
+
+class AdviceNeverFades(OtherAdviser, Shard):
+    class Adviser(Adviser):
+        def fade(self):
+            pass
 
 
 class TrimStopsAfterOne(Shard):
@@ -56,50 +163,6 @@ class TrimStopsAfterOne(Shard):
             self.tell(regions[0].pop(), "size")
 
 
-class TrimMayTakeTheStored(Shard):
-    """In a trace the weight of a key is always the same, so only a scenario shows it."""
-
-    def trim(self, stored):
-        super().trim(None)
-
-
-class HalvesLate(Shard):
-    def __init__(self, s):
-        super().__init__(s)
-        self.sketch.full += 1
-
-
-class NeverHalves(Shard):
-    def __init__(self, s):
-        super().__init__(s)
-        self.sketch.full = 2 ** 60
-
-
-class FullCountersStillAdd(Shard):
-    class Sketch(Sketch):
-        def count(self, word):
-            for row, place in zip(self.rows, self.places(word)):
-                row[place] = min(15, row[place] + 1)
-            self.additions += 1
-            if self.is_time_to_halve():
-                self.halve()
-
-    def __init__(self, s):
-        super().__init__(s)
-        self.sketch = self.Sketch(s["entries"])
-
-
-class CountersStopAt7(Shard):
-    class Sketch(Sketch):
-        def count(self, word):
-            if self.estimate(word) < 7:
-                super().count(word)
-
-    def __init__(self, s):
-        super().__init__(s)
-        self.sketch = self.Sketch(s["entries"])
-
-
 class CountsBeforeTheStep(Shard):
     def letter_P(self, moment, key, number):
         if self.weight_of(key) <= self.s["weight"]:
@@ -107,22 +170,6 @@ class CountsBeforeTheStep(Shard):
         counting, self.sketch.count = self.sketch.count, lambda word: None
         words = super().letter_P(moment, key, number)
         self.sketch.count = counting
-        return words
-
-
-class PutsAreNotCounted(Shard):
-    def letter_P(self, moment, key, number):
-        counting, self.sketch.count = self.sketch.count, lambda word: None
-        words = super().letter_P(moment, key, number)
-        self.sketch.count = counting
-        return words
-
-
-class ExpiredIsReplaced(Shard):
-    def letter_P(self, moment, key, number):
-        self.drop_own_expired = lambda key: None
-        words = super().letter_P(moment, key, number)
-        del self.drop_own_expired
         return words
 
 
@@ -150,31 +197,6 @@ class HitsInProbationStay(Shard):
             super().touch(entry)
 
 
-class ProtectedHoldsAllOfMain(Shard):
-    def __init__(self, s):
-        super().__init__(s)
-        self.protected_most = self.main
-
-
-class PutKeepsTheLoadCurrent(Shard):
-    def letter_P(self, moment, key, number):
-        self.forget = lambda key: False
-        words = super().letter_P(moment, key, number)
-        del self.forget
-        return words
-
-
-class ForgottenLoadIsStored(Shard):
-    def land(self, load, key, version):
-        load.current = True
-        return super().land(load, key, version)
-
-
-class OnlyCurrentLoadsFillTheLimit(Shard):
-    def may_open(self):
-        return sum(1 for load in self.loads if load.current) < self.s["flights"]
-
-
 class FullIsAStep(Shard):
     def look(self, moment, key, seeks):
         words, opened = super().look(moment, key, seeks)
@@ -183,76 +205,10 @@ class FullIsAStep(Shard):
         return words, opened
 
 
-class NewestLoadIsLanded(Shard):
-    def letter_E(self, moment, key, number):
-        self.loads.reverse()
-        words = super().letter_E(moment, key, number)
-        self.loads.reverse()
-        return words
-
-
 class ForgetLeavesTheExpired(Shard):
     def letter_F(self, moment, key, number):
         self.begin_step(moment)
         return "forget" if self.forget(key) else "none"
-
-
-class MomentsGoBack(Shard):
-    def begin_step(self, moment):
-        self.latest = moment
-
-
-class ClearTellsExplicit(Shard):
-    def letter_X(self, moment, key, number):
-        self.is_expired = lambda entry: False
-        words = super().letter_X(moment, key, number)
-        del self.is_expired
-        return words
-
-
-class CleanFromTheFront(Shard):
-    def letter_C(self, moment, key, number):
-        for region in self.regions():
-            region.reverse()
-        words = super().letter_C(moment, key, number)
-        for region in self.regions():
-            region.reverse()
-        return words
-
-
-class WeightOfTheKey(Shard):
-    def weight_of(self, key):
-        return key[1] % self.s["mod"]
-
-
-class KeyZeroDoesNotFail(Shard):
-    def fails(self, key):
-        return super().fails(key) and key[1] != 0
-
-
-class RefreshJoinsNothing(Shard):
-    def is_due(self, entry):
-        return False
-
-
-class OneLatestMomentForAllShards(Shard):
-    @property
-    def latest(self):
-        return self.s["latest"]
-
-    @latest.setter
-    def latest(self, moment):
-        self.s["latest"] = moment
-
-
-class OneCountOfLoadsForAllShards(Shard):
-    @property
-    def next_load(self):
-        return self.s["next load"]
-
-    @next_load.setter
-    def next_load(self, number):
-        self.s["next load"] = number
 
 
 def shard_by_lower_bits(options, trace):
@@ -295,23 +251,27 @@ def with_shard(shard_type):
     return lambda options, trace: model.run(options, trace, shard_type)
 
 
+# What is of a letter, or of what a trace makes of a key.
+OF_TRACES = ("NewestLoadIsLanded", "WeightOfTheKey", "KeyZeroDoesNotFail", "PutsAreLookups")
+
+
 def wrong_shards():
     return [shard_type for shard_type in Shard.__subclasses__() if shard_type.__module__ == __name__]
 
 
 def of_calls():
     """Those that a call of the cache shows: all but those of a letter, and of what a trace makes of a key."""
-    return [shard_type for shard_type in wrong_shards() if shard_type not in (NewestLoadIsLanded, WeightOfTheKey, KeyZeroDoesNotFail)]
+    return [shard_type for shard_type in wrong_shards() if shard_type.__name__ not in OF_TRACES and not issubclass(shard_type, OtherAdviser)]
 
 
 # No trace shows these.
-OF_SCENARIOS = (TrimMayTakeTheStored, SlideForgetsProtected, SlideGivesToTheEnd, SlideDropsAnEntry)
+OF_SCENARIOS = ("TrimMayTakeTheStored", "SlideForgetsProtected", "SlideGivesToTheEnd", "SlideDropsAnEntry")
 
 
 def all_wrong():
     """The name and the run of each that a trace shows."""
     for shard_type in wrong_shards():
-        if shard_type not in OF_SCENARIOS:
+        if shard_type.__name__ not in OF_SCENARIOS:
             yield shard_type.__name__, with_shard(shard_type)
     yield "WriteForAccess", swapped("write", "access")
     yield "EntriesForWindow", swapped("entries", "window")

@@ -35,6 +35,8 @@ class Run:
         for shard in at:
             shard.line, shard.left, shard.notes = number, [], []
             words = getattr(shard, "letter_" + letter)(moment, key, number)
+            if letter in "LSG":
+                shard.follow(moment, key)
         return "%d %s%s" % (number, words, "".join(text for shard in at for text in shard.left))
 
     def sums(self):

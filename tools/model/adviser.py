@@ -72,6 +72,12 @@ class Adviser:
             if cache.look(word):
                 self.hits[share] += HIT
 
+    def slides(self, cache):
+        """The slides that follow a look-up, for each whether it makes the window wider. The caller makes one before the next."""
+        for _ in range(SLIDES):
+            if cache.window_most != self.wanted():
+                yield cache.window_most < self.wanted()
+
     def choose(self):
         best = max(SHARES, key=self.hits.get)
         if 100 * (self.hits[best] - self.hits[self.chosen]) > self.sampled:
@@ -101,7 +107,6 @@ def play(keys, entries):
         hits += cache.look(word)
         windows += cache.window_most
         adviser.saw(word)
-        for _ in range(SLIDES):
-            if cache.window_most != adviser.wanted():
-                cache.slide(cache.window_most < adviser.wanted())
+        for wider in adviser.slides(cache):
+            cache.slide(wider)
     return hits, windows / max(len(keys), 1), adviser.choices

@@ -7,11 +7,11 @@ from model.regions import REGIONS
 from model.shard import Shard
 
 DEFAULTS = {"entries": 4, "window": 1, "weight": 2 ** 48, "write": None, "access": None, "refresh": None, "flights": 64, "ring": 128, "shards": 1}
-OF_SHARDS = {"look", "seek", "land", "put", "drop", "forget", "clean", "clear"}
+OF_SHARDS = {"look", "peek", "seek", "land", "put", "drop", "forget", "clean", "clear", "slide"}
 OF_CACHE = OF_SHARDS - {"seek", "land"} | {"get"}
-CALLS = {"core": OF_SHARDS | {"get", "slide"}, "shards": OF_SHARDS, "cache": OF_CACHE, "callers": OF_CACHE}
-# A caller isn't told how many steps its sweeps made.
-UNTOLD = {("callers", "clean"), ("callers", "clear")}
+CALLS = {"core": OF_SHARDS | {"get"}, "shards": OF_SHARDS, "cache": OF_CACHE, "callers": OF_CACHE}
+# A caller isn't told how many steps its sweeps made, and a peek is no step.
+UNTOLD = {("callers", "clean"), ("callers", "clear")} | {(layer, "peek") for layer in CALLS}
 HEAVY, FULL, FAILED = 3, 4, 6
 
 
@@ -60,6 +60,14 @@ class Played(Shard):
 
     def call_look(self, moment, key):
         return self.look(moment, key)[0]
+
+    def call_peek(self, moment, key):
+        """What a look would find, with nothing moved: not even the latest moment."""
+        latest, self.latest = self.latest, max(self.latest, moment)
+        found = self.entries.get(key)
+        words = "absent" if found is None or self.is_expired(found) else "hit " + self.entry_words(found)
+        self.latest = latest
+        return words
 
     def call_seek(self, moment, key):
         words, opened = self.look(moment, key, True)
@@ -111,7 +119,7 @@ class Played(Shard):
         self.letter_X(moment, None, 0)
         return self.step("cleared")
 
-    def call_slide(self, moment, way):
+    def call_slide(self, moment, _key, way):
         self.begin_step(moment)
         return self.step("slid" if self.slide(way == "wider") else "at-the-end")
 
@@ -135,9 +143,9 @@ def arguments(words):
     """What a call is handed beside its moment: the key, and what is stored or how a load ends."""
     if len(words) == 2:
         return ()
-    if words[1] == "slide":
-        return (words[2],)
     key = as_key(int(words[2]))
+    if words[1] == "slide":
+        return key, words[3]
     if words[1] == "get":
         failed = words[3] == "failed"
         return key, (int(words[4]), None if failed else (int(words[3]), int(words[4])))
@@ -153,7 +161,7 @@ def told(shards, words, layer):
     if words[1] not in CALLS[layer]:
         return "- no-such-call"
     handed = arguments(words)
-    at = [shards[shard_of(handed[0][1], len(shards))]] if handed and words[1] != "slide" else shards
+    at = [shards[shard_of(handed[0][1], len(shards))]] if handed else shards
     # Shards land a load by its lead, and a core by any number.
     if words[1] == "land" and layer == "shards" and handed[1::-1] not in at[0].sought:
         return "- no-such-call"

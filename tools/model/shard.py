@@ -1,4 +1,5 @@
 """One cache: the entries, the open loads, and what each letter does."""
+from model.adviser import Adviser
 from model.regions import Regions
 
 
@@ -19,6 +20,7 @@ class Shard(Regions):
     def __init__(self, s):
         super().__init__(s)
         self.loads, self.next_load, self.line = [], 1, 0
+        self.adviser = Adviser(s["entries"]) if s.get("adaptive") else None
 
     # The loads.
 
@@ -63,6 +65,17 @@ class Shard(Regions):
             return "loose %d" % load.sharers
         self.store(key, version, weight)
         return "land %d" % load.sharers
+
+    # The window.
+
+    def follow(self, moment, key):
+        """Lets the window follow a look-up of the key, if there is an adviser. Each slide is a step."""
+        if self.adviser is None:
+            return
+        self.adviser.saw(key[1])
+        for wider in self.adviser.slides(self):
+            self.latest = max(self.latest, moment)
+            self.slide(wider)
 
     # The letters: each returns its words, or None where the line was no step.
 
