@@ -18,17 +18,17 @@ HALF_LABEL = 64
 ROOM = WIDTH - 48
 BOLD = 1.2
 WIDTHS = (("iljtfrI.,:;'|!()[] ", 0.38), ("mwMWQO@%&", 0.98))
-CLASSES = {"LRU": "lru", "FIFO": "fifo", "optimum": "best"}
+CLASSES = {"adaptive": "adapt", "LRU": "lru", "FIFO": "fifo", "optimum": "best"}
 
 LIGHT = {"page": "#ffffff", "ink": "#1f2933", "soft": "#5b6675", "grid": "#e3e7ed", "axis": "#98a2b3",
-         "ours": "#0072b2", "lru": "#c2410c", "fifo": "#8e5572", "best": "#5b6675"}
+         "ours": "#0072b2", "adapt": "#00785a", "lru": "#c2410c", "fifo": "#8e5572", "best": "#5b6675"}
 DARK = {"page": "#12161d", "ink": "#e8ebf0", "soft": "#a3adbb", "grid": "#2a323e", "axis": "#667085",
-        "ours": "#56b4e9", "lru": "#f0a54a", "fifo": "#d896b8", "best": "#a3adbb"}
+        "ours": "#56b4e9", "adapt": "#3fc79a", "lru": "#f0a54a", "fifo": "#d896b8", "best": "#a3adbb"}
 SHAPES = """
   text { font: 13px system-ui, -apple-system, "Segoe UI", Roboto, "DejaVu Sans", Helvetica, Arial, sans-serif }
   .title { font-size: 19px; font-weight: 700 } .small { font-size: 12px } .label { font-weight: 600 } .end { text-anchor: end } .mid { text-anchor: middle }
   .line { fill: none; stroke-width: 2.25; stroke-linejoin: round; stroke-linecap: round } .lead { stroke-width: 1; stroke-opacity: .5 }
-  .ours-line { stroke-width: 3.25 } .lru-line { stroke-dasharray: 9 4.5 } .fifo-line { stroke-dasharray: 1.5 5 } .best-line { stroke-width: 1.5 }
+  .ours-line { stroke-width: 3.25 } .adapt-line { stroke-width: 2.75; stroke-dasharray: 14 3 3 3 } .lru-line { stroke-dasharray: 9 4.5 } .fifo-line { stroke-dasharray: 1.5 5 } .best-line { stroke-width: 1.5 }
   .gain { fill-opacity: .12 }"""
 
 
@@ -36,7 +36,7 @@ def colours(palette):
     """The rules of one palette."""
     rules = [".%s { fill: %s }" % (name, palette[name]) for name in ("page", "ink", "soft")]
     rules += [".%s { stroke: %s; stroke-width: 1 }" % (name, palette[name]) for name in ("grid", "axis")]
-    for name in ("ours", "lru", "fifo", "best"):
+    for name in ("ours", "adapt", "lru", "fifo", "best"):
         rules.append(".%s { fill: %s } .%s-line, .%s-lead { stroke: %s }" % (name, palette[name], name, name, palette[name]))
     return " ".join(rules)
 

@@ -1,7 +1,8 @@
 """Hit ratios by thousand look-ups, for tools/hit_curve --over-time: the numbers and a table."""
 from itertools import islice
 
-from policies import POLICIES
+from model.adviser import Adviser
+from policies import POLICIES, words_of
 
 PART, MOST_PARTS = 1000, 200
 
@@ -33,6 +34,16 @@ def measure(keys, entries, windows, our_hits):
     return curves | {name: by_part(POLICIES[name](keys, entries), size) for name in ("LRU", "optimum")}
 
 
+def advised(keys, entries, names):
+    """The window that is advised at the end of each part."""
+    size, adviser, windows = part_of(len(keys)), Adviser(entries), []
+    for at, word in enumerate(words_of(keys, names), 1):
+        adviser.saw(word)
+        if at % size == 0 or at == len(keys):
+            windows.append(adviser.wanted())
+    return windows
+
+
 def print_table(curves, entries, lookups, told):
     size = part_of(lookups)
     print("hit ratio in percent by {:,} look-ups, {:,} entries, {}".format(size, entries, told))
@@ -44,6 +55,6 @@ def print_table(curves, entries, lookups, told):
 def rows(windows, curves, entries, lookups):
     yield ["cache", "entries", "window", "to_look_up", "hit_ratio"]
     for name, ratios in curves.items():
-        cache = "Rookdresser" if name in windows else name
+        cache = name if windows.get(name) is None else "Rookdresser"
         for at, ratio in enumerate(ratios, 1):
             yield [cache, entries, windows.get(name, ""), min(lookups, at * part_of(lookups)), "%.6f" % ratio]

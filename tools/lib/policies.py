@@ -2,6 +2,7 @@
 import heapq
 from collections import OrderedDict, deque
 
+from model.adviser import Adviser
 from model.sketch import Sketch
 from model.trace import word_of_name
 
@@ -65,10 +66,26 @@ class Lists:
     """
 
     def __init__(self, entries, window):
-        self.window_most, self.main = window, entries - window
-        self.protected_most = self.main * 4 // 5
+        self.entries = entries
+        self.bound_regions(window)
         self.window, self.probation, self.protected = OrderedDict(), OrderedDict(), OrderedDict()
         self.sketch = Sketch(entries)
+
+    def bound_regions(self, window):
+        """How many entries window, main and protected may hold."""
+        self.window_most, self.main = window, self.entries - window
+        self.protected_most = self.main * 4 // 5
+
+    def slide(self, wider):
+        """The border between window and main moves by one entry."""
+        self.bound_regions(self.window_most + (1 if wider else -1))
+        for region, most in ((self.window, self.window_most), (self.protected, self.protected_most)):
+            if len(region) > most:
+                oldest, word = region.popitem(last=False)
+                self.probation[oldest] = word
+        if len(self.probation) + len(self.protected) > self.main:
+            oldest, word = self.probation.popitem(last=False)
+            self.window[oldest] = word
 
     def touch(self, key):
         """Whether the key is held; it becomes the most recent then."""
@@ -99,16 +116,28 @@ class Lists:
         self.probation[candidate] = word
 
 
-def ours(keys, entries, window, names=False):
-    """A key is counted at each look-up, and one that isn't held is loaded and stored."""
-    lists, words = Lists(entries, window), {}
+def words_of(keys, names):
+    """The word of each key."""
+    words = {}
     for key in keys:
         if key not in words:
             words[key] = word_of_name(key) if names else int(key)
+        yield words[key]
+
+
+def ours(keys, entries, window, names=False):
+    """A key is counted at each look-up, and one that isn't held is loaded and stored. Without a window it follows the stream."""
+    adviser = Adviser(entries) if window is None else None
+    lists = Lists(entries, adviser.wanted() if adviser else window)
+    for key, word in zip(keys, words_of(keys, names)):
         hit = lists.touch(key)
-        lists.sketch.count(words[key])
+        lists.sketch.count(word)
         if not hit:
-            lists.store(key, words[key])
+            lists.store(key, word)
+        if adviser:
+            adviser.saw(word)
+            for wider in adviser.slides(lists):
+                lists.slide(wider)
         yield hit
 
 
