@@ -51,10 +51,11 @@ int main(void) {
     counted(rd_put(&cache, 4, (rd_token){4, 1}, 160, &a), RD_OK, RD_STORED);
     CHECK(rd_held(&stats) == 1);
     counted(rd_drop_key(&cache, 4, 160, &a), RD_OK, RD_DROPPED);
+    counted(rd_slide(&cache, true, 160, &a), RD_OK, RD_SLID);
 
     CHECK(rd_hits(&stats) == 3 && rd_misses(&stats) == 3 && stats.answers[RD_JOIN] == 1);
     CHECK(rd_loads(&stats) == 2 && stats.answers[RD_LOOSE] == 1 && stats.answers[RD_FAILED] == 1);
-    CHECK(stats.answers[RD_HIT_LEAD] == 2);
+    CHECK(stats.answers[RD_HIT_LEAD] == 2 && stats.answers[RD_SLID] == 1 && stats.left[0] == 0);
     CHECK(stats.left[RD_EXPLICIT] == 1 && stats.left[RD_REPLACED] == 1 && stats.left[RD_EXPIRED] == 2 && stats.left[RD_SIZE] == 1);
     CHECK(rd_evicted(&stats) == 3 && rd_held(&stats) == 0);
     CHECK(stats.refused[RD_TOO_MANY_FLIGHTS] == 1 && stats.refused[RD_TOO_HEAVY] == 1 && stats.misused == 1);

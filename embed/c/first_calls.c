@@ -10,6 +10,39 @@
         }                                                                                                    \
     } while (0)
 
+/* The border goes from one end to the other and back, a step each time. No entry leaves, and the list of notices is emptied. */
+static int slides(void) {
+    rd_setup setup = {.entries = 4, .window = 1, .flights = 2, .bound = 100};
+    rd_cache cache = RD_CACHE_INIT;
+    rd_answer a;
+    rd_notice n;
+    rd_numbers t;
+    uint32_t window = 77, wanted = 1;
+    CHECK(rd_get_window(&cache, &window) == RD_CLOSED && window == 77);
+    CHECK(rd_open(&setup, &cache) == 0 && rd_get_window(&cache, &window) == 0 && window == 1);
+    for (uint64_t key = 1; key <= 4; key++) CHECK(rd_put(&cache, key, (rd_token){key, 1}, 10, &a) == 0 && a.notices == 0);
+    static const struct {
+        bool wider;
+        uint64_t moved;
+    } rows[] = {{false, 0}, {true, 1}, {true, 1}, {true, 1}, {true, 0}, {false, 1}, {false, 1}, {false, 1}, {false, 0}};
+    for (uint64_t i = 0; i < sizeof rows / sizeof *rows; i++) {
+        CHECK(rd_put(&cache, 4, (rd_token){4, 1}, 10, &a) == 0 && a.notices == 1);
+        CHECK(rd_slide(&cache, rows[i].wider, 10, &a) == 0 && a.kind == RD_SLID && a.number == rows[i].moved);
+        CHECK(a.notices == 0 && a.token == 0 && a.weight == 0 && rd_get_notice(&cache, 0, &n) == RD_NO_SUCH_NOTICE);
+        CHECK(rd_get_numbers(&cache, &t) == 0 && t.entries == 4 && t.evicted == 0 && t.step == 6 + 2 * i);
+        if (rows[i].moved) wanted = rows[i].wider ? wanted + 1 : wanted - 1;
+        CHECK(rd_get_window(&cache, &window) == 0 && window == wanted);
+    }
+    /* a later moment counts, an earlier one as the latest */
+    CHECK(rd_slide(&cache, true, 12, &a) == 0 && rd_slide(&cache, true, 0, &a) == 0);
+    CHECK(rd_get_numbers(&cache, &t) == 0 && t.latest == 12 && rd_close(&cache) == 0);
+    /* the window of the only entry */
+    setup.entries = 1;
+    CHECK(rd_open(&setup, &cache) == 0 && rd_slide(&cache, true, 0, &a) == 0 && a.kind == RD_SLID && a.number == 0);
+    CHECK(rd_slide(&cache, false, 0, &a) == 0 && a.kind == RD_SLID && a.number == 0 && rd_close(&cache) == 0);
+    return 0;
+}
+
 int main(void) {
     rd_setup setup = {
         .entries = 4, .window = 1, .flights = 2, .bound = 100, .after_write = 100, .refresh = 50};
@@ -24,6 +57,9 @@ int main(void) {
     CHECK(rd_put_with_notice(&cache, 1, (rd_token){7, 2}, 0, &a, &n) == RD_CLOSED && n.token == 77);
     CHECK(rd_land_keep_with_notice(&cache, 1, 1, (rd_token){7, 2}, 0, &a, &n) == RD_CLOSED && n.token == 77);
     CHECK(rd_drop_key_with_notice(&cache, 1, 0, &a, &n) == RD_CLOSED && n.token == 77);
+    a.kind = 77;
+    CHECK(rd_slide(&cache, true, 0, &a) == RD_CLOSED && a.kind == 77);
+    CHECK(rd_peek(&cache, 1, 0, &a) == RD_CLOSED && a.kind == 77);
     CHECK(rd_close(&cache) == RD_CLOSED);
     CHECK(rd_check(&setup) == 0);
     CHECK(rd_open(&setup, &cache) == 0 && cache.is_open);
@@ -48,6 +84,10 @@ int main(void) {
     CHECK(rd_get_notice(&cache, 0, &n) == 0 && n.key == 3 && n.token == 9 && n.weight == 3 &&
           n.cause == RD_REPLACED);
     CHECK(rd_get_notice(&cache, 1, &n) == RD_NO_SUCH_NOTICE && n.token == 9);
+    /* what a peek tells, at this moment and once the entry has expired; the notice is still there */
+    CHECK(rd_peek(&cache, 3, 119, &a) == 0 && a.kind == RD_HIT && a.token == 10 && a.weight == 4 && a.notices == 0);
+    CHECK(rd_peek(&cache, 3, 120, &a) == 0 && a.kind == RD_ABSENT && a.token == 0 && a.weight == 0);
+    CHECK(rd_get_notice(&cache, 0, &n) == 0 && n.key == 3 && n.token == 9);
     CHECK(rd_seek(&cache, 3, 71, &a) == 0 && a.kind == RD_HIT_LEAD && a.token == 10 && a.number == 2);
     CHECK(rd_land_failed(&cache, 2, 3, 72, &a) == 0 && a.kind == RD_FAILED && a.number == 1);
     CHECK(rd_seek(&cache, 50, 72, &a) == 0 && a.kind == RD_LEAD);
@@ -99,6 +139,7 @@ int main(void) {
     CHECK(rd_check(&late) == 0 && rd_open(&late, &cache) == 0 && rd_put(&cache, 1, (rd_token){7, 2}, 0, &a) == 0);
     CHECK(rd_seek(&cache, 1, 4, &a) == 0 && a.kind == RD_HIT && rd_seek(&cache, 1, 5, &a) == 0 && a.kind == RD_LEAD);
     CHECK(rd_close(&cache) == 0);
+    if (slides()) return 1;
     setup.window = 5;
     CHECK(rd_check(&setup) == 2 && rd_open(&setup, &cache) == RD_BAD_SETUP && !cache.is_open);
     setup.window = 1;

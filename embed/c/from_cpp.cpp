@@ -1,7 +1,9 @@
-// The headers from C++: a cache of numbers and one of names, and a loading one.
+// The headers from C++: a cache of numbers and one of names, a loading one, one whose window follows, and a shared one.
+#include "rookdresser_adaptive.h"
 #include "rookdresser_loading.h"
 #include "rookdresser_seeded.h"
 #include "rookdresser_text.h"
+#include "rookdresser_waiting.h"
 #include <cstdio>
 
 int main() {
@@ -29,6 +31,17 @@ int main() {
     ok = ok && rd_loading_look(&loading, rd_seeded(seed, "alice", 5), 0, &got) == RD_OK && got;
     rd_loading_release(&loading, got);
     ok = ok && rd_loading_close(&loading) == RD_OK;
+    rd_follower follower = RD_FOLLOWER_INIT;
+    setup.entries = 512;
+    ok = ok && rd_open_follower(&setup, &follower) == RD_OK && setup.window == 204 && rd_open(&setup, &cache) == RD_OK;
+    ok = ok && rd_look(&cache, 1, 0, &a) == RD_OK && rd_follow(&follower, &cache, 1) == RD_OK;
+    ok = ok && rd_close_follower(&follower) == RD_OK && rd_close(&cache) == RD_OK;
+    rd_gate gate = RD_GATE_INIT;
+    rd_caller caller = RD_CALLER_INIT;
+    uint64_t fault = RD_OK;
+    ok = ok && rd_shared_open(&setup, &caller) == RD_OK;
+    RD_WAITING(&gate, fault, rd_shared_put(&caller, 1, rd_token{7, 2}, 0, &a));
+    ok = ok && fault == RD_OK && a.kind == RD_STORED && rd_shared_close(&caller) == RD_OK;
     std::puts(ok ? "from C++: ok" : "from C++: wrong");
     return ok ? 0 : 1;
 }

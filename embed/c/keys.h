@@ -18,6 +18,7 @@ static rd_name spelled(uint64_t k) {
 #define GIVEN(k) (k)
 #endif
 #define LOOK CALL(rd_look, rd_look_name)
+#define PEEK CALL(rd_peek, rd_peek_name)
 #define SEEK CALL(rd_seek, rd_seek_name)
 #define PUT CALL(rd_put, rd_put_name)
 #define LAND_KEEP CALL(rd_land_keep, rd_land_keep_name)

@@ -220,6 +220,57 @@ static void test_closing(void) {
     CHECK(rd_loading_drop(&l, 7, 160) == RD_CLOSED && rd_loading_forget(&l, 7, 160) == RD_CLOSED && rd_loading_clear(&l, 160) == RD_CLOSED);
 }
 
+/* The streams of adaptive_calls.c: of keys that stay popular, and of keys that are asked for twice. */
+static void test_a_window_that_follows(void) {
+    rd_setup setup = {.entries = 512, .window = 77, .flights = 0, .bound = 1000};
+    CHECK(rd_loading_open_adaptive(&l, &setup, destroy) == RD_BAD_SETUP && !l.cache.is_open && rd_loading_window(&l) == 0);
+    setup.flights = 4;
+    setup.entries = 511;
+    CHECK(rd_loading_open_adaptive(&l, &setup, destroy) == RD_BAD_SETUP && !l.cache.is_open && rd_loading_window(&l) == 0);
+    setup.entries = 512;
+    for (long i = 0;; i++) {
+        refuse_in = i;
+        uint64_t fault = rd_loading_open_adaptive(&l, &setup, destroy);
+        refuse_in = -1;
+        if (!fault) break;
+        CHECK(fault == RD_OUT_OF_MEMORY && !l.cache.is_open && !l.follower.adviser.is_open);
+    }
+    CHECK(rd_loading_window(&l) == 204 && rd_loading_open_adaptive(&l, &setup, destroy) == RD_OPEN_ALREADY);
+    for (uint64_t i = 0; i < 20000; i++) {
+        request r = {.key = i % 2 ? 1000000 + i / 2 : i / 2 % 512, .number = 1};
+        get(&r);
+        CHECK(r.fault == RD_OK);
+    }
+    CHECK(rd_loading_window(&l) == 5);
+    for (uint64_t i = 0; i < 20000; i++) {
+        uint64_t key = 2000000 + i / 2 - i % 2 * 180;
+        if (!looked(key, 0)) CHECK(rd_loading_put(&l, key, new_value(1), 1, 0) == RD_OK);
+    }
+    CHECK(rd_loading_window(&l) == 512);
+    /* Without memory for the adviser or a slide, no look fails. */
+    for (long i = 0; i < 300; i++) {
+        rd_shared *got;
+        l.follower.window = 500;
+        refuse_in = i % 3;
+        CHECK(rd_loading_look(&l, 9000000 + (uint64_t)i, 0, &got) == RD_OK && !got);
+        refuse_in = -1;
+        l.follower.window = 512;
+    }
+    whole();
+    CHECK(rd_loading_close(&l) == RD_OK && live == 0 && rd_loading_window(&l) == 0 && !l.follower.adviser.is_open);
+    /* The notices of a look and of a get are read before the border moves. */
+    setup.after_write = 100;
+    CHECK(rd_loading_open_adaptive(&l, &setup, destroy) == RD_OK);
+    CHECK(rd_loading_put(&l, 1, new_value(1), 1, 0) == RD_OK && rd_loading_put(&l, 2, new_value(2), 1, 0) == RD_OK);
+    l.follower.window = 100;
+    request again = {.key = 2, .now = 200, .number = 3};
+    CHECK(looked(1, 200) == 0 && l.follower.window == 104 && live == 1);
+    get(&again);
+    CHECK(again.got == 3 && l.follower.window == 108 && live == 1);
+    whole();
+    CHECK(rd_loading_close(&l) == RD_OK && live == 0);
+}
+
 int main(void) {
     const rd_setup setup = {.entries = 8, .window = 1, .flights = 4, .bound = 100, .after_write = 100, .refresh = 50};
     CHECK(rd_loading_open(&l, &setup, destroy) == RD_OK && rd_loading_open(&l, &setup, NULL) == RD_OPEN_ALREADY);
@@ -232,6 +283,7 @@ int main(void) {
     test_refused_memory();
     test_closing();
     CHECK(rd_loading_open(&l, &setup, destroy) == RD_OK && rd_loading_clear(&l, 0) == RD_OK && rd_loading_close(&l) == RD_OK);
+    test_a_window_that_follows();
     puts("loading calls: ok");
     return 0;
 }

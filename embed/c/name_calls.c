@@ -16,6 +16,7 @@ static uint64_t refused(rd_cache *cache, const rd_name *key) {
     rd_answer a = {77, 77, 77, 77, 77};
     rd_name_notice n = {.token = 77, .weight = 77, .cause = 77};
     uint64_t told[] = {rd_look_name(cache, key, 0, &a),
+                       rd_peek_name(cache, key, 0, &a),
                        rd_seek_name(cache, key, 0, &a),
                        rd_land_keep_name(cache, 1, key, (rd_token){1, 1}, 0, &a),
                        rd_land_loose_name(cache, 1, key, 0, &a),
@@ -38,6 +39,8 @@ static int first_rows(rd_cache *cache) {
     CHECK(rd_put_name(cache, &alice, (rd_token){7, 2}, 0, &a) == 0 && a.kind == RD_STORED && a.notices == 0);
     CHECK(rd_look_name(cache, &alice, 0, &a) == 0 && a.kind == RD_HIT && a.token == 7 && a.weight == 2);
     CHECK(rd_look_name(cache, &bob, 0, &a) == 0 && a.kind == RD_ABSENT);
+    CHECK(rd_peek_name(cache, &alice, 0, &a) == 0 && a.kind == RD_HIT && a.token == 7 && a.weight == 2);
+    CHECK(rd_peek_name(cache, &bob, 0, &a) == 0 && a.kind == RD_ABSENT);
     CHECK(rd_seek_name(cache, &bob, 1, &a) == 0 && a.kind == RD_LEAD && a.number == 1);
     CHECK(rd_seek_name(cache, &bob, 1, &a) == 0 && a.kind == RD_JOIN && a.number == 1);
     CHECK(rd_land_keep_name(cache, 1, &alice, (rd_token){8, 1}, 1, &a) == 0 && a.kind == RD_GONE);
@@ -75,6 +78,9 @@ static int every_length(rd_cache *cache) {
     rd_numbers t;
     CHECK(rd_get_numbers(cache, &t) == 0 && t.entries == 25 && t.hits == 26 && t.misses == 4 && t.lookups == 30);
     CHECK(rd_clean(cache, 4, &a) == 0 && a.kind == RD_CLEANED && a.notices == 0);
+    CHECK(rd_slide(cache, false, 4, &a) == 0 && a.kind == RD_SLID && a.number == 1 && a.notices == 0);
+    uint32_t window;
+    CHECK(rd_get_window(cache, &window) == 0 && window == 3);
     return 0;
 }
 
@@ -98,7 +104,7 @@ int main(void) {
     CHECK(rd_put(&names, 1, (rd_token){1, 1}, 0, &a) == RD_OTHER_KEYS && rd_forget(&names, 1, 0, &a) == RD_OTHER_KEYS);
     CHECK(rd_land_keep(&names, 1, 1, (rd_token){1, 1}, 0, &a) == RD_OTHER_KEYS);
     CHECK(rd_land_loose(&names, 1, 1, 0, &a) == RD_OTHER_KEYS && rd_land_failed(&names, 1, 1, 0, &a) == RD_OTHER_KEYS);
-    CHECK(rd_drop_key(&names, 1, 0, &a) == RD_OTHER_KEYS);
+    CHECK(rd_drop_key(&names, 1, 0, &a) == RD_OTHER_KEYS && rd_peek(&names, 1, 0, &a) == RD_OTHER_KEYS);
     CHECK(rd_put_with_notice(&names, 1, (rd_token){1, 1}, 0, &a, &of_number) == RD_OTHER_KEYS);
     CHECK(rd_land_keep_with_notice(&names, 1, 1, (rd_token){1, 1}, 0, &a, &of_number) == RD_OTHER_KEYS);
     CHECK(rd_drop_key_with_notice(&names, 1, 0, &a, &of_number) == RD_OTHER_KEYS && a.kind == 77);

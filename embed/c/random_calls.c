@@ -1,6 +1,8 @@
 /* A million random operations beside a plain model of what must hold: the model keeps the tokens by key, in
  * step with the notices, and compares each hit, each number and each notice with it. Half of the puts, landings
- * and drops hand their first notice back, which is compared with the one that is told. */
+ * and drops hand their first notice back, which is compared with the one that is told. Slides move the border
+ * between its ends, where it stays, and no entry leaves by one. A peek before each look tells what the look does,
+ * and leaves all numbers. */
 #include "keys.h"
 #define KEYS 512
 #define CHECK(x)                                                                                             \
@@ -37,12 +39,13 @@ int main(int argc, char **argv) {
     rd_cache cache = RD_CACHE_INIT;
     if (OPEN(&setup, &cache)) return 1;
     uint64_t now = 0, latest = 0, token = 1, hits = 0, left = 0, entries = 0, weight = 0, refused = 0,
-             evicted = 0, misses = 0, handed_back = 0;
+             evicted = 0, misses = 0, handed_back = 0, steps = 0, ends = 0;
+    uint32_t window = setup.window;
     for (i = 0; i < n; i++) {
         now += next() % 4;
         uint64_t k = next() % KEYS;
         if (next() % 4) k %= 80;
-        unsigned what = next() % 100;
+        unsigned what = next() % 104;
         rd_answer a = {99, 99, 99, 99, 99};
         uint64_t f;
         rd_token v = {token, (uint32_t)(next() % 40)};
@@ -50,9 +53,20 @@ int main(int argc, char **argv) {
         bool stores = false, hands_back = false;
         any_notice first;
         memset(&first, 77, sizeof first);
-        if (what < 45) {
+        if (what >= 100) {
+            bool wider = next() % 2, moves = wider ? window < 40 : window > 1;
+            f = rd_slide(&cache, wider, now, &a);
+            CHECK(f == 0 && a.kind == RD_SLID && a.number == moves && a.notices == 0 && a.token == 0 && a.weight == 0);
+            if (moves) window += wider ? 1u : -1u;
+            ends += !moves;
+        } else if (what < 45) {
+            rd_answer seen = {99, 99, 99, 99, 99};
+            rd_numbers s, t;
+            CHECK(rd_get_numbers(&cache, &s) == 0 && PEEK(&cache, GIVEN(k), now, &seen) == 0);
+            CHECK(rd_get_numbers(&cache, &t) == 0 && !memcmp(&s, &t, sizeof s));
             f = LOOK(&cache, GIVEN(k), now, &a);
-            CHECK(f == 0);
+            CHECK(f == 0 && seen.kind == a.kind && seen.token == a.token && seen.weight == a.weight);
+            CHECK(seen.number == 0 && seen.notices == 0);
         } else if (what < 70) {
             f = SEEK(&cache, GIVEN(k), now, &a);
             CHECK(f == 0 || f == RD_TOO_MANY_FLIGHTS);
@@ -169,15 +183,15 @@ int main(int argc, char **argv) {
         }
         if ((a.kind == RD_ABSENT || a.kind == RD_LEAD || a.kind == RD_JOIN || a.kind == RD_DROPPED))
             CHECK(!in[k]);
-        if (f == 0) latest = now; /* a refused call changes nothing, the moment included */
+        if (f == 0) latest = now, steps++; /* a refused call changes nothing, the moment included */
         rd_numbers t;
         CHECK(rd_get_numbers(&cache, &t) == 0);
         CHECK(t.entries == entries && t.weight == weight && t.entries <= 40 && t.weight <= 900 &&
               t.hits == hits && t.misses == misses && t.evicted == evicted && t.flights == (uint64_t)loads &&
-              t.latest == latest);
+              t.latest == latest && t.step == steps);
     }
     printf("%ld operations: hits %llu misses %llu left %llu refused %llu entries %llu weight %llu\n", n,
            (unsigned long long)hits, (unsigned long long)misses, (unsigned long long)left,
            (unsigned long long)refused, (unsigned long long)entries, (unsigned long long)weight);
-    return handed_back == 0 || rd_close(&cache) != 0;
+    return handed_back == 0 || ends == 0 || rd_close(&cache) != 0;
 }

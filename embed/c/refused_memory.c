@@ -37,6 +37,7 @@ static uint64_t next(void) {
 }
 static uint64_t op(rd_cache *c, unsigned what, uint64_t k, uint64_t id, rd_token v, uint64_t now,
                    rd_answer *a) {
+    if (what >= 100) return rd_slide(c, what % 2, now, a);
     if (what < 30) return LOOK(c, GIVEN(k), now, a);
     if (what < 60) return SEEK(c, GIVEN(k), now, a);
     if (what < 75) return LAND_KEEP(c, id, GIVEN(k), v, now, a);
@@ -56,7 +57,7 @@ int main(void) {
     rd_setup setup = {
         .entries = 32, .window = 4, .flights = 8, .bound = 300, .after_write = 2000, .refresh = 500};
     rd_cache c = RD_CACHE_INIT, twin = RD_CACHE_INIT;
-    long i = -1, refused = 0;
+    long i = -1, refused = 0, slides = 0;
     for (fail_in = 0;;) {
         long at = fail_in;
         uint64_t f = OPEN(&setup, &c);
@@ -72,7 +73,7 @@ int main(void) {
     uint64_t now = 0, id = 1;
     for (i = 0; i < 300000; i++) {
         now += next() % 3;
-        unsigned what = next() % 100;
+        unsigned what = next() % 110;
         uint64_t k = next() % 60;
         rd_token v = {i, next() % 30};
         uint64_t l = id > 8 ? id - next() % 8 : id;
@@ -94,7 +95,8 @@ int main(void) {
                 break;
             }
             refused++;
-            CHECK(what < 95); /* the last two take no memory */
+            CHECK(what < 95 || what >= 100); /* a drop and a clean take no memory */
+            slides += what >= 100;
             CHECK(f == 1 && a.number == 1 && a.notices == 0);
             CHECK(!memcmp(&first, &untouched, sizeof first));
             rd_get_numbers(&c, &t);
@@ -105,7 +107,7 @@ int main(void) {
         rd_get_numbers(&twin, &t);
         CHECK(!memcmp(&s, &t, sizeof s));
     }
-    printf("%ld operations, %ld allocations refused (%ld at opening), %ld calls refused\n", i, failed, opens,
-           refused);
-    return rd_close(&c) || rd_close(&twin);
+    printf("%ld operations, %ld allocations refused (%ld at opening), %ld calls refused, %ld of them slides\n", i, failed,
+           opens, refused, slides);
+    return slides == 0 || rd_close(&c) || rd_close(&twin);
 }

@@ -1,5 +1,6 @@
 /* A loading cache for threads: a cache of rookdresser.h behind one lock, with one load for all callers that ask for a key meanwhile.
- * It has no shards: all calls of a cache take the same lock, each for one step.
+ * It has no shards: all calls of a cache take the same lock, each for one step. If its window follows the look-ups, a look and a get
+ * also show them to its adviser under that lock, and make up to four slides.
  *
  *     typedef struct page { rd_shared shared; char text[100]; } page;     a value begins with its count of shares
  *     rd_loading pages = RD_LOADING_INIT;
@@ -14,10 +15,12 @@
  */
 #ifndef ROOKDRESSER_LOADING_H
 #define ROOKDRESSER_LOADING_H
+#include "rookdresser_adaptive.h"
 #include "rookdresser_stats.h"
 #include <pthread.h>
 
 #ifdef ROOKDRESSER_LOADING_NAMES
+#include "rookdresser_seeded.h"
 typedef rd_name rd_loading_key;
 typedef rd_name_notice rd_loading_notice;
 #define RD_LOADING_OPEN rd_open_names
@@ -25,6 +28,10 @@ typedef rd_name_notice rd_loading_notice;
 #define RD_LOADING_CALL(call, cache, ...) call##_name(cache, __VA_ARGS__)
 #define RD_LOADING_DROP rd_drop_name
 #define RD_LOADING_KEY(key) (&(key))
+static inline uint64_t rd_loading_number(rd_name key) {
+    const uint64_t seed[2] = {0, 0};
+    return rd_seeded(seed, key.bytes, key.length);
+}
 #else
 typedef uint64_t rd_loading_key;
 typedef rd_notice rd_loading_notice;
@@ -33,6 +40,7 @@ typedef rd_notice rd_loading_notice;
 #define RD_LOADING_CALL(call, cache, ...) call(cache, __VA_ARGS__)
 #define RD_LOADING_DROP rd_drop_key
 #define RD_LOADING_KEY(key) (key)
+static inline uint64_t rd_loading_number(uint64_t key) { return key; }
 #endif
 
 /* The beginning of each value. The cache has a share of each value that it holds, and a caller has one of each value that it got. */
@@ -64,8 +72,10 @@ typedef struct rd_loading {
     rd_stats stats;
     rd_flight *loads, *waits;
     void (*destroy)(rd_shared *value);
+    rd_follower follower; /* closed if the window is fixed */
 } rd_loading;
-#define RD_LOADING_INIT {PTHREAD_MUTEX_INITIALIZER, PTHREAD_COND_INITIALIZER, RD_CACHE_INIT, {{0}, {0}, {0}, 0}, 0, 0, 0}
+#define RD_LOADING_INIT \
+    {PTHREAD_MUTEX_INITIALIZER, PTHREAD_COND_INITIALIZER, RD_CACHE_INIT, {{0}, {0}, {0}, 0}, 0, 0, 0, RD_FOLLOWER_INIT}
 
 /* Opens an empty cache, as rd_open does. The cache calls destroy for each value once nobody has a share of it. */
 static inline uint64_t rd_loading_open(rd_loading *l, const rd_setup *setup, void (*destroy)(rd_shared *value)) {
@@ -74,6 +84,30 @@ static inline uint64_t rd_loading_open(rd_loading *l, const rd_setup *setup, voi
     if (!fault) l->destroy = destroy;
     pthread_mutex_unlock(&l->lock);
     return fault;
+}
+
+/* Opens an empty cache whose window follows the look-ups; the setup's window doesn't count. Faults, in this order: RD_OPEN_ALREADY;
+ * RD_BAD_SETUP, also for fewer than 512 entries; RD_OUT_OF_MEMORY. A fault leaves the cache as it was. If memory is refused later to
+ * the adviser or to a slide, no call fails, and a later one goes on. */
+static inline uint64_t rd_loading_open_adaptive(rd_loading *l, const rd_setup *setup, void (*destroy)(rd_shared *value)) {
+    rd_setup adapted = *setup;
+    pthread_mutex_lock(&l->lock);
+    uint64_t fault = l->cache.is_open ? (uint64_t)RD_OPEN_ALREADY : rd_open_follower(&adapted, &l->follower);
+    if (!fault) {
+        fault = RD_LOADING_OPEN(&adapted, &l->cache);
+        if (fault) rd_close_follower(&l->follower);
+    }
+    if (!fault) l->destroy = destroy;
+    pthread_mutex_unlock(&l->lock);
+    return fault;
+}
+
+/* Returns how many entries the window may hold now, of a cache whose window follows the look-ups; 0 of another one. */
+static inline uint32_t rd_loading_window(rd_loading *l) {
+    pthread_mutex_lock(&l->lock);
+    uint32_t window = l->follower.window;
+    pthread_mutex_unlock(&l->lock);
+    return window;
 }
 
 /* Takes another share of a value of which the caller has one, and returns the value. Without a value it does nothing. */
@@ -99,6 +133,11 @@ static inline uint64_t rd_loading_made(rd_loading *l, uint64_t fault, const rd_a
         *left = value;
     }
     return fault;
+}
+
+/* Has the window follow a look-up or a seek of a key that the library has taken. Its notices have been read. The lock is held. */
+static inline void rd_loading_follow(rd_loading *l, uint64_t fault, rd_loading_key key) {
+    if (fault < RD_CLOSED && l->follower.adviser.is_open) rd_follow(&l->follower, &l->cache, rd_loading_number(key));
 }
 
 /* Gives the lock back, and then gives up the cache's share of what left. */
@@ -138,6 +177,7 @@ static inline uint64_t rd_loading_look(rd_loading *l, rd_loading_key key, uint64
     uint64_t fault = RD_LOADING_CALL(rd_look, &l->cache, RD_LOADING_KEY(key), now, &answer);
     if (!rd_loading_made(l, fault, &answer, &left) && answer.kind == RD_HIT)
         *value = rd_loading_share((rd_shared *)(uintptr_t)answer.token);
+    rd_loading_follow(l, fault, key);
     rd_loading_leave(l, left);
     return fault;
 }
@@ -242,7 +282,9 @@ static inline uint64_t rd_loading_get(rd_loading *l, rd_loading_key key, uint64_
     *value = 0;
     pthread_mutex_lock(&l->lock);
     uint64_t fault = RD_LOADING_CALL(rd_seek, &l->cache, RD_LOADING_KEY(key), now, &answer);
-    if (rd_loading_made(l, fault, &answer, &left)) {
+    rd_loading_made(l, fault, &answer, &left);
+    rd_loading_follow(l, fault, key);
+    if (fault) {
         rd_loading_leave(l, left);
         return fault;
     }
@@ -280,7 +322,10 @@ static inline uint64_t rd_loading_sweep(rd_loading *l, uint64_t (*call)(rd_cache
     rd_shared *left = 0;
     pthread_mutex_lock(&l->lock);
     uint64_t fault = rd_loading_made(l, call(&l->cache, now, &answer), &answer, &left);
-    if (closes && !fault) fault = rd_close(&l->cache);
+    if (closes && !fault) {
+        fault = rd_close(&l->cache);
+        rd_close_follower(&l->follower);
+    }
     rd_loading_leave(l, left);
     return fault;
 }

@@ -5,7 +5,7 @@
 #include "rookdresser.h"
 
 typedef struct rd_stats {
-    uint64_t answers[RD_REFUSED + 1];     /* by rd_kind */
+    uint64_t answers[RD_SLID + 1];        /* by rd_kind */
     uint64_t left[RD_SIZE + 1];           /* entries that left, by rd_cause */
     uint64_t refused[RD_STEPS_SPENT + 1]; /* refused calls, by rd_fault up to RD_STEPS_SPENT */
     uint64_t misused;                     /* calls that were refused as RD_CLOSED or by a later rd_fault */

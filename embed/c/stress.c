@@ -1,5 +1,6 @@
-/* Eight threads on one loading cache, 100,000 requests. With expiry, refresh, failing loads, invalidations during loads, and then a
- * second cache that is closed while in use. Afterwards exactly the values live that the library holds, and in the end none. */
+/* Eight threads on one loading cache, 100,000 requests. With expiry, refresh, failing loads, invalidations during loads; the same with
+ * a window that follows; and a cache that is closed while in use. Afterwards exactly the values live that the library holds, and in
+ * the end none. */
 #include "keys.h"
 #ifdef NAMES
 #define ROOKDRESSER_LOADING_NAMES
@@ -114,10 +115,10 @@ static void *work(void *given) {
     return 0;
 }
 
-static void run(rd_loading *l, bool closes) {
-    static const rd_setup setup = {.entries = 500, .window = 5, .flights = 64, .bound = 4000, .after_write = 1500, .refresh = 600};
+static void run(rd_loading *l, bool adapts, bool closes) {
+    static const rd_setup setup = {.entries = 520, .window = 5, .flights = 64, .bound = 4000, .after_write = 1500, .refresh = 600};
     worker workers[THREADS];
-    CHECK(rd_loading_open(l, &setup, destroy) == RD_OK);
+    CHECK((adapts ? rd_loading_open_adaptive : rd_loading_open)(l, &setup, destroy) == RD_OK);
     for (uint64_t i = 0; i < THREADS; i++) {
         workers[i].of = l;
         workers[i].rng = i * 104729 + 3;
@@ -134,24 +135,35 @@ static void run(rd_loading *l, bool closes) {
     CHECK(!l->loads && !l->waits);
 }
 
-int main(void) {
-    static rd_loading l = RD_LOADING_INIT, closed = RD_LOADING_INIT;
+/* After the requests: exactly the values live that the library holds, and the counts add up. */
+static void check_whole(rd_loading *l) {
     rd_numbers n;
     rd_stats s;
-    run(&l, false);
-    CHECK(rd_loading_numbers(&l, &n, &s) == RD_OK);
-    printf("%llu entries, %ld live; hits %llu misses %llu loads %llu failed %llu evicted %llu\n", (unsigned long long)n.entries, (long)live,
-           (unsigned long long)n.hits, (unsigned long long)n.misses, (unsigned long long)n.loads, (unsigned long long)n.failed,
-           (unsigned long long)n.evicted);
+    CHECK(rd_loading_numbers(l, &n, &s) == RD_OK);
+    printf("%llu entries, %ld live; hits %llu misses %llu loads %llu failed %llu evicted %llu, a window of %u\n", (unsigned long long)n.entries,
+           (long)live, (unsigned long long)n.hits, (unsigned long long)n.misses, (unsigned long long)n.loads, (unsigned long long)n.failed,
+           (unsigned long long)n.evicted, rd_loading_window(l));
     CHECK(n.entries > 0 && n.entries == (uint64_t)live && n.flights == 0);
     CHECK(rd_hits(&s) == n.hits && rd_misses(&s) == n.misses && rd_loads(&s) == n.loads && s.answers[RD_FAILED] == n.failed);
     CHECK(rd_evicted(&s) == n.evicted && rd_held(&s) == n.entries && s.misused == 0);
     /* Each load that was begun has landed once. */
     CHECK(s.answers[RD_LEAD] + s.answers[RD_HIT_LEAD] == rd_loads(&s) + s.answers[RD_FAILED] && s.answers[RD_GONE] == 0);
     CHECK(s.answers[RD_HIT_LEAD] > 0 && s.answers[RD_LOOSE] > 0 && s.left[RD_EXPIRED] > 0);
-    CHECK(rd_loading_clear(&l, moment) == RD_OK && live == 0);
-    CHECK(rd_loading_close(&l) == RD_OK);
-    run(&closed, true);
+#ifdef NAMES
+    rd_shared *got;
+    CHECK(rd_loading_look(l, (rd_name){{0}, UINT64_MAX}, moment, &got) == RD_NAME_TOO_LONG && !got);
+#endif
+    CHECK(rd_loading_clear(l, moment) == RD_OK && live == 0);
+    CHECK(rd_loading_close(l) == RD_OK);
+}
+
+int main(void) {
+    static rd_loading fixed = RD_LOADING_INIT, adapted = RD_LOADING_INIT, closed = RD_LOADING_INIT;
+    run(&fixed, false, false);
+    check_whole(&fixed);
+    run(&adapted, true, false);
+    check_whole(&adapted);
+    run(&closed, true, true);
     CHECK(live == 0 && rd_loading_close(&closed) == RD_CLOSED);
     puts("stress: ok");
     return 0;
