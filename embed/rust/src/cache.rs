@@ -2,7 +2,8 @@
 use crate::panics::{Guarded, Panics};
 use crate::several::Several;
 use crate::store::{drop_each, Ended, Store};
-use crate::table::Place;
+use crate::table::{hash_of, Place};
+use crate::window::{Advice, Share};
 use crate::{Fault, Found, Landed, Left, Numbers, OpenError, Setup, Token};
 use std::borrow::Borrow;
 use std::collections::hash_map::RandomState;
@@ -58,7 +59,9 @@ impl<K: Hash + Eq + Clone, V, S: BuildHasher> Cache<K, V, S> {
     /// # Ok::<(), Box<dyn std::error::Error>>(())
     /// ```
     pub fn with_hasher(setup: &Setup, hasher: S) -> Result<Self, OpenError> {
-        Ok(Cache { store: Store::open(setup)?, hasher })
+        setup.check_sharded(1)?;
+        let advice = Advice::of(setup, std::slice::from_ref(setup));
+        Ok(Cache { store: Store::open(setup, Share::of(advice, 1, 0))?, hasher })
     }
 
     /// The key's value, if it is there, with what left.
@@ -79,12 +82,35 @@ impl<K: Hash + Eq + Clone, V, S: BuildHasher> Cache<K, V, S> {
         K: Borrow<Q>,
         Q: Hash + Eq + ?Sized,
     {
-        let hash = self.hasher.hash_one(key);
+        let hash = hash_of(&self.hasher, key);
         let at = self.found(hash, key);
         let is_there = self.store.look(at, hash, now)?.is_some();
-        let left = self.store.left().into_vec();
+        let left = self.left();
         let value = at.filter(|_| is_there).and_then(|at| self.store.table.row(at).value.as_ref());
         Ok((value, left))
+    }
+
+    /// The value that [`Cache::look`] would hit, if it would hit. It uses no entry, counts nothing, and lets nothing leave.
+    ///
+    /// ```
+    /// # use rookdresser::{Cache, Setup};
+    /// # let mut cache = Cache::<String, u64>::open(&Setup { after_write: 10, ..Setup::of(100) })?;
+    /// cache.put(&"a".into(), 7, 1, 1000)?;
+    /// // Entries expire after 10 milliseconds here.
+    /// assert_eq!(cache.peek("a", 1009), Some(&7));
+    /// assert_eq!(cache.peek("a", 1010), None);
+    /// assert_eq!((cache.numbers().lookups, cache.numbers().entries), (0, 1));
+    /// # Ok::<(), Box<dyn std::error::Error>>(())
+    /// ```
+    pub fn peek<Q>(&mut self, key: &Q, now: u64) -> Option<&V>
+    where
+        K: Borrow<Q>,
+        Q: Hash + Eq + ?Sized,
+    {
+        let at = self.found(hash_of(&self.hasher, key), key)?;
+        let number = self.store.table.row(at).number;
+        self.store.library.peek(number, now)?;
+        self.store.table.row(at).value.as_ref()
     }
 
     /// Looks the key up, and joins or opens a load, with what left. Whoever leads the load calls `land` or `fail`.
@@ -103,11 +129,11 @@ impl<K: Hash + Eq + Clone, V, S: BuildHasher> Cache<K, V, S> {
     pub fn seek(&mut self, key: &K, now: u64) -> Result<(Found, AllLeft<K, V>), Fault> {
         let place = self.place(key);
         let number = self.store.table.number(&place);
-        let found = self.store.library.made(now, |tokens, now| tokens.seek(number, now))?;
+        let found = self.store.library.seek(number, now)?;
         if matches!(found, Found::Lead(_) | Found::HitLead(..)) {
             self.store.table.open(place);
         }
-        Ok((found, self.store.left().into_vec()))
+        Ok((found, self.left()))
     }
 
     /// The value of a token that the cache holds.
@@ -162,7 +188,7 @@ impl<K: Hash + Eq + Clone, V, S: BuildHasher> Cache<K, V, S> {
     /// ```
     pub fn land(&mut self, id: u64, key: &K, value: V, weight: u32, now: u64) -> (Landed, AllLeft<K, V>) {
         let value = Guarded::of(value);
-        match self.found(self.hasher.hash_one(key), key) {
+        match self.found(hash_of(&self.hasher, key), key) {
             Some(at) => {
                 let mut left = Several::none();
                 let load = self.store.land((id, at), (value.take(), weight), now, &mut left);
@@ -186,7 +212,7 @@ impl<K: Hash + Eq + Clone, V, S: BuildHasher> Cache<K, V, S> {
     /// # Ok::<(), Box<dyn std::error::Error>>(())
     /// ```
     pub fn fail(&mut self, id: u64, key: &K, now: u64) -> (Landed, AllLeft<K, V>) {
-        match self.found(self.hasher.hash_one(key), key) {
+        match self.found(hash_of(&self.hasher, key), key) {
             Some(at) => {
                 let mut left = Several::none();
                 let load = self.store.fail((id, at), now, &mut left);
@@ -200,7 +226,7 @@ impl<K: Hash + Eq + Clone, V, S: BuildHasher> Cache<K, V, S> {
     fn land_nothing(&mut self, id: u64, key: &K, now: u64) -> (Landed, AllLeft<K, V>) {
         let number = self.number(key);
         let landed = self.store.library.made(now, |tokens, now| tokens.land_failed(id, number, now));
-        (landed.unwrap_or(Landed::Gone), self.store.left().into_vec())
+        (landed.unwrap_or(Landed::Gone), self.left())
     }
 
     /// Takes the key's entry out. A load of the key that is open will store nothing.
@@ -289,6 +315,20 @@ impl<K: Hash + Eq + Clone, V, S: BuildHasher> Cache<K, V, S> {
         self.store.numbers()
     }
 
+    /// How many entries the window may hold now: 1 to `entries`. It changes if the window follows the stream ([`Setup::adaptive`]).
+    ///
+    /// ```
+    /// # use rookdresser::{Cache, Setup};
+    /// // 40 hundredths at first.
+    /// assert_eq!(Cache::<u64, u64>::open(&Setup::of(1000))?.window(), 400);
+    /// let fixed = Cache::<u64, u64>::open(&Setup { adaptive: Some(false), ..Setup::of(1000) })?;
+    /// assert_eq!(fixed.window(), 10);
+    /// # Ok::<(), Box<dyn std::error::Error>>(())
+    /// ```
+    pub fn window(&self) -> u32 {
+        self.store.library.window()
+    }
+
     /// How many values and how many keys this side keeps. While no load is open, both are the entries that the library holds.
     ///
     /// ```
@@ -300,6 +340,15 @@ impl<K: Hash + Eq + Clone, V, S: BuildHasher> Cache<K, V, S> {
     /// ```
     pub fn kept(&self) -> (usize, usize) {
         self.store.kept()
+    }
+
+    // What left by the latest look or seek: mostly nothing.
+    #[inline]
+    fn left(&mut self) -> AllLeft<K, V> {
+        if self.store.has_left() {
+            return self.store.left().into_vec();
+        }
+        Vec::new()
     }
 
     fn found<Q>(&self, hash: u64, key: &Q) -> Option<u32>
@@ -316,12 +365,12 @@ impl<K: Hash + Eq + Clone, V, S: BuildHasher> Cache<K, V, S> {
         K: Borrow<Q>,
         Q: Hash + Eq + ?Sized,
     {
-        let hash = self.hasher.hash_one(key);
+        let hash = hash_of(&self.hasher, key);
         self.store.number(self.found(hash, key), hash)
     }
 
     fn place(&self, key: &K) -> Place<K> {
-        let hash = self.hasher.hash_one(key);
+        let hash = hash_of(&self.hasher, key);
         self.found(hash, key).map_or_else(|| self.store.table.new_place(hash, Arc::new(key.clone())), Place::At)
     }
 }

@@ -4,9 +4,9 @@ use crate::panics::{Guarded, Panics};
 use crate::plain::are_plain;
 use crate::several::Several;
 use crate::shared::Locked;
-use crate::table::Place;
+use crate::table::{hash_of, Place};
 use std::borrow::Borrow;
-use std::hash::{BuildHasher, Hash, Hasher};
+use std::hash::{BuildHasher, Hash};
 use std::sync::Arc;
 
 /// The shard with the key's place, and the key itself if it was cloned, which is to be dropped once the lock is given back.
@@ -16,17 +16,13 @@ pub(crate) type Placed<'a, K, V, E> = (Locked<'a, K, V, E>, Place<K>, Option<Gua
 type Seen<K> = Several<(u32, Guarded<Arc<K>>)>;
 
 impl<K, V, E, S> Loading<K, V, E, S> {
-    /// The key's hash. A compiler that doesn't inline `hash_one` takes 65 instructions more for a number by SipHash.
     #[inline]
-    #[allow(clippy::manual_hash_one)]
     pub(crate) fn hash<Q>(&self, key: &Q) -> u64
     where
         Q: Hash + ?Sized,
         S: BuildHasher,
     {
-        let mut hasher = self.hasher.build_hasher();
-        key.hash(&mut hasher);
-        hasher.finish()
+        hash_of(&self.hasher, key)
     }
 
     /// The key's value, if its shard is open and the call is sure to hit; or else the shard, for the call to be made alone.

@@ -1,5 +1,5 @@
 //! The two kinds of keys, each with the calls of `rookdresser.h` that have a key.
-use crate::sys::{self, Answer, Handle, Name, Notice, Setup, Token};
+use crate::sys::{self, Answer, Handle, Name, Notice, Settings, Token};
 
 mod sealed {
     pub trait Sealed {}
@@ -9,9 +9,11 @@ mod sealed {
 pub trait Key: sealed::Sealed + Copy + Default {
     // Each call leads to the function of `rookdresser.h` for such keys. The pointers owe what its head says.
     #[doc(hidden)]
-    unsafe fn open(setup: *const Setup, cache: *mut Handle) -> u64;
+    unsafe fn open(settings: *const Settings, cache: *mut Handle) -> u64;
     #[doc(hidden)]
     unsafe fn look(cache: *mut Handle, key: Self, now: u64, answer: *mut Answer) -> u64;
+    #[doc(hidden)]
+    unsafe fn peek(cache: *mut Handle, key: Self, now: u64, answer: *mut Answer) -> u64;
     #[doc(hidden)]
     unsafe fn seek(cache: *mut Handle, key: Self, now: u64, answer: *mut Answer) -> u64;
     #[doc(hidden)]
@@ -47,16 +49,19 @@ pub trait Key: sealed::Sealed + Copy + Default {
 
 // A kind of keys: how one is handed over, and the functions.
 macro_rules! key {
-    ($key:ty, $given:expr, $open:ident, $look:ident, $seek:ident, $put:ident, $keep:ident, $loose:ident, $failed:ident, $drop:ident,
-     $forget:ident, $notice:ident) => {
+    ($key:ty, $given:expr, $open:ident, $look:ident, $peek:ident, $seek:ident, $put:ident, $keep:ident, $loose:ident, $failed:ident,
+     $drop:ident, $forget:ident, $notice:ident) => {
         impl sealed::Sealed for $key {}
 
         impl Key for $key {
-            unsafe fn open(setup: *const Setup, cache: *mut Handle) -> u64 {
-                sys::$open(setup, cache)
+            unsafe fn open(settings: *const Settings, cache: *mut Handle) -> u64 {
+                sys::$open(settings, cache)
             }
             unsafe fn look(cache: *mut Handle, key: Self, now: u64, answer: *mut Answer) -> u64 {
                 sys::$look(cache, $given(&key), now, answer)
+            }
+            unsafe fn peek(cache: *mut Handle, key: Self, now: u64, answer: *mut Answer) -> u64 {
+                sys::$peek(cache, $given(&key), now, answer)
             }
             unsafe fn seek(cache: *mut Handle, key: Self, now: u64, answer: *mut Answer) -> u64 {
                 sys::$seek(cache, $given(&key), now, answer)
@@ -112,6 +117,7 @@ key!(
     u64::clone,
     rd_open,
     rd_look,
+    rd_peek,
     rd_seek,
     rd_put_with_notice,
     rd_land_keep_with_notice,
@@ -126,6 +132,7 @@ key!(
     std::ptr::from_ref,
     rd_open_names,
     rd_look_name,
+    rd_peek_name,
     rd_seek_name,
     rd_put_name_with_notice,
     rd_land_keep_name_with_notice,

@@ -12,17 +12,23 @@ pub(crate) const MOST_ENTRIES: u32 = 1 << 16;
 pub(crate) const MOST_SHARDS: u32 = 1 << 12;
 
 /// The setup of each shard, for a machine of so many cores: eight shards for each, but no shard of fewer than 512 entries and none of
-/// more than 65,536. One alone if the weight has a bound. The whole setup is within its ranges.
+/// more than 65,536. One alone if the weight has a bound. The whole setup is within its ranges. Each part has the window for a cache
+/// whose window is fixed.
 pub(crate) fn parts(setup: &Setup, cores: usize) -> Vec<Setup> {
     if setup.has_bound() {
         return vec![*setup];
     }
-    let Setup { entries, window, .. } = *setup;
+    let (entries, window) = (setup.entries, setup.fixed_window());
     let wanted = u32::try_from(cores.saturating_mul(SHARDS_FOR_A_CORE)).unwrap_or(u32::MAX).min(MOST_SHARDS);
     let shards = wanted.min(entries / LEAST_ENTRIES).max(entries.div_ceil(MOST_ENTRIES)).max(1);
-    let part = |of: u32, shard: u32| of / shards + u32::from(shard < of % shards);
-    let part = |shard| Setup { entries: part(entries, shard), window: part(window, shard).max(1), ..*setup };
+    let window = |shard| Some(part(window, shards, shard).max(1));
+    let part = |shard| Setup { entries: part(entries, shards, shard), window: window(shard), ..*setup };
     (0..shards).map(part).collect()
+}
+
+/// The part that one of some shards gets of a number.
+pub(crate) fn part(of: u32, shards: u32, shard: u32) -> u32 {
+    of / shards + u32::from(shard < of % shards)
 }
 
 #[cfg(test)]
@@ -32,7 +38,7 @@ mod tests {
 
     fn of(setup: Setup, cores: usize) -> (usize, Vec<(u32, u32)>) {
         let parts = parts(&setup, cores);
-        let mut different: Vec<_> = parts.iter().map(|part| (part.entries, part.window)).collect();
+        let mut different: Vec<_> = parts.iter().map(|part| (part.entries, part.fixed_window())).collect();
         different.dedup();
         (parts.len(), different)
     }
@@ -48,7 +54,7 @@ mod tests {
         assert_eq!(of(Setup::of(1 << 20), 1), (16, vec![(65_536, 656), (65_536, 655)]));
         assert_eq!(of(Setup::of((1 << 20) + 1), 1).0, 17);
         // Each shard has a window.
-        assert_eq!(of(Setup { window: 3, ..Setup::of(8192) }, 4), (16, vec![(512, 1)]));
+        assert_eq!(of(Setup { window: Some(3), ..Setup::of(8192) }, 4), (16, vec![(512, 1)]));
     }
 
     #[test]

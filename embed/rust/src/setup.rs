@@ -1,9 +1,63 @@
 //! Which setups open a cache, and why one doesn't.
+use crate::adviser::ADVISED;
 use crate::parts::{MOST_ENTRIES, MOST_SHARDS};
-use crate::sys::Setup;
+use crate::sys::Settings;
 use crate::Fault;
 use std::error::Error;
 use std::fmt::{Display, Formatter, Result as Written};
+
+/// What a cache is opened for. Durations are milliseconds; 0 stands for never.
+#[derive(Clone, Copy, Debug, PartialEq, Eq)]
+pub struct Setup {
+    /// How many entries the cache may hold: 1 to 65,536, and more if [`Loading::open`](crate::Loading::open) divides them.
+    pub entries: u32,
+    /// How many of them the window may hold: 1 to `entries`. If it is given, the window stays as it is.
+    pub window: Option<u32>,
+    /// Whether the window follows the stream of look-ups, which needs a cache of 512 to 4,194,304 entries, all shards together, and a
+    /// `window` that isn't given. If it isn't given, the window does so if it can. If it is false and no `window` is given, the window
+    /// has a hundredth of the entries, and at least one.
+    pub adaptive: Option<bool>,
+    /// How many loads may be open: 1 to 4,096.
+    pub flights: u32,
+    /// How much the entries may weigh together: 1 to 2^48.
+    pub bound: u64,
+    /// An entry expires so long after it was written.
+    pub after_write: u64,
+    /// An entry expires so long after it was used.
+    pub after_access: u64,
+    /// An entry is due for a further load so long after it was written: below `after_write`, if both are set.
+    pub refresh: u64,
+}
+
+impl Setup {
+    /// A setup for so many entries, with 1,024 loads at most, no other limit, and a window that follows the stream if it can.
+    ///
+    /// ```
+    /// use rookdresser::Setup;
+    ///
+    /// let setup = Setup { after_write: 60_000, ..Setup::of(5000) };
+    /// assert_eq!((setup.entries, setup.window, setup.adaptive, setup.flights), (5000, None, None, 1024));
+    /// ```
+    pub const fn of(entries: u32) -> Setup {
+        Setup {
+            entries,
+            window: None,
+            adaptive: None,
+            flights: 1024,
+            bound: 1 << 48,
+            after_write: 0,
+            after_access: 0,
+            refresh: 0,
+        }
+    }
+}
+
+impl Default for Setup {
+    /// A setup for 1,000 entries.
+    fn default() -> Setup {
+        Setup::of(1000)
+    }
+}
 
 /// A setting that has a range: a field of [`Setup`], or how many shards there are to be.
 #[derive(Clone, Copy, Debug, PartialEq, Eq, Hash)]
@@ -21,6 +75,8 @@ pub enum Setting {
     Bound,
     /// [`Setup::refresh`].
     Refresh,
+    /// [`Setup::adaptive`], of which false counts as 0 and true as 1.
+    Adaptive,
 }
 
 impl Display for Setting {
@@ -32,6 +88,7 @@ impl Display for Setting {
             Setting::Flights => "flights",
             Setting::Bound => "bound",
             Setting::Refresh => "refresh",
+            Setting::Adaptive => "adaptive",
         })
     }
 }
@@ -41,7 +98,7 @@ impl Display for Setting {
 /// ```
 /// use rookdresser::{Setting, Setup};
 ///
-/// let bad = Setup { window: 20, ..Setup::of(10) }.check().unwrap_err();
+/// let bad = Setup { window: Some(20), ..Setup::of(10) }.check().unwrap_err();
 /// assert_eq!((bad.setting, bad.value, bad.least, bad.most), (Setting::Window, 20, 1, 10));
 /// assert_eq!(bad.to_string(), "window is 20, and has to be from 1 to 10, the entries");
 /// ```
@@ -64,6 +121,7 @@ impl Display for BadSetting {
         let BadSetting { setting, value, least, most, depends } = self;
         match setting {
             Setting::Refresh => write!(f, "refresh is {value}, and has to be below after_write, {}", most + 1),
+            Setting::Adaptive => write!(f, "adaptive is true, and has to be false or not given{depends}"),
             _ => write!(f, "{setting} is {value}, and has to be from {least} to {most}{depends}"),
         }
     }
@@ -118,14 +176,21 @@ impl Setup {
     /// ```
     pub fn check(&self) -> Result<(), BadSetting> {
         if self.has_bound() {
-            return self.checked(MOST_ENTRIES, " if bound is set");
+            return self.checked(MOST_ENTRIES, " if bound is set", 1);
         }
-        self.checked(MOST_SHARDS * MOST_ENTRIES, "")
+        self.checked(MOST_SHARDS * MOST_ENTRIES, "", 1)
     }
 
-    /// The same of a single cache, or one of some shards.
-    pub(crate) fn check_shard(&self) -> Result<(), BadSetting> {
-        self.checked(MOST_ENTRIES, "")
+    /// The same of a cache of so many shards, each of this setup.
+    pub(crate) fn check_sharded(&self, shards: usize) -> Result<(), BadSetting> {
+        in_range(Setting::Shards, shards as u64, 1, MOST_SHARDS.into(), "")?;
+        self.checked(MOST_ENTRIES, "", shards as u32)
+    }
+
+    /// The same of a cache that makes no slides by itself.
+    pub(crate) fn check_tokens(&self) -> Result<(), BadSetting> {
+        Setup { adaptive: None, ..*self }.check_sharded(1)?;
+        self.check_adaptive(false, " if the window moves only by `slide`")
     }
 
     /// Whether the entries' weight is limited.
@@ -133,36 +198,65 @@ impl Setup {
         self.bound != Setup::of(1).bound
     }
 
-    fn checked(&self, most_entries: u32, depends: &'static str) -> Result<(), BadSetting> {
-        let Setup { entries, window, flights, bound, after_write, refresh, .. } = *self;
-        in_range(Setting::Entries, entries.into(), most_entries.into(), depends)?;
-        in_range(Setting::Window, window.into(), entries.into(), ", the entries")?;
-        in_range(Setting::Bound, bound, 1 << 48, "")?;
-        in_range(Setting::Flights, flights.into(), 1 << 12, "")?;
+    /// Whether the window follows the stream, in a cache of so many entries, all shards together. The setup is within its ranges.
+    pub(crate) fn is_adaptive(&self, entries: u32) -> bool {
+        self.adaptive.unwrap_or(self.window.is_none() && ADVISED.contains(&entries))
+    }
+
+    /// The window, if it doesn't follow the stream.
+    pub(crate) fn fixed_window(&self) -> u32 {
+        self.window.unwrap_or((self.entries / 100).max(1))
+    }
+
+    /// What the library is handed.
+    pub(crate) fn with_window(&self, window: u32) -> Settings {
+        let Setup { entries, flights, bound, after_write, after_access, refresh, .. } = *self;
+        Settings { entries, window, flights, bound, after_write, after_access, refresh }
+    }
+
+    fn checked(&self, most_entries: u32, depends: &'static str, shards: u32) -> Result<(), BadSetting> {
+        let Setup { entries, flights, bound, after_write, refresh, .. } = *self;
+        in_range(Setting::Entries, entries.into(), 1, most_entries.into(), depends)?;
+        in_range(Setting::Window, self.fixed_window().into(), 1, entries.into(), ", the entries")?;
+        in_range(Setting::Bound, bound, 1, 1 << 48, "")?;
+        in_range(Setting::Flights, flights.into(), 1, 1 << 12, "")?;
         if after_write != 0 && refresh >= after_write {
             let (setting, value, most) = (Setting::Refresh, refresh, after_write - 1);
             return Err(BadSetting { setting, value, least: 0, most, depends: "" });
         }
-        Ok(())
+        self.check_adaptive(self.window.is_none(), " if window is given")?;
+        self.check_adaptive(
+            ADVISED.contains(&(entries * shards)),
+            " unless the cache has 512 to 4194304 entries, all shards together",
+        )
+    }
+
+    fn check_adaptive(&self, it_may_be: bool, depends: &'static str) -> Result<(), BadSetting> {
+        if it_may_be || self.adaptive != Some(true) {
+            return Ok(());
+        }
+        Err(BadSetting { setting: Setting::Adaptive, value: 1, least: 0, most: 0, depends })
     }
 }
 
-/// Tells whether there may be so many shards.
-pub(crate) fn check_shards(shards: usize) -> Result<(), BadSetting> {
-    in_range(Setting::Shards, shards as u64, MOST_SHARDS.into(), "")
-}
-
-fn in_range(setting: Setting, value: u64, most: u64, depends: &'static str) -> Result<(), BadSetting> {
-    if (1..=most).contains(&value) {
+/// Tells whether the setting is from the least to the most that it may be.
+pub(crate) fn in_range(
+    setting: Setting,
+    value: u64,
+    least: u64,
+    most: u64,
+    depends: &'static str,
+) -> Result<(), BadSetting> {
+    if (least..=most).contains(&value) {
         return Ok(());
     }
-    Err(BadSetting { setting, value, least: 1, most, depends })
+    Err(BadSetting { setting, value, least, most, depends })
 }
 
 #[cfg(test)]
 mod tests {
-    use super::Setting;
-    use crate::sys::{rd_check, Setup};
+    use super::{Setting, Setup};
+    use crate::sys::rd_check;
 
     #[test]
     fn a_shard_s_ranges_are_the_library_s() {
@@ -172,10 +266,11 @@ mod tests {
             for window in [0, 1, 2, 3, 65_536, 65_537] {
                 for flights in [0, 1, 4096, 4097] {
                     for bound in [0, 1, 1 << 48, (1 << 48) + 1] {
-                        let setup = Setup { entries, window, flights, bound, ..Setup::of(1) };
-                        // SAFETY: the setup is borrowed for the call, which only reads it.
-                        let library_s = SETTINGS.get((unsafe { rd_check(&setup) } as usize).wrapping_sub(1));
-                        let found = setup.check_shard().err().map(|bad| bad.setting);
+                        let setup = Setup { entries, window: Some(window), flights, bound, ..Setup::of(1) };
+                        // SAFETY: the settings are borrowed for the call, which only reads them.
+                        let checked = unsafe { rd_check(&setup.with_window(window)) };
+                        let library_s = SETTINGS.get((checked as usize).wrapping_sub(1));
+                        let found = setup.check_sharded(1).err().map(|bad| bad.setting);
                         assert_eq!(found, library_s.copied(), "{setup:?}");
                         if let Some(setting) = found {
                             bad[setting as usize - Setting::Entries as usize] += 1;

@@ -5,6 +5,7 @@ use crate::shared::Hits;
 use crate::slab::Slab;
 use crate::store::{AllLeft, Store};
 use crate::table::{Place, Row};
+use crate::window::Share;
 use crate::{Fault, Left, Numbers, OpenError, Setup, Stats};
 use std::sync::Arc;
 use std::thread::ThreadId;
@@ -32,8 +33,8 @@ pub(crate) struct Shard<K, V, E> {
 }
 
 impl<K, V, E> Shard<K, V, E> {
-    pub(crate) fn open(setup: &Setup) -> Result<Self, OpenError> {
-        Ok(Shard { store: Store::open(setup)?, loads: Slab::new(), stats: Stats::default(), untold: 0 })
+    pub(crate) fn open(setup: &Setup, share: Option<Share>) -> Result<Self, OpenError> {
+        Ok(Shard { store: Store::open(setup, share)?, loads: Slab::of(0), stats: Stats::default(), untold: 0 })
     }
 
     /// Looks up the key of a row, or a new key of this hash.

@@ -1,10 +1,11 @@
 //! Shards that open give the answers of shards that never do, whatever the order in which threads take their turns.
 use crate::shared::use_stripe;
 use crate::turns::{begin_call, every_order};
-use crate::{Loading, Numbers, Reads, Setup, Stats};
+use crate::{Fault, GetError, Loading, Numbers, Reads, Setup, Stats};
 use std::hash::{BuildHasherDefault, DefaultHasher, Hash, Hasher};
+use std::panic::{catch_unwind, AssertUnwindSafe};
 use std::sync::atomic::{AtomicU64, Ordering::SeqCst};
-use std::sync::Barrier;
+use std::sync::{Arc, Barrier};
 use std::time::Duration;
 
 // A call of a key at a moment.
@@ -217,7 +218,7 @@ fn durations_and_moments_may_be_the_greatest_there_are() {
 fn a_refused_call_leaves_the_latest_moment_as_it_was() {
     let cache = Loading::<u64, u64, ()>::sharded(1, &Setup { bound: 5, ..aged() }).unwrap();
     cache.store_at(&1, 1.into(), 1, 0).unwrap();
-    assert_eq!(cache.store_at(&2, 2.into(), 6, 50), Err(crate::Fault::TooHeavy));
+    assert_eq!(cache.store_at(&2, 2.into(), 6, 50), Err(Fault::TooHeavy));
     assert_eq!((cache.numbers().latest, cache.look_at(&1, 9).unwrap().as_deref()), (0, Some(&1)));
 }
 
@@ -342,4 +343,141 @@ fn a_cache_whose_entries_expire_unused_never_opens() {
     let setup = Setup { after_access: 10, ..Setup::of(64) };
     let cache = looked_at(&setup, Reads::Shared, 100);
     assert_eq!((cache.open_shards(), cache.look_at(&1, 9)), (0, Ok(Some(1.into()))));
+}
+
+// A cache whose windows follow. In these tests an adviser is shown two keys together.
+fn following(shards: usize) -> Setup {
+    Setup::of(512 / shards as u32)
+}
+
+// Each look-up that the library made was shown once, but for one a shard that waits for another.
+fn shows_each_once<K, S>(cache: &Loading<K, u64, (), S>) -> usize {
+    // Hits that an open shard keeps are told, and shown, as it closes.
+    let made = cache.made_by_the_library() as usize;
+    let shown = cache.shown();
+    assert!((shown.len()..=shown.len() + cache.shards()).contains(&made), "{made} look-ups, {} shown", shown.len());
+    shown.len()
+}
+
+#[test]
+fn an_adviser_is_shown_what_the_library_is_told_once_and_in_its_order() {
+    let exact =
+        Cache::sharded_with_hasher(1, &following(1), BuildHasherDefault::default()).unwrap().with_reads(Reads::Exact);
+    let (mut random, mut wanted) = (Random(5), vec![]);
+    for call in 0..3001 {
+        let key = random.below(900);
+        let made =
+            [Call::Look(key, 0), Call::Get(key, 0), Call::Store(key, 0), Call::Drop(key, 0)][random.below(4) as usize];
+        answer(&exact, made, call);
+        if let Call::Look(key, _) | Call::Get(key, _) = made {
+            wanted.push(exact.hash(&key));
+        }
+    }
+    assert_eq!(exact.shown(), wanted[..wanted.len() / 2 * 2]);
+    let shared = Cache::sharded_with_hasher(2, &following(2), BuildHasherDefault::default()).unwrap();
+    (0..400).for_each(|key| shared.store(&key, key.into(), 1).unwrap());
+    for call in 0..20_000 {
+        let key = random.below(if call % 1000 == 0 { 900 } else { 200 });
+        answer(&shared, if random.below(2) == 0 { Call::Look(key, 0) } else { Call::Get(key, 0) }, key);
+    }
+    let (stats, shown) = (shared.stats(), shows_each_once(&shared) as u64);
+    // Half of the hits of open shards are told in these tests.
+    assert!(shown < (stats.hits + stats.misses) * 3 / 4 && shown > (stats.hits + stats.misses) / 3, "{shown}");
+}
+
+#[test]
+fn calls_of_two_threads_on_shards_with_one_adviser_end_in_every_order() {
+    let cache = || {
+        use_stripe(0);
+        let cache = Cache::sharded_with_hasher(2, &following(2), BuildHasherDefault::default()).unwrap();
+        (0..8).for_each(|key| cache.store_at(&key, key.into(), 1, 0).unwrap());
+        (0..80).for_each(|look| assert!(cache.look_at(&(look % 8), 0).unwrap().is_some()));
+        cache
+    };
+    let thread = |own: usize| {
+        move |cache: &Cache| {
+            use_stripe(own);
+            for key in [own as u64, 1 - own as u64, 5] {
+                begin_call();
+                assert_eq!(cache.look_at(&key, 0).unwrap().as_deref(), Some(&key));
+            }
+            begin_call();
+            answer(cache, Call::Get(90 + own as u64, 0), 1)
+        }
+    };
+    let check = |cache: Cache, answers| {
+        assert_eq!(answers, [Some(1), Some(1)]);
+        let (stats, numbers, kept) = seen(&cache);
+        assert_eq!((stats.hits, stats.misses, kept), (80 + 6, 2, (10, 10)));
+        assert_eq!((numbers.hits, numbers.misses, cache.window()), (stats.hits, stats.misses, 204));
+        shows_each_once(&cache);
+    };
+    let orders = every_order(2, cache, [&thread(0), &thread(1)], check);
+    assert!(orders > 100, "{orders}");
+}
+
+#[test]
+fn a_look_up_that_is_refused_is_not_shown() {
+    let cache =
+        Cache::sharded_with_hasher(1, &Setup { flights: 1, ..following(1) }, BuildHasherDefault::default()).unwrap();
+    for key in 0..100 {
+        let load = || {
+            let refused = cache.get_at(&(key + 1000), 0, || unreachable!("no load opens"));
+            assert_eq!(refused, Err(GetError::Refused(Fault::TooManyFlights)));
+            Ok((key, 1))
+        };
+        cache.get_at(&key, 0, load).unwrap();
+    }
+    assert_eq!((shows_each_once(&cache), cache.stats().refused[Fault::TooManyFlights.place()]), (100, 100));
+}
+
+// A key whose equality and clone panic at times.
+#[derive(Debug)]
+struct Fickle(u64, Arc<AtomicU64>);
+
+impl Fickle {
+    fn strike(&self) {
+        if self.1.fetch_add(1, SeqCst) % 7 == 6 {
+            std::panic::resume_unwind(Box::new("of a key"));
+        }
+    }
+}
+
+impl Hash for Fickle {
+    fn hash<H: Hasher>(&self, state: &mut H) {
+        state.write_u64(self.0);
+    }
+}
+
+impl PartialEq for Fickle {
+    fn eq(&self, other: &Fickle) -> bool {
+        self.strike();
+        self.0 == other.0
+    }
+}
+
+impl Eq for Fickle {}
+
+impl Clone for Fickle {
+    fn clone(&self) -> Fickle {
+        self.strike();
+        Fickle(self.0, self.1.clone())
+    }
+}
+
+#[test]
+fn a_key_that_panics_has_no_look_up_shown_twice_or_left_out() {
+    let cache = Loading::<Fickle, u64, ()>::sharded(2, &following(2)).unwrap();
+    let (mut random, calls, panics) = (Random(9), Arc::new(AtomicU64::new(0)), AtomicU64::new(0));
+    for round in 0..20_000 {
+        let key = Fickle(random.below(if round % 50 == 0 { 900 } else { 100 }), calls.clone());
+        let call = || match round % 3 {
+            0 => cache.look(&key).map(drop).unwrap(),
+            1 => cache.get_with(&key, || round).map(drop).unwrap(),
+            _ if round % 40 == 2 => cache.store(&key, round.into(), 1).unwrap(),
+            _ => cache.get_with(&key, || round).map(drop).unwrap(),
+        };
+        panics.fetch_add(u64::from(catch_unwind(AssertUnwindSafe(call)).is_err()), SeqCst);
+    }
+    assert!(shows_each_once(&cache) > 5000 && panics.into_inner() > 1000);
 }

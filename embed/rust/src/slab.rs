@@ -5,11 +5,14 @@ use std::ops::{Index, IndexMut};
 pub(crate) struct Slab<T> {
     places: Vec<Option<T>>,
     free: Vec<u32>,
+    // So many things are there once it is full. There may be some more.
+    full: usize,
 }
 
 impl<T> Slab<T> {
-    pub(crate) const fn new() -> Slab<T> {
-        Slab { places: Vec::new(), free: Vec::new() }
+    /// Nothing, with memory for nothing. Its places double until it is full, and few are added then.
+    pub(crate) const fn of(full: usize) -> Slab<T> {
+        Slab { places: Vec::new(), free: Vec::new(), full }
     }
 
     /// The place that the next thing gets.
@@ -25,8 +28,18 @@ impl<T> Slab<T> {
             self.places[at as usize] = Some(thing);
             return at;
         }
+        if self.places.len() == self.places.capacity() {
+            self.grow();
+        }
         self.places.push(Some(thing));
         self.places.len() as u32 - 1
+    }
+
+    #[cold]
+    fn grow(&mut self) {
+        let (there, least) = (self.places.len(), 8);
+        let more = if there < self.full { there.max(least).min(self.full - there) } else { (there / 8).max(least) };
+        self.places.reserve_exact(more);
     }
 
     /// Takes out what is at the place.

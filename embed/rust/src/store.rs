@@ -3,6 +3,7 @@ use crate::library::Library;
 use crate::panics::Panics;
 use crate::several::Several;
 use crate::table::{Place, Table};
+use crate::window::Share;
 use crate::{Fault, Found, Landed, Numbers, OpenError, Setup, Token};
 use std::sync::Arc;
 
@@ -44,8 +45,8 @@ pub(crate) struct Store<K, V> {
 }
 
 impl<K, V> Store<K, V> {
-    pub(crate) fn open(setup: &Setup) -> Result<Self, OpenError> {
-        Ok(Store { library: Library::open(setup)?, table: Table::new(), causes: [0; 4] })
+    pub(crate) fn open(setup: &Setup, share: Option<Share>) -> Result<Self, OpenError> {
+        Ok(Store { library: Library::open(setup, share)?, table: Table::of(setup.entries), causes: [0; 4] })
     }
 
     #[inline]
@@ -63,24 +64,24 @@ impl<K, V> Store<K, V> {
     }
 
     /// Looks up the key of a row, or a new key of this hash. Returns the value if it is there. `left` tells what left by it.
-    #[inline]
+    #[inline(always)]
     pub(crate) fn look(&mut self, at: Option<u32>, hash: u64, now: u64) -> Result<Option<&V>, Fault> {
         let row = at.map(|at| self.table.row(at));
         let number = row.map_or_else(|| self.table.free(hash), |row| row.number);
-        match self.library.made(now, |tokens, now| tokens.look(number, now))? {
+        match self.library.look(number, now)? {
             Found::Hit(_) => Ok(row.and_then(|row| row.value.as_ref())),
             _ => Ok(None),
         }
     }
 
     /// A seek. Returns the value if it is there, or else what was found. `left` tells what left by it.
-    #[inline]
+    #[inline(always)]
     pub(crate) fn seek(&mut self, place: &Place<K>, now: u64) -> Result<Result<&V, Found>, Fault> {
         let (row, number) = match place {
             Place::At(at) => (Some(self.table.row(*at)), self.table.row(*at).number),
             Place::New { number, .. } => (None, *number),
         };
-        match self.library.made(now, |tokens, now| tokens.seek(number, now))? {
+        match self.library.seek(number, now)? {
             found @ Found::Hit(_) => Ok(row.and_then(|row| row.value.as_ref()).ok_or(found)),
             found => Ok(Err(found)),
         }
@@ -149,25 +150,25 @@ impl<K, V> Store<K, V> {
     }
 
     pub(crate) fn drop_key(&mut self, number: u64, now: u64, left: &mut AllLeft<K, V>) -> Result<(), Fault> {
-        self.library.made(now, |tokens, now| tokens.drop_key(number, now))?;
+        self.library.made_as_it_is(now, |tokens, now| tokens.drop_key(number, now))?;
         self.take_out(None, left);
         Ok(())
     }
 
     pub(crate) fn forget(&mut self, number: u64, now: u64, left: &mut AllLeft<K, V>) -> Result<bool, Fault> {
-        let forgot = self.library.made(now, |tokens, now| tokens.forget(number, now))?;
+        let forgot = self.library.made_as_it_is(now, |tokens, now| tokens.forget(number, now))?;
         self.take_out(None, left);
         Ok(forgot)
     }
 
     pub(crate) fn clear(&mut self, now: u64, left: &mut AllLeft<K, V>) -> Result<(), Fault> {
-        self.library.made(now, |tokens, now| tokens.clear(now))?;
+        self.library.made_as_it_is(now, |tokens, now| tokens.clear(now))?;
         self.take_out(None, left);
         Ok(())
     }
 
     pub(crate) fn clean(&mut self, now: u64, left: &mut AllLeft<K, V>) -> Result<(), Fault> {
-        self.library.made(now, |tokens, now| tokens.clean(now))?;
+        self.library.made_as_it_is(now, |tokens, now| tokens.clean(now))?;
         self.take_out(None, left);
         Ok(())
     }

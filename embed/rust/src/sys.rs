@@ -1,9 +1,29 @@
 //! The declarations of `rookdresser.h`, written by hand: nothing compares the two.
 
+/// What the library keeps a cache or an adviser behind.
 #[repr(C)]
 pub struct Handle {
     pub at: *mut u8,
     pub is_open: bool,
+}
+
+impl Handle {
+    /// A handle that is closed. Panics on a processor older than x86-64-v2: the library is marked for such a one, and glibc would refuse
+    /// it in a sentence, but Rust's own linker drops that mark.
+    pub(crate) fn closed() -> Handle {
+        assert!(is_v2(), "rookdresser needs a processor of x86-64-v2 or later");
+        Handle { at: std::ptr::null_mut(), is_open: false }
+    }
+}
+
+fn is_v2() -> bool {
+    #[cfg(target_arch = "x86_64")]
+    return is_x86_feature_detected!("ssse3")
+        && is_x86_feature_detected!("sse4.1")
+        && is_x86_feature_detected!("sse4.2")
+        && is_x86_feature_detected!("popcnt");
+    #[cfg(not(target_arch = "x86_64"))]
+    return true;
 }
 
 /// A number that stands for a value of the caller's, with its weight.
@@ -16,46 +36,16 @@ pub struct Token {
     pub weight: u32,
 }
 
-/// What a cache is opened for. Durations are milliseconds; 0 stands for never.
+/// What the library opens a cache for: a [`Setup`](crate::Setup) whose window is chosen.
 #[repr(C)]
-#[derive(Clone, Copy, Debug, PartialEq, Eq)]
-pub struct Setup {
-    /// How many entries the cache may hold: 1 to 65,536, and more if [`Loading::open`](crate::Loading::open) divides them.
+pub struct Settings {
     pub entries: u32,
-    /// How many of them the window may hold: 1 to `entries`. A hundredth is a good choice.
     pub window: u32,
-    /// How many loads may be open: 1 to 4,096.
     pub flights: u32,
-    /// How much the entries may weigh together: 1 to 2^48.
     pub bound: u64,
-    /// An entry expires so long after it was written.
     pub after_write: u64,
-    /// An entry expires so long after it was used.
     pub after_access: u64,
-    /// An entry is due for a further load so long after it was written: below `after_write`, if both are set.
     pub refresh: u64,
-}
-
-impl Setup {
-    /// A setup for so many entries, with a hundredth of them as the window, 1,024 loads at most, and no other limit.
-    ///
-    /// ```
-    /// use rookdresser::Setup;
-    ///
-    /// let setup = Setup { after_write: 60_000, ..Setup::of(5000) };
-    /// assert_eq!((setup.entries, setup.window, setup.flights), (5000, 50, 1024));
-    /// ```
-    pub const fn of(entries: u32) -> Setup {
-        let window = if entries < 200 { 1 } else { entries / 100 };
-        Setup { entries, window, flights: 1024, bound: 1 << 48, after_write: 0, after_access: 0, refresh: 0 }
-    }
-}
-
-impl Default for Setup {
-    /// A setup for 1,000 entries.
-    fn default() -> Setup {
-        Setup::of(1000)
-    }
 }
 
 #[repr(C)]
@@ -150,7 +140,7 @@ pub struct Numbers {
     pub entries: u64,
     /// What these weigh together.
     pub weight: u64,
-    /// Calls made that weren't refused.
+    /// Calls made that weren't refused, and [slides](crate::Tokens::slide) of the window, the cache's own included.
     pub step: u64,
     /// The latest moment.
     pub latest: u64,
@@ -187,17 +177,19 @@ impl Numbers {
 
 unsafe extern "C" {
     #[cfg(test)]
-    pub fn rd_check(setup: *const Setup) -> u64;
-    pub fn rd_open(setup: *const Setup, cache: *mut Handle) -> u64;
-    pub fn rd_open_names(setup: *const Setup, cache: *mut Handle) -> u64;
+    pub fn rd_check(setup: *const Settings) -> u64;
+    pub fn rd_open(setup: *const Settings, cache: *mut Handle) -> u64;
+    pub fn rd_open_names(setup: *const Settings, cache: *mut Handle) -> u64;
     pub fn rd_close(cache: *mut Handle) -> u64;
     pub fn rd_look(cache: *mut Handle, key: u64, now: u64, answer: *mut Answer) -> u64;
+    pub fn rd_peek(cache: *mut Handle, key: u64, now: u64, answer: *mut Answer) -> u64;
     pub fn rd_look_many(cache: *mut Handle, looks: *mut Looked, n: usize, made: *mut u64) -> u64;
     pub fn rd_seek(cache: *mut Handle, key: u64, now: u64, answer: *mut Answer) -> u64;
     pub fn rd_land_loose(cache: *mut Handle, id: u64, key: u64, now: u64, answer: *mut Answer) -> u64;
     pub fn rd_land_failed(cache: *mut Handle, id: u64, key: u64, now: u64, answer: *mut Answer) -> u64;
     pub fn rd_forget(cache: *mut Handle, key: u64, now: u64, answer: *mut Answer) -> u64;
     pub fn rd_look_name(cache: *mut Handle, key: *const Name, now: u64, answer: *mut Answer) -> u64;
+    pub fn rd_peek_name(cache: *mut Handle, key: *const Name, now: u64, answer: *mut Answer) -> u64;
     pub fn rd_seek_name(cache: *mut Handle, key: *const Name, now: u64, answer: *mut Answer) -> u64;
     pub fn rd_land_loose_name(cache: *mut Handle, id: u64, key: *const Name, now: u64, answer: *mut Answer) -> u64;
     pub fn rd_land_failed_name(cache: *mut Handle, id: u64, key: *const Name, now: u64, answer: *mut Answer) -> u64;
@@ -252,7 +244,11 @@ unsafe extern "C" {
     ) -> u64;
     pub fn rd_clear(cache: *mut Handle, now: u64, answer: *mut Answer) -> u64;
     pub fn rd_clean(cache: *mut Handle, now: u64, answer: *mut Answer) -> u64;
+    pub fn rd_slide(cache: *mut Handle, wider: bool, now: u64, answer: *mut Answer) -> u64;
     pub fn rd_get_notice(cache: *mut Handle, i: u64, notice: *mut Notice<u64>) -> u64;
     pub fn rd_get_notice_name(cache: *mut Handle, i: u64, notice: *mut Notice<Name>) -> u64;
     pub fn rd_get_numbers(cache: *mut Handle, numbers: *mut Numbers) -> u64;
+    pub fn rd_open_adviser(entries: u32, adviser: *mut Handle) -> u64;
+    pub fn rd_advise(adviser: *mut Handle, keys: *const u64, n: usize, window: *mut u32) -> u64;
+    pub fn rd_close_adviser(adviser: *mut Handle) -> u64;
 }

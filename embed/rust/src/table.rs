@@ -2,6 +2,7 @@
 //! whoever calls, and what is let go of is handed out.
 use crate::slab::Slab;
 use std::collections::HashSet;
+use std::hash::{BuildHasher, Hash, Hasher};
 use std::sync::Arc;
 
 /// A key in use: by an entry, by loads, or by both.
@@ -44,8 +45,9 @@ pub(crate) enum Place<K> {
 }
 
 impl<K, V> Table<K, V> {
-    pub(crate) fn new() -> Table<K, V> {
-        Table { rows: Slab::new(), chains: vec![NONE; 16], moved: HashSet::new() }
+    /// For so many entries. A new key has a row before the one that it pushes out has left.
+    pub(crate) fn of(entries: u32) -> Table<K, V> {
+        Table { rows: Slab::of(entries as usize + 1), chains: vec![NONE; 16], moved: HashSet::new() }
     }
 
     #[inline]
@@ -215,7 +217,7 @@ impl<K, V> Table<K, V> {
 
     /// Takes all rows out.
     pub(crate) fn take_all(&mut self) -> impl Iterator<Item = (Arc<K>, Option<V>)> {
-        let rows = std::mem::replace(self, Table::new()).rows;
+        let rows = std::mem::replace(self, Table::of(0)).rows;
         rows.into_iter().map(|row| (row.key, row.value))
     }
 
@@ -228,6 +230,15 @@ impl<K, V> Table<K, V> {
     pub(crate) fn kept(&self) -> (usize, usize) {
         (self.rows.iter().filter(|(_, row)| row.value.is_some()).count(), self.rows.len())
     }
+}
+
+/// The key's hash. A compiler that doesn't inline `hash_one` takes 65 instructions more for a number by SipHash.
+#[inline]
+#[allow(clippy::manual_hash_one)]
+pub(crate) fn hash_of<Q: Hash + ?Sized>(hasher: &impl BuildHasher, key: &Q) -> u64 {
+    let mut hasher = hasher.build_hasher();
+    key.hash(&mut hasher);
+    hasher.finish()
 }
 
 // The upper half goes by most bits of the hash, so that one whose bits aren't all alike spreads too.

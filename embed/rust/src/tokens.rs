@@ -1,7 +1,8 @@
 //! A cache of tokens: safe calls over `rookdresser.h`.
 use crate::key::Key;
 use crate::setup::OpenError;
-use crate::sys::{self, Answer, Handle, Looked, Notice, Numbers, Setup, Token};
+use crate::sys::{self, Answer, Handle, Looked, Notice, Numbers, Settings, Token};
+use crate::Setup;
 use std::fmt::{Debug, Display, Formatter};
 
 /// Why a call was refused. A refused call changes nothing.
@@ -87,17 +88,6 @@ pub enum Landed {
     Gone,
 }
 
-// The library is marked for such a processor, and glibc would refuse it in a sentence. Rust's own linker drops that mark.
-fn is_v2() -> bool {
-    #[cfg(target_arch = "x86_64")]
-    return is_x86_feature_detected!("ssse3")
-        && is_x86_feature_detected!("sse4.1")
-        && is_x86_feature_detected!("sse4.2")
-        && is_x86_feature_detected!("popcnt");
-    #[cfg(not(target_arch = "x86_64"))]
-    return true;
-}
-
 /// One cache, and the notices of its latest call. Its keys are numbers, or names of at most 24 bytes.
 pub struct Tokens<K = u64> {
     handle: Handle,
@@ -115,6 +105,9 @@ impl<K: Key> Tokens<K> {
     /// Opens an empty cache. `BadSetup`, then `OutOfMemory`. Panics on a processor older than x86-64-v2, which lacks
     /// instructions that the library has.
     ///
+    /// The window moves only by [`slide`](Tokens::slide), so `adaptive` may not be true. If no window is given, it has a hundredth of the
+    /// entries.
+    ///
     /// ```
     /// use rookdresser::{Found, Setup, Token, Tokens};
     ///
@@ -124,11 +117,15 @@ impl<K: Key> Tokens<K> {
     /// # Ok::<(), Box<dyn std::error::Error>>(())
     /// ```
     pub fn open(setup: &Setup) -> Result<Self, OpenError> {
-        assert!(is_v2(), "rookdresser needs a processor of x86-64-v2 or later");
-        setup.check_shard()?;
-        let mut handle = Handle { at: std::ptr::null_mut(), is_open: false };
+        setup.check_tokens()?;
+        Self::of(&setup.with_window(setup.fixed_window()))
+    }
+
+    /// The same of settings that are within their ranges.
+    pub(crate) fn of(settings: &Settings) -> Result<Self, OpenError> {
+        let mut handle = Handle::closed();
         // SAFETY: both lead to whole values that are borrowed for the call, and the handle is closed: all bytes are zero.
-        match unsafe { K::open(setup, &mut handle) } {
+        match unsafe { K::open(settings, &mut handle) } {
             0 => Ok(Tokens { handle, told: 0, first: Notice::default(), has_first: false }),
             1 => Err(OpenError::OutOfMemory),
             _ => unreachable!("the library's ranges are those that were checked"),
@@ -172,6 +169,27 @@ impl<K: Key> Tokens<K> {
     /// ```
     pub fn look(&mut self, key: K, now: u64) -> Result<Found, Fault> {
         self.made(|h, a| unsafe { K::look(h, key, now, a) }).map(found)
+    }
+
+    /// The token that [`Tokens::look`] would hit, if it would hit. It is no call of the cache: it uses no entry, counts nothing, and
+    /// leaves the [notices](Tokens::notices) of the call before it. Takes no memory.
+    ///
+    /// ```
+    /// # use rookdresser::{Setup, Token, Tokens};
+    /// # let mut cache = Tokens::<u64>::open(&Setup::of(100))?;
+    /// cache.put(1, Token { token: 7, weight: 1 }, 0)?;
+    /// assert_eq!((cache.peek(1, 0), cache.peek(2, 0)), (Some(Token { token: 7, weight: 1 }), None));
+    /// assert_eq!((cache.numbers().lookups, cache.numbers().step), (0, 1));
+    /// # Ok::<(), Box<dyn std::error::Error>>(())
+    /// ```
+    pub fn peek(&mut self, key: K, now: u64) -> Option<Token> {
+        let mut answer = Answer::default();
+        // SAFETY: as of the calls above, and `answer` is a value of ours. An open cache of this kind of keys refuses no peek.
+        unsafe { K::peek(&mut self.handle, key, now, &mut answer) };
+        match found(answer) {
+            Found::Hit(token) => Some(token),
+            _ => None,
+        }
     }
 
     /// Looks the key up, and joins or opens a load. Whoever leads it calls one of the three landings.
@@ -297,6 +315,22 @@ impl<K: Key> Tokens<K> {
         self.made(|h, a| unsafe { sys::rd_clean(h, now, a) }).map(drop)
     }
 
+    /// Moves the border between window and main by one entry: makes the window wider, or narrower. Returns whether it moved: a window
+    /// of all entries can't become wider, nor one of one entry narrower.
+    ///
+    /// `StepsSpent`, then `OutOfMemory`: nothing has moved. No entry leaves, and the notices of the call before are gone. A step, at the
+    /// moment `now`. Only a slide that moves something takes memory.
+    ///
+    /// ```
+    /// # use rookdresser::{Setup, Tokens};
+    /// let mut cache = Tokens::<u64>::open(&Setup { window: Some(99), ..Setup::of(100) })?;
+    /// assert_eq!((cache.slide(true, 0)?, cache.slide(true, 0)?), (true, false));
+    /// # Ok::<(), Box<dyn std::error::Error>>(())
+    /// ```
+    pub fn slide(&mut self, wider: bool, now: u64) -> Result<bool, Fault> {
+        self.made(|h, a| unsafe { sys::rd_slide(h, wider, now, a) }).map(|a| a.number != 0)
+    }
+
     // Whether the latest call told that something left.
     pub(crate) fn has_notices(&self) -> bool {
         self.told > 0
@@ -341,13 +375,15 @@ impl<K: Key> Tokens<K> {
 }
 
 impl Tokens {
-    /// Looks all of them up, one after another, until one is refused or tells that something left. Returns how many were made.
+    /// Looks all of them up, one after another, until one is refused or tells that something left. Returns how many were made and not
+    /// refused.
     pub(crate) fn look_many(&mut self, looks: &mut [Looked]) -> usize {
         (self.told, self.has_first) = (0, false);
         let mut made = 0;
         // SAFETY: as of the calls above. The looks are lent for the call, and there are so many of them.
-        unsafe { sys::rd_look_many(&mut self.handle, looks.as_mut_ptr(), looks.len(), &mut made) };
-        made as usize
+        let fault = unsafe { sys::rd_look_many(&mut self.handle, looks.as_mut_ptr(), looks.len(), &mut made) };
+        // The library counts one that it refuses too.
+        made as usize - usize::from(fault != 0)
     }
 }
 

@@ -56,7 +56,7 @@ fn a_loader_may_return_the_value_alone() {
 fn what_a_store_makes_leave_is_told_and_dropped() {
     let told = Arc::new(Mutex::new(Vec::new()));
     let telling = told.clone();
-    let setup = Setup { window: 1, bound: 10, ..Setup::of(2) };
+    let setup = Setup { bound: 10, ..Setup::of(2) };
     let cache = Loading::<u64, u64, ()>::open(&setup)
         .unwrap()
         .with_listener(move |left| telling.lock().unwrap().push((*left.key, *left.value, left.cause)));

@@ -107,7 +107,7 @@ fn a_loaded_value_isn_t_kept_for_good_if_the_old_one_panics_as_it_is_dropped() {
 #[test]
 fn a_key_and_a_value_of_one_entry_may_both_panic_as_they_are_dropped() {
     let fuse = Arc::new(Fuse::default());
-    let cache = Loading::<Thing, Thing, ()>::open(&Setup { window: 1, ..Setup::of(2) }).unwrap();
+    let cache = Loading::<Thing, Thing, ()>::open(&Setup::of(2)).unwrap();
     let keys: Vec<_> = (0..5).map(|number| fuse.thing(number)).collect();
     fuse.light();
     let panicked = |key: &Thing| panic_of(|| cache.get_at(key, 0, || Ok((fuse.thing(key.number), 1)))).is_some();
@@ -302,7 +302,7 @@ fn a_hash_a_clone_and_the_drop_of_what_was_passed_may_both_panic() {
 #[test]
 fn a_listener_and_the_drop_of_the_key_may_both_panic() {
     let keys = Arc::new(Fuse::default());
-    let setup = Setup { window: 1, ..Setup::of(2) };
+    let setup = Setup::of(2);
     let cache = Loading::<Thing, u64, ()>::open(&setup).unwrap().with_listener(|_| panic!("of the listener"));
     let all: Vec<_> = (0..6).map(|number| keys.thing(number)).collect();
     keys.light();

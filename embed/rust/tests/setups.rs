@@ -18,11 +18,14 @@ fn text(opened: Result<(), OpenError>) -> String {
 
 #[test]
 fn open_and_check_take_the_same_setups_and_name_what_is_out_of_its_range() {
-    assert_eq!((Setup::of(1000).window, Setup::of(7).window, Setup::default()), (10, 1, Setup::of(1000)));
+    assert_eq!((Setup::of(7).window, Setup::default()), (None, Setup::of(1000)));
     for good in [
         Setup::of(1),
         Setup::of(70_000),
-        Setup { window: 10, ..SETUP },
+        Setup { window: Some(10), ..SETUP },
+        Setup { window: Some(10), adaptive: Some(false), ..SETUP },
+        Setup { adaptive: Some(false), ..SETUP },
+        Setup { adaptive: Some(true), ..Setup::of(512) },
         Setup { flights: 4096, ..SETUP },
         Setup { bound: 1, ..Setup::of(65_536) },
         Setup { after_write: 10, refresh: 9, ..SETUP },
@@ -35,8 +38,8 @@ fn open_and_check_take_the_same_setups_and_name_what_is_out_of_its_range() {
         (Setup::of(0), "entries is 0, and has to be from 1 to 268435456"),
         (Setup::of(300_000_000), "entries is 300000000, and has to be from 1 to 268435456"),
         (Setup { bound: 9, ..Setup::of(70_000) }, "entries is 70000, and has to be from 1 to 65536 if bound is set"),
-        (Setup { window: 0, ..SETUP }, "window is 0, and has to be from 1 to 10, the entries"),
-        (Setup { window: 20, ..SETUP }, "window is 20, and has to be from 1 to 10, the entries"),
+        (Setup { window: Some(0), ..SETUP }, "window is 0, and has to be from 1 to 10, the entries"),
+        (Setup { window: Some(20), ..SETUP }, "window is 20, and has to be from 1 to 10, the entries"),
         (Setup { flights: 0, ..SETUP }, "flights is 0, and has to be from 1 to 4096"),
         (Setup { flights: 4097, ..SETUP }, "flights is 4097, and has to be from 1 to 4096"),
         (Setup { bound: 0, ..SETUP }, "bound is 0, and has to be from 1 to 281474976710656"),
@@ -51,7 +54,7 @@ fn open_and_check_take_the_same_setups_and_name_what_is_out_of_its_range() {
 
 #[test]
 fn an_error_has_the_setting_its_value_and_its_range() {
-    let bad = Setup { window: 20, ..SETUP };
+    let bad = Setup { window: Some(20), ..SETUP };
     for error in [
         opened(&bad),
         sharded(2, &bad),

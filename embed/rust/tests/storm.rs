@@ -123,7 +123,7 @@ fn call(cache: &Cache) {
 #[test]
 fn a_cache_whose_callbacks_panic_and_use_it_stays_whole() {
     within_a_minute(|| {
-        let setup = Setup { after_write: 300, refresh: 100, bound: 300, ..Setup::of(20) };
+        let setup = Setup { after_write: 300, refresh: 100, bound: 300, ..Setup::of(256) };
         let cache = CACHE.get_or_init(|| Loading::sharded(2, &setup).unwrap().with_listener(|_| strikes()));
         std::thread::scope(|threads| {
             for seed in 1..9 {

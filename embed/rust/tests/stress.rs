@@ -61,8 +61,7 @@ fn requests(cache: &Loading<u64, Value, u64>, clock: &AtomicU64, seed: u64) {
 
 #[test]
 fn after_a_hundred_thousand_requests_exactly_what_is_held_is_kept() {
-    let setup =
-        Setup { entries: 500, window: 5, flights: 64, bound: 4000, after_write: 1500, after_access: 0, refresh: 600 };
+    let setup = Setup { flights: 64, bound: 4000, after_write: 1500, refresh: 600, ..Setup::of(500) };
     for shards in [1, 4] {
         let cache = within_a_minute(move || {
             let (cache, clock) = (Loading::sharded(shards, &setup).unwrap(), AtomicU64::new(0));

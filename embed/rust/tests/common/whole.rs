@@ -2,8 +2,7 @@
 use rookdresser::{Loading, Setup};
 use std::panic::{catch_unwind, AssertUnwindSafe};
 
-pub const SETUP: Setup =
-    Setup { entries: 16, window: 1, flights: 8, bound: 1000, after_write: 0, after_access: 0, refresh: 0 };
+pub const SETUP: Setup = Setup { flights: 8, bound: 1000, ..Setup::of(16) };
 
 // An error of which there is one, as those of input and output are.
 #[derive(Debug, PartialEq)]
