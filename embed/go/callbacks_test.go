@@ -134,7 +134,7 @@ func TestALoadThatClosesTheCacheHasItsValueReturned(t *testing.T) {
 	if values, keys := c.Kept(); v != "one" || err != nil || values != 0 || keys != 0 {
 		t.Fatal(v, err, values, keys)
 	}
-	if _, _, err := c.Look(1); !errors.Is(err, Closed) || err.Error() != "rookdresser: the cache is closed" {
+	if _, _, err := c.Look(1); !errors.Is(err, ErrClosed) || err.Error() != "rookdresser: the cache is closed" {
 		t.Fatal(err)
 	}
 }
@@ -145,7 +145,7 @@ func TestAWeightOutOfRangeStoresNothing(t *testing.T) {
 	if v != "heavy" || err != nil || c.Stats().Loose != 1 {
 		t.Fatal(v, err)
 	}
-	if err := c.Put(1, "heavy", 6); !errors.Is(err, TooHeavy) || c.Stats().Refused[TooHeavy] != 1 {
+	if err := c.Put(1, "heavy", 6); !errors.Is(err, ErrTooHeavy) || c.Stats().Refused[ErrTooHeavy] != 1 {
 		t.Fatal(err)
 	}
 	if n := holds(t, c); n.Entries != 0 {

@@ -24,7 +24,7 @@ func opened(setup rookdresser.Setup) *rookdresser.Cache[string, string] {
 
 func ExampleOpen() {
 	_, err := rookdresser.Open[string, string](rookdresser.Setup{Entries: 10, Window: 20})
-	fmt.Println(errors.Is(err, rookdresser.BadSetup))
+	fmt.Println(errors.Is(err, rookdresser.ErrBadSetup))
 	fmt.Println(err)
 	// Output:
 	// true
@@ -86,7 +86,7 @@ func ExampleCache_Put() {
 	defer c.Close()
 	fmt.Println(c.Put("a page", "a text", 64))
 	err := c.Put("another", "a longer text", 65)
-	fmt.Println(errors.Is(err, rookdresser.TooHeavy), c.Contains("another"))
+	fmt.Println(errors.Is(err, rookdresser.ErrTooHeavy), c.Contains("another"))
 	// Output:
 	// <nil>
 	// true false
@@ -161,8 +161,19 @@ func ExampleCache_Listen() {
 	c := opened(rookdresser.Setup{Entries: 1})
 	c.Listen(func(left rookdresser.Left[string, string]) { fmt.Println(left.Key, left.Value, left.Cause) })
 	_ = c.Put("a page", "a text", 1)
-	_ = c.Put("a page", "a new text", 1)
-	_ = c.Put("another", "its text", 1)
+	c.Close()
+	// Output: a page a text Explicit
+}
+
+func ExampleOnLeave() {
+	c, err := rookdresser.Open(rookdresser.Setup{Entries: 1},
+		rookdresser.OnLeave(func(left rookdresser.Left[string, string]) { fmt.Println(left.Key, left.Value, left.Cause) }))
+	if err != nil {
+		log.Fatal(err)
+	}
+	_ = c.Store("a page", "a text")
+	_ = c.Store("a page", "a new text")
+	_ = c.Store("another", "its text")
 	c.Close()
 	// Output:
 	// a page a text Replaced
@@ -173,7 +184,7 @@ func ExampleCache_Listen() {
 func ExampleCache_Close() {
 	c := opened(rookdresser.Setup{Entries: 1000})
 	c.Close()
-	fmt.Println(errors.Is(c.Put("a page", "a text", 1), rookdresser.Closed))
+	fmt.Println(errors.Is(c.Put("a page", "a text", 1), rookdresser.ErrClosed))
 	// Output: true
 }
 
@@ -184,6 +195,16 @@ func ExampleCache_Numbers() {
 	numbers, err := c.Numbers()
 	fmt.Println(numbers.Entries, numbers.Weight, err)
 	// Output: 1 7 <nil>
+}
+
+func ExampleCache_Window() {
+	c := opened(rookdresser.Setup{Entries: 1000})
+	defer c.Close()
+	fixed := opened(rookdresser.Setup{Entries: 1000, Adaptive: rookdresser.Off})
+	defer fixed.Close()
+	// The one follows the look-ups, of which there are none yet.
+	fmt.Println(c.Window(), fixed.Window())
+	// Output: 400 10
 }
 
 func ExampleCache_Kept() {
@@ -215,7 +236,7 @@ func ExampleFault_Error() {
 	defer c.Close()
 	err := c.Put("a page", "a text", 65)
 	var fault rookdresser.Fault
-	fmt.Println(errors.As(err, &fault), fault == rookdresser.TooHeavy)
+	fmt.Println(errors.As(err, &fault), fault == rookdresser.ErrTooHeavy)
 	fmt.Println(err)
 	// Output:
 	// true true
@@ -225,4 +246,64 @@ func ExampleFault_Error() {
 func ExampleCause_String() {
 	fmt.Println(rookdresser.Explicit, rookdresser.Replaced, rookdresser.Expired, rookdresser.Size)
 	// Output: Explicit Replaced Expired Size
+}
+
+func ExampleChoice_String() {
+	fmt.Println(rookdresser.Default, rookdresser.On, rookdresser.Off)
+	// Output: Default On Off
+}
+
+func ExampleReads_String() {
+	fmt.Println(rookdresser.Setup{}.Reads, rookdresser.Exact)
+	// Output: Shared Exact
+}
+
+func ExampleWeigh() {
+	c, err := rookdresser.Open(rookdresser.Setup{Entries: 1000, Bound: 10},
+		rookdresser.Weigh(func(_, text string) uint32 { return uint32(len(text)) }))
+	if err != nil {
+		log.Fatal(err)
+	}
+	defer c.Close()
+	fmt.Println(c.Store("a page", "a text"))
+	fmt.Println(c.Store("another", "a longer text"))
+	numbers, _ := c.Numbers()
+	fmt.Println(numbers.Weight)
+	// Output:
+	// <nil>
+	// rookdresser: the value is heavier than Bound
+	// 6
+}
+
+func ExampleCache_Store() {
+	c := opened(rookdresser.Setup{Entries: 1000})
+	defer c.Close()
+	fmt.Println(c.Store("a page", "a text"), c.Contains("a page"))
+	// Output: <nil> true
+}
+
+func ExampleCache_GetWith() {
+	c := opened(rookdresser.Setup{Entries: 1000})
+	defer c.Close()
+	fetch := func(context.Context) (string, error) {
+		fmt.Println("fetching")
+		return "a text", nil
+	}
+	for i := 0; i < 2; i++ {
+		fmt.Println(c.GetWith(context.Background(), "a page", fetch))
+	}
+	// Output:
+	// fetching
+	// a text <nil>
+	// a text <nil>
+}
+
+func ExampleCache_GetMany() {
+	c := opened(rookdresser.Setup{Entries: 1000, Bound: 1000})
+	defer c.Close()
+	texts, err := c.GetMany(context.Background(), []string{"a"}, func(_ context.Context, absent []string) (map[string]rookdresser.Weighed[string], error) {
+		return map[string]rookdresser.Weighed[string]{"a": {Value: "a heavy text", Weight: 100}}, nil
+	})
+	fmt.Println(texts, err)
+	// Output: map[a:a heavy text] <nil>
 }

@@ -28,15 +28,14 @@ func fetch(ctx context.Context, url string) (Page, error) {
 }
 
 func first(ctx context.Context, url string) (Page, error) {
-	c, err := rookdresser.Open[string, Page](rookdresser.Setup{Entries: 1000, AfterWrite: time.Minute})
+	c, err := rookdresser.Open(rookdresser.Setup{Entries: 1000, AfterWrite: time.Minute},
+		rookdresser.OnLeave(func(left rookdresser.Left[string, Page]) { log.Println(left.Key, left.Cause) }))
 	if err != nil {
 		return Page{}, err
 	}
 	defer c.Close()
-	c.Listen(func(left rookdresser.Left[string, Page]) { log.Println(left.Key, left.Cause) })
-	page, err := c.Get(ctx, url, func(ctx context.Context) (Page, uint32, error) {
-		page, err := fetch(ctx, url) // once for all goroutines that ask meanwhile
-		return page, 1, err          // the entry weighs 1
+	page, err := c.GetWith(ctx, url, func(ctx context.Context) (Page, error) {
+		return fetch(ctx, url) // once for all goroutines that ask meanwhile
 	})
 	return page, err
 }
@@ -73,21 +72,21 @@ func ExampleOpenHashed() {
 }
 
 func many(ctx context.Context, c *rookdresser.Cache[string, Page], urls []string) (map[string]Page, error) {
-	pages, err := c.GetMany(ctx, urls, func(ctx context.Context, absent []string) (map[string]rookdresser.Weighed[Page], error) {
-		loaded := map[string]rookdresser.Weighed[Page]{}
+	pages, err := c.GetManyWith(ctx, urls, func(ctx context.Context, absent []string) (map[string]Page, error) {
+		loaded := map[string]Page{}
 		for _, url := range absent {
 			page, err := fetch(ctx, url)
 			if err != nil {
 				return nil, err
 			}
-			loaded[url] = rookdresser.Weighed[Page]{Value: page, Weight: 1}
+			loaded[url] = page
 		}
 		return loaded, nil
 	})
 	return pages, err
 }
 
-func ExampleCache_GetMany() {
+func ExampleCache_GetManyWith() {
 	c, err := rookdresser.Open[string, Page](rookdresser.Setup{Entries: 1000})
 	if err != nil {
 		fmt.Println(err)

@@ -128,12 +128,13 @@ func TestTheLibraryAnswersAsIfItHadBeenToldEachHitAtOnce(t *testing.T) {
 	for _, mix := range mixes {
 		random := rand.New(rand.NewSource(2))
 		s, clock := mixed(mix, 20)
+		s.Reads = Exact
 		c, beside := open(t, s), &twin{}
 		part, err := s.parts()
 		if err != nil {
 			t.Fatal(err)
 		}
-		beside.library, _ = openLibrary(part[0])
+		beside.library, _ = openLibrary(part[0], nil)
 		var told []string
 		c.Listen(func(left Left[uint64, string]) { told = append(told, fmt.Sprint(left.Key, left.Cause)) })
 		for turn := 0; turn < 10_000; turn++ {

@@ -16,28 +16,40 @@ type Fault uint64
 
 // The faults that a call may return.
 const (
-	OutOfMemory    Fault = C.RD_OUT_OF_MEMORY    // the same call may succeed later
-	BadSetup       Fault = C.RD_BAD_SETUP        // a setting is out of its range
-	TooHeavy       Fault = C.RD_TOO_HEAVY        // the value weighs more than its shard's part of Bound
-	TooManyFlights Fault = C.RD_TOO_MANY_FLIGHTS // as many loads are open in the shard as Flights allows
-	StepsSpent     Fault = C.RD_STEPS_SPENT      // 2^60 calls were made
-	Closed         Fault = C.RD_CLOSED           // the cache is closed
+	ErrOutOfMemory    Fault = C.RD_OUT_OF_MEMORY    // the same call may succeed later
+	ErrBadSetup       Fault = C.RD_BAD_SETUP        // a setting is out of its range
+	ErrTooHeavy       Fault = C.RD_TOO_HEAVY        // the value weighs more than its shard's part of Bound
+	ErrTooManyFlights Fault = C.RD_TOO_MANY_FLIGHTS // as many loads are open in the shard as Flights allows
+	ErrStepsSpent     Fault = C.RD_STEPS_SPENT      // 2^60 calls were made
+	ErrClosed         Fault = C.RD_CLOSED           // the cache is closed
+)
+
+// The faults by their names of before.
+//
+// Deprecated: use the names that begin with Err.
+const (
+	OutOfMemory    = ErrOutOfMemory
+	BadSetup       = ErrBadSetup
+	TooHeavy       = ErrTooHeavy
+	TooManyFlights = ErrTooManyFlights
+	StepsSpent     = ErrStepsSpent
+	Closed         = ErrClosed
 )
 
 // Error returns the fault as a sentence.
 func (f Fault) Error() string {
 	switch f {
-	case OutOfMemory:
+	case ErrOutOfMemory:
 		return "rookdresser: out of memory"
-	case BadSetup:
+	case ErrBadSetup:
 		return "rookdresser: a setting is out of its range"
-	case TooHeavy:
+	case ErrTooHeavy:
 		return "rookdresser: the value is heavier than Bound"
-	case TooManyFlights:
+	case ErrTooManyFlights:
 		return "rookdresser: too many loads are open"
-	case StepsSpent:
+	case ErrStepsSpent:
 		return "rookdresser: 2^60 calls were made"
-	case Closed:
+	case ErrClosed:
 		return "rookdresser: the cache is closed"
 	}
 	return fmt.Sprintf("rookdresser: fault %d", uint64(f))

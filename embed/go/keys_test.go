@@ -47,7 +47,7 @@ func TestKeysAreOfAnyComparableTypeWithAHash(t *testing.T) {
 		}
 		holds(t, c)
 	}
-	if _, err := OpenHashed[point, string](setup, nil); !errors.Is(err, BadSetup) {
+	if _, err := OpenHashed[point, string](setup, nil); !errors.Is(err, ErrBadSetup) {
 		t.Fatal(err)
 	}
 }
@@ -227,7 +227,7 @@ func TestAHashOrAClockThatClosesTheCacheHasTheCallRefused(t *testing.T) {
 			closes = c.Close
 			err := call(c)
 			closes = nil
-			if values, keys := c.Kept(); err != Closed || values != 0 || keys != 0 {
+			if values, keys := c.Kept(); err != ErrClosed || values != 0 || keys != 0 {
 				t.Fatal(err, values, keys)
 			}
 		}

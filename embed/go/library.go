@@ -1,9 +1,11 @@
 package rookdresser
 
 /*
+// CGO_CFLAGS takes the place of Go's own -O2.
+#cgo CFLAGS: -O2
 #include "rookdresser.h"
 
-enum { COPIED = 16, HITS = 64 };
+enum { COPIED = 16, HITS = 64, SHOWN = 64, SLIDES = 4 };
 
 // A cache of the library, what its latest call told, and the hits that it isn't told yet. For Go the union is bytes, so that a call
 // needs no check of pointers.
@@ -13,16 +15,48 @@ typedef struct {
 	rd_notice notices[COPIED];
 	uint64_t hits;
 	rd_looked hit[HITS];
+	uint32_t window, wanted;     // how many entries the window may hold, and how many it should
+	bool follows;                // whether there is an adviser, which isn't shown yet:
+	uint64_t seens;              // so many look-ups and seeks, of which the cache was told
+	uint64_t seen[SHOWN + HITS]; // of these keys; before a call it is shown them if they are SHOWN or more
 } side;
+
+// Keeps the keys of the hits for the adviser.
+static void keep_hits(side *s) {
+	uint64_t n = s->hits, *seen = s->seen + s->seens;
+	for (uint64_t i = 0; i < n; i++) seen[i] = s->hit[i].key;
+	s->seens += n;
+}
 
 // Tells the hits in their order, before each other call. After one that is refused memory, which was served all the same, it goes on
 // with the next.
 static rd_cache *at(side *s) {
 	uint64_t made = 0;
+	if (s->follows) keep_hits(s);
 	for (uint64_t from = 0; from < s->hits; from += made)
 		if (rd_look_many(&s->of.cache, s->hit + from, s->hits - from, &made) >= RD_CLOSED) break;
 	s->hits = 0;
 	return &s->of.cache;
+}
+
+// The same, before a call that looks up, seeks, puts or lands: it then moves the window's border by up to four entries. The notices of
+// the call before have been read. The slides are made at the latest moment, so that a call that is refused moves no time. After one
+// that is refused memory, a later call goes on.
+static rd_cache *at_border(side *s) {
+	rd_cache *cache = at(s);
+	rd_answer slid;
+	for (int i = 0; i < SLIDES && s->window != s->wanted; i++) {
+		if (rd_slide(cache, s->window < s->wanted, 0, &slid) || !slid.number) break;
+		s->window += s->window < s->wanted ? 1 : -1;
+	}
+	return cache;
+}
+
+// The same, before a look-up or a seek of a key.
+static rd_cache *at_look(side *s, uint64_t key) {
+	rd_cache *cache = at_border(s);
+	if (s->follows) s->seen[s->seens++] = key;
+	return cache;
 }
 
 // Copies notices of the latest call, from one on, until the next would need the place of the first.
@@ -45,11 +79,22 @@ static uint64_t told_with_notice(side *s, uint64_t fault) {
 	return fault;
 }
 
-static uint64_t open_side(const rd_setup *setup, side *s) { return rd_open(setup, &s->of.cache); }
-static uint64_t close_side(side *s) { return rd_close(at(s)); }
+static uint64_t open_side(const rd_setup *setup, bool follows, side *s) {
+	s->window = s->wanted = setup->window;
+	s->follows = follows;
+	return rd_open(setup, &s->of.cache);
+}
+
+static uint64_t close_side(side *s) {
+	rd_cache *cache = at(s);
+	s->window = s->wanted = 0;
+	s->follows = false;
+	return rd_close(cache);
+}
+
 static uint64_t numbers_of(side *s, rd_numbers *n) { return rd_get_numbers(at(s), n); }
-static uint64_t look(side *s, uint64_t key, uint64_t now) { return told(s, rd_look(at(s), key, now, &s->answer)); }
-static uint64_t seek(side *s, uint64_t key, uint64_t now) { return told(s, rd_seek(at(s), key, now, &s->answer)); }
+static uint64_t look(side *s, uint64_t key, uint64_t now) { return told(s, rd_look(at_look(s, key), key, now, &s->answer)); }
+static uint64_t seek(side *s, uint64_t key, uint64_t now) { return told(s, rd_seek(at_look(s, key), key, now, &s->answer)); }
 static uint64_t forget(side *s, uint64_t key, uint64_t now) { return told(s, rd_forget(at(s), key, now, &s->answer)); }
 static uint64_t clear(side *s, uint64_t now) { return told(s, rd_clear(at(s), now, &s->answer)); }
 static uint64_t clean(side *s, uint64_t now) { return told(s, rd_clean(at(s), now, &s->answer)); }
@@ -59,30 +104,37 @@ static uint64_t drop(side *s, uint64_t key, uint64_t now) {
 }
 
 static uint64_t put(side *s, uint64_t key, uint64_t token, uint32_t weight, uint64_t now) {
-	return told_with_notice(s, rd_put_with_notice(at(s), key, (rd_token){token, weight}, now, &s->answer, s->notices));
+	return told_with_notice(s, rd_put_with_notice(at_border(s), key, (rd_token){token, weight}, now, &s->answer, s->notices));
 }
 
-static void tell_hits(side *s) { at(s); }
+static void tell_hits(side *s) { at_border(s); }
 
 static uint64_t land_failed(side *s, uint64_t id, uint64_t key, uint64_t now) {
-	return told(s, rd_land_failed(at(s), id, key, now, &s->answer));
+	return told(s, rd_land_failed(at_border(s), id, key, now, &s->answer));
 }
 
 // Where memory is refused the value isn't stored, and the load is closed.
 static uint64_t land(side *s, uint64_t id, uint64_t key, uint64_t token, uint32_t weight, uint64_t now) {
-	if (!rd_land_keep_with_notice(at(s), id, key, (rd_token){token, weight}, now, &s->answer, s->notices)) return told_with_notice(s, 0);
+	if (!rd_land_keep_with_notice(at_border(s), id, key, (rd_token){token, weight}, now, &s->answer, s->notices)) return told_with_notice(s, 0);
 	return told(s, rd_land_loose(at(s), id, key, now, &s->answer));
 }
 */
 import "C"
 
-// A library is one of its caches, whose calls are made one at a time. Each leaves its answer and its notices until the next one.
-type library struct{ side *C.side }
+// A library is one of its caches, whose calls are made one at a time. Each leaves its answer and its notices until the next one. Its
+// window follows an adviser, or is fixed if by is nil.
+type library struct {
+	side *C.side
+	by   *follower
+}
 
-func openLibrary(s Setup) (library, Fault) {
-	l := library{new(C.side)}
+func openLibrary(s Setup, by *follower) (library, Fault) {
+	l := library{new(C.side), by}
+	if by != nil {
+		s.Window = by.wanted(s.Window)
+	}
 	setup := setupOf(s)
-	return l, Fault(C.open_side(&setup, l.side))
+	return l, Fault(C.open_side(&setup, by != nil, l.side))
 }
 
 func setupOf(s Setup) C.rd_setup {
@@ -93,46 +145,62 @@ func setupOf(s Setup) C.rd_setup {
 	}
 }
 
+// ready returns the side, for each call of C but the last. The adviser is shown the look-ups that it should see by now, and the window
+// will move towards what it wants.
+func (l library) ready() *C.side {
+	if l.by != nil {
+		if l.side.seens >= C.SHOWN {
+			l.by.adviser.show(&l.side.seen[0], l.side.seens)
+			l.side.seens = 0
+		}
+		l.side.wanted = C.uint32_t(l.by.wanted(uint32(l.side.wanted)))
+	}
+	return l.side
+}
+
+// window returns how many entries the window may hold now; none in a closed cache.
+func (l library) window() uint32 { return uint32(l.side.window) }
+
 // hit keeps a look-up of which the caller knows that it hits. There is no answer of it.
 func (l library) hit(key, now uint64) {
 	at := &l.side.hit[l.side.hits]
 	at.key, at.now = C.uint64_t(key), C.uint64_t(now)
 	if l.side.hits++; l.side.hits == C.HITS {
-		C.tell_hits(l.side)
+		C.tell_hits(l.ready())
 	}
 }
 
 func (l library) look(key, now uint64) Fault {
-	return Fault(C.look(l.side, C.uint64_t(key), C.uint64_t(now)))
+	return Fault(C.look(l.ready(), C.uint64_t(key), C.uint64_t(now)))
 }
 
 func (l library) seek(key, now uint64) Fault {
-	return Fault(C.seek(l.side, C.uint64_t(key), C.uint64_t(now)))
+	return Fault(C.seek(l.ready(), C.uint64_t(key), C.uint64_t(now)))
 }
 
 func (l library) put(key, token uint64, weight uint32, now uint64) Fault {
-	return Fault(C.put(l.side, C.uint64_t(key), C.uint64_t(token), C.uint32_t(weight), C.uint64_t(now)))
+	return Fault(C.put(l.ready(), C.uint64_t(key), C.uint64_t(token), C.uint32_t(weight), C.uint64_t(now)))
 }
 
 // land closes a load with a value, and isStored says whether it was stored then.
 func (l library) land(id, key, token uint64, weight uint32, now uint64) Fault {
-	return Fault(C.land(l.side, C.uint64_t(id), C.uint64_t(key), C.uint64_t(token), C.uint32_t(weight), C.uint64_t(now)))
+	return Fault(C.land(l.ready(), C.uint64_t(id), C.uint64_t(key), C.uint64_t(token), C.uint32_t(weight), C.uint64_t(now)))
 }
 
 func (l library) landFailed(id, key, now uint64) Fault {
-	return Fault(C.land_failed(l.side, C.uint64_t(id), C.uint64_t(key), C.uint64_t(now)))
+	return Fault(C.land_failed(l.ready(), C.uint64_t(id), C.uint64_t(key), C.uint64_t(now)))
 }
 
 func (l library) drop(key, now uint64) Fault {
-	return Fault(C.drop(l.side, C.uint64_t(key), C.uint64_t(now)))
+	return Fault(C.drop(l.ready(), C.uint64_t(key), C.uint64_t(now)))
 }
 
 func (l library) forget(key, now uint64) Fault {
-	return Fault(C.forget(l.side, C.uint64_t(key), C.uint64_t(now)))
+	return Fault(C.forget(l.ready(), C.uint64_t(key), C.uint64_t(now)))
 }
 
-func (l library) clear(now uint64) Fault { return Fault(C.clear(l.side, C.uint64_t(now))) }
-func (l library) clean(now uint64) Fault { return Fault(C.clean(l.side, C.uint64_t(now))) }
+func (l library) clear(now uint64) Fault { return Fault(C.clear(l.ready(), C.uint64_t(now))) }
+func (l library) clean(now uint64) Fault { return Fault(C.clean(l.ready(), C.uint64_t(now))) }
 func (l library) close() Fault           { return Fault(C.close_side(l.side)) }
 
 // What the latest call answered, if it wasn't refused.
@@ -163,7 +231,7 @@ func (l library) notice(i uint64) (uint64, Cause) {
 
 func (l library) numbers() (Numbers, Fault) {
 	var n C.rd_numbers
-	fault := Fault(C.numbers_of(l.side, &n))
+	fault := Fault(C.numbers_of(l.ready(), &n))
 	if fault != 0 {
 		return Numbers{}, fault
 	}

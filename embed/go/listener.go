@@ -7,11 +7,9 @@ type Left[K comparable, V any] struct {
 	Cause Cause
 }
 
-// Listen sets the function that is called for each entry that leaves. Call Listen before you share the cache.
+// Listen sets the listener of OnLeave. Call Listen before you share the cache.
 //
-// The listener runs in the goroutine whose call made the entry leave, with no lock held, after the load of that call has landed. It
-// may use the cache. If it panics, it is still called for the other entries, and then the call panics with the first panic's value.
-// If it ends its goroutine, another goroutine calls it for the others.
+// Deprecated: give Open an OnLeave.
 func (c *Cache[K, V]) Listen(listener func(Left[K, V])) { c.listener = listener }
 
 // tell calls the listener for each.

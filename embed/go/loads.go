@@ -38,7 +38,7 @@ type sought[K comparable, V any] struct {
 // it, since others may share the load. To cut a load off, set a time-out in fetch.
 //
 // The error is fetch's, ctx's (context.Canceled if ctx has ended and gives none), ErrPanicked, ErrWaitsForItself, ErrNotLoaded,
-// TooManyFlights, OutOfMemory or Closed.
+// ErrTooManyFlights, ErrOutOfMemory or ErrClosed.
 func (c *Cache[K, V]) Get(ctx context.Context, key K, fetch func(context.Context) (V, uint32, error)) (V, error) {
 	found, err := c.seek(key)
 	switch {
@@ -53,12 +53,13 @@ func (c *Cache[K, V]) Get(ctx context.Context, key K, fetch func(context.Context
 }
 
 func (c *Cache[K, V]) seek(key K) (found sought[K, V], err error) {
-	s, hash, now := c.enter(key)
-	defer s.mu.Unlock()
-	at, number := s.table.find(key, hash)
-	if found.value, found.isHit = s.sureHit(at, number, now); found.isHit {
-		return found, nil
+	now := c.clock.now()
+	s, hash := c.of(key)
+	v, at, number, now, isHit := s.hit(key, hash, now)
+	if isHit {
+		return sought[K, V]{value: v, isHit: true}, nil
 	}
+	defer s.mu.Unlock()
 	if err = s.made(s.lib.seek(number, now), now); err != nil {
 		return found, err
 	}
@@ -75,7 +76,7 @@ func (c *Cache[K, V]) seek(key K) (found sought[K, V], err error) {
 // begin opens the load that the latest answer told to make.
 func (s *shard[K, V]) begin(at int32, key K, hash, number uint64, isRefresh bool) *load[K, V] {
 	at = s.table.hold(at, key, hash, number)
-	of := &load[K, V]{shard: s, id: s.lib.number(), number: number, now: s.latest, row: at, err: ErrPanicked}
+	of := &load[K, V]{shard: s, id: s.lib.number(), number: number, now: s.latest.Load(), row: at, err: ErrPanicked}
 	of.goroutine = goroutine.Current()
 	s.table.rows[at].load = of
 	if isRefresh {
@@ -109,7 +110,7 @@ func (c *Cache[K, V]) lead(ctx context.Context, found sought[K, V], fetch func(c
 // land closes a load, and returns what left. Then those who share it have its value.
 func (of *load[K, V]) land(took time.Duration, listens bool) []Left[K, V] {
 	s := of.shard
-	s.mu.Lock()
+	s.take()
 	defer s.mu.Unlock()
 	if at := &s.table.rows[of.row]; at.load == of {
 		at.load = nil
@@ -134,7 +135,7 @@ func (of *load[K, V]) land(took time.Duration, listens bool) []Left[K, V] {
 func (s *shard[K, V]) store(of *load[K, V]) {
 	token := s.table.keep(of.value)
 	if s.lib.land(of.id, of.number, token, of.weight, s.moment(of.now)) == 0 && s.lib.isStored() {
-		s.table.store(token, of.row, s.latest)
+		s.table.store(token, of.row, s.latest.Load())
 		return
 	}
 	s.stats.Loose++

@@ -81,7 +81,7 @@ func (c *Cache[K, V]) makeBatch(
 func (c *Cache[K, V]) begin(b *batch[K, V], keys []K) ([]K, error) {
 	for i, key := range keys {
 		at, err := c.seek(key)
-		if errors.Is(err, TooManyFlights) && len(b.leads) > 0 {
+		if errors.Is(err, ErrTooManyFlights) && len(b.leads) > 0 {
 			return keys[i:], nil
 		} else if err != nil {
 			return nil, err

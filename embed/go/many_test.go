@@ -129,7 +129,7 @@ func TestAFetchOfManyThatFailsOrPanicsLeavesNothingOpen(t *testing.T) {
 	}
 	holds(t, c)
 	c.Close()
-	if found, err = c.GetMany(ctx, []uint64{1}, fail); err != Closed || len(found) != 0 {
+	if found, err = c.GetMany(ctx, []uint64{1}, fail); err != ErrClosed || len(found) != 0 {
 		t.Fatal(found, err)
 	}
 }

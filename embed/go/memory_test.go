@@ -9,14 +9,21 @@ import (
 // Of each call the first, the second or the third allocation is refused, if there are so many. Then the call is refused, or a value
 // that was loaded is returned and not stored, or a hit is no use; and the cache is whole.
 func TestRefusedMemoryKeepsTheCacheWhole(t *testing.T) {
-	c := open(t, Setup{Entries: 200, Flights: 16})
+	keepsWholeWithoutMemory(t, open(t, Setup{Entries: 200, Flights: 16}))
+	keepsWholeWithoutMemory(t, open(t, Setup{Entries: 512, Bound: 200, Flights: 16}))
+}
+
+func keepsWholeWithoutMemory(t *testing.T, c *Cache[uint64, string]) {
 	var refused, loose, puts uint64
 	for i := 0; i < 3000; i++ {
 		key, before := uint64(i*7919)%600, c.Stats()
+		if c.adviser != nil {
+			c.adviser.wanted.Store(1 + uint32(i*271)%512)
+		}
 		was := refusing.After(i%3, func() {
 			switch i % 4 {
 			case 0:
-				if err := c.Put(key, "put", 1); err == OutOfMemory {
+				if err := c.Put(key, "put", 1); err == ErrOutOfMemory {
 					puts++
 				} else if err != nil {
 					t.Fatal(err)
@@ -24,15 +31,15 @@ func TestRefusedMemoryKeepsTheCacheWhole(t *testing.T) {
 			case 1:
 				_, _, _ = c.Look(key)
 			default:
-				if v, err := c.Get(ctx, key, got("loaded")); v == "" && err != OutOfMemory || v != "" && err != nil {
+				if v, err := c.Get(ctx, key, got("loaded")); v == "" && err != ErrOutOfMemory || v != "" && err != nil {
 					t.Fatal(v, err)
 				}
 			}
 		})
 		after := c.Stats()
-		refused += after.Refused[OutOfMemory] - before.Refused[OutOfMemory]
+		refused += after.Refused[ErrOutOfMemory] - before.Refused[ErrOutOfMemory]
 		loose += after.Loose - before.Loose
-		if !was && (after.Loose != before.Loose || after.Refused[OutOfMemory] != before.Refused[OutOfMemory]) {
+		if !was && (after.Loose != before.Loose || after.Refused[ErrOutOfMemory] != before.Refused[ErrOutOfMemory]) {
 			t.Fatal(i, before, after)
 		}
 		holds(t, c)

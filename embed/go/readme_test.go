@@ -21,9 +21,9 @@ func read(t *testing.T, name string) string {
 }
 
 func TestTheCodeOfTheReadmeIsThatOfTheExamples(t *testing.T) {
-	examples := read(t, "example_test.go")
+	examples := read(t, "example_test.go") + read(t, "example_ported_test.go")
 	blocks := regexp.MustCompile("(?ms)^```go\n(.*?)^```$").FindAllStringSubmatch(read(t, "README.md"), -1)
-	if len(blocks) < 5 {
+	if len(blocks) < 10 {
 		t.Fatal(len(blocks))
 	}
 	for _, block := range blocks {
@@ -97,8 +97,8 @@ func TestEachCallHasAnExampleAndEachNameASentence(t *testing.T) {
 	for _, of := range told.Vars {
 		hasSentence(of.Names[0], of.Doc)
 	}
-	// Open, OpenHashed, 15 of a Cache, 2 of Stats, Fault.Error and Cause.String.
-	if calls != 21 {
+	// Open, OpenHashed, OnLeave, Weigh, 19 of a Cache, 2 of Stats, Fault.Error, and String of Cause, Choice and Reads.
+	if calls != 29 {
 		t.Error(calls)
 	}
 }

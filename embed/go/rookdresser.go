@@ -10,41 +10,50 @@ import (
 
 // A Cache holds values of type V by keys of type K, for many goroutines.
 //
-// A call with a key locks the key's shard for one step, expected O(1). The other calls lock all shards, one after another, so with
-// several shards they aren't one step. No code of yours runs while a lock is held. A call that returns a Fault has changed nothing
-// in the shard that refused it.
+// A call with a key locks the key's shard for one step, expected O(1), and up to four slides of its window's border. A hit of a shard
+// that is open takes a lock of its processor instead: see Reads. Each 64 look-ups of which the library of a shard hears are shown to
+// the cache's adviser, under a lock of its own. The other calls lock all shards, one after another, so with several shards they
+// aren't one step. No code of yours runs while a lock is held. A call that returns a Fault has changed nothing in the shard that
+// refused it, but for the slides.
 type Cache[K comparable, V any] struct {
 	shards   []*shard[K, V]
+	adviser  *adviser // nil if the window is fixed
 	hash     hasher[K]
 	clock    clock
 	listener func(Left[K, V])
+	weigh    func(K, V) uint32
 }
 
-// Open returns an empty cache. If a setting is out of its range, the error is BadSetup and gives its name, its value and the range;
-// if an allocation fails, OutOfMemory. The collector can't free the cache, whose memory is C's: call Close.
-func Open[K Key, V any](s Setup) (*Cache[K, V], error) {
-	return opened[K, V](s, hasherOfKind[K](s.Seeded))
+// Open returns an empty cache. If a setting is out of its range, the error is ErrBadSetup and gives its name, its value and the range;
+// if an allocation fails, ErrOutOfMemory. The collector can't free the cache, whose memory is C's: call Close.
+func Open[K Key, V any](s Setup, options ...Option[K, V]) (*Cache[K, V], error) {
+	return opened(s, hasherOfKind[K](s.Seeded), options)
 }
 
 // OpenHashed opens a cache for keys of any comparable type, as Open does, with a hash: maphash.Comparable[K] of Go 1.24, or yours.
 //
 // Equal keys need equal hashes under one seed. Keys of one hash remain different keys, but many of them are slow. The seed is
 // random and the cache's own: if the hash depends on it, an attacker who chooses keys can't aim at the library's tables.
-func OpenHashed[K comparable, V any](s Setup, hash func(maphash.Seed, K) uint64) (*Cache[K, V], error) {
+func OpenHashed[K comparable, V any](s Setup, hash func(maphash.Seed, K) uint64, options ...Option[K, V]) (*Cache[K, V], error) {
 	if hash == nil {
 		return nil, wrong("hash is nil, and has to be a function")
 	}
-	return opened[K, V](s, hasher[K]{own: hash, seed: maphash.MakeSeed()})
+	return opened(s, hasher[K]{own: hash, seed: maphash.MakeSeed()}, options)
 }
 
-func opened[K comparable, V any](s Setup, hash hasher[K]) (*Cache[K, V], error) {
+func opened[K comparable, V any](s Setup, hash hasher[K], options []Option[K, V]) (*Cache[K, V], error) {
 	parts, err := s.parts()
 	if err != nil {
 		return nil, err
 	}
+	// The clock is the caller's, and may panic.
 	c := &Cache[K, V]{hash: hash, clock: clockOf(s)}
-	for _, part := range parts {
-		lib, fault := openLibrary(part)
+	for _, option := range options {
+		option(c)
+	}
+	c.adviser = adviserOf(s)
+	for i, part := range parts {
+		lib, fault := openLibrary(part, c.adviser.follower(i, len(parts)))
 		if fault != 0 {
 			c.Close()
 			return nil, fault
@@ -71,16 +80,19 @@ func (c *Cache[K, V]) Close() {
 	for _, s := range c.shards {
 		left = append(left, s.close(c.listener != nil)...)
 	}
+	if c.adviser != nil {
+		c.adviser.close()
+	}
 	c.tell(left)
 }
 
-// Look returns the value under the key and whether it was there. It never loads. A hit is a use of the entry. The error is Closed
-// or OutOfMemory.
+// Look returns the value under the key and whether it was there. It never loads. A hit is a use of the entry. The error is ErrClosed
+// or ErrOutOfMemory.
 func (c *Cache[K, V]) Look(key K) (v V, found bool, err error) {
-	s, hash, now := c.enter(key)
-	at, number := s.table.find(key, hash)
-	if v, found = s.sureHit(at, number, now); found {
-		s.mu.Unlock()
+	now := c.clock.now()
+	s, hash := c.of(key)
+	v, _, number, now, found := s.hit(key, hash, now)
+	if found {
 		return v, true, nil
 	}
 	if err = s.made(s.lib.look(number, now), now); err == nil {
@@ -108,13 +120,13 @@ func (c *Cache[K, V]) Keys() (keys []K) {
 }
 
 // Put stores the value under the key, in place of one that is there. If the cache is full, the entry that leaves may be the new one
-// itself, if the others are used more. The error is Closed, TooHeavy or OutOfMemory.
+// itself, if the others are used more. The error is ErrClosed, ErrTooHeavy or ErrOutOfMemory.
 func (c *Cache[K, V]) Put(key K, v V, weight uint32) error {
 	s, hash, now := c.enter(key)
 	return c.leave(s, s.put(key, hash, v, weight, now))
 }
 
-// Drop removes the key's entry, and returns whether there was one. An open load of the key will store nothing. The error is Closed.
+// Drop removes the key's entry, and returns whether there was one. An open load of the key will store nothing. The error is ErrClosed.
 func (c *Cache[K, V]) Drop(key K) (bool, error) {
 	s, hash, now := c.enter(key)
 	_, number := s.table.find(key, hash)
@@ -124,7 +136,7 @@ func (c *Cache[K, V]) Drop(key K) (bool, error) {
 }
 
 // Forget lets no further caller join an open load of the key, which will store nothing, and returns whether there was one. The
-// error is Closed.
+// error is ErrClosed.
 func (c *Cache[K, V]) Forget(key K) (bool, error) {
 	s, hash, now := c.enter(key)
 	_, number := s.table.find(key, hash)
@@ -133,17 +145,17 @@ func (c *Cache[K, V]) Forget(key K) (bool, error) {
 	return there, c.leave(s, err)
 }
 
-// Clear removes every entry. The open loads will store nothing. O(entries). The error is Closed.
+// Clear removes every entry. The open loads will store nothing. O(entries). The error is ErrClosed.
 func (c *Cache[K, V]) Clear() error { return c.sweep(library.clear) }
 
-// Clean removes every expired entry. O(entries). The error is Closed.
+// Clean removes every expired entry. O(entries). The error is ErrClosed.
 func (c *Cache[K, V]) Clean() error { return c.sweep(library.clean) }
 
 func (c *Cache[K, V]) sweep(call func(library, uint64) Fault) (err error) {
 	now := c.clock.now()
 	var left []Left[K, V]
 	for _, s := range c.shards {
-		s.mu.Lock()
+		s.take()
 		now := s.moment(now)
 		if fault := s.made(call(s.lib, now), now); fault != nil {
 			err = fault
@@ -155,11 +167,11 @@ func (c *Cache[K, V]) sweep(call func(library, uint64) Fault) (err error) {
 	return err
 }
 
-// enter takes the lock of the key's shard, and returns the key's hash and the moment. What may be the caller's is called before.
+// enter takes the key's shard alone, and returns the key's hash and the moment. What may be the caller's is called before.
 func (c *Cache[K, V]) enter(key K) (s *shard[K, V], hash, now uint64) {
 	now = c.clock.now()
 	s, hash = c.of(key)
-	s.mu.Lock()
+	s.take()
 	return s, hash, s.moment(now)
 }
 

@@ -195,7 +195,7 @@ func TestCausesAndFaultsAreSentences(t *testing.T) {
 	if Expired.String() != "Expired" || Cause(9).String() != "Cause(9)" {
 		t.Fatal(Expired.String(), Cause(9).String())
 	}
-	for _, fault := range []Fault{OutOfMemory, BadSetup, TooHeavy, TooManyFlights, StepsSpent, Closed} {
+	for _, fault := range []Fault{ErrOutOfMemory, ErrBadSetup, ErrTooHeavy, ErrTooManyFlights, ErrStepsSpent, ErrClosed} {
 		if len(fault.Error()) < len("rookdresser: out of memory") || fault.Error()[:13] != "rookdresser: " {
 			t.Fatal(fault.Error())
 		}
@@ -206,6 +206,7 @@ func TestAHitAllocatesNothing(t *testing.T) {
 	hitsAllocateNothing(t, open(t, setup), 7)
 	hitsAllocateNothing(t, open(t, Setup{Entries: 100, Seeded: true}), 7)
 	hitsAllocateNothing(t, openOf[string](t, setup), "a page")
+	hitsAllocateNothing(t, openOf[string](t, Setup{Entries: 1000, Adaptive: On}), "a page")
 }
 
 func hitsAllocateNothing[K Key](t *testing.T, c *Cache[K, string], key K) {
@@ -213,7 +214,11 @@ func hitsAllocateNothing[K Key](t *testing.T, c *Cache[K, string], key K) {
 		t.Fatal(err)
 	}
 	load := got("loaded")
-	gets := testing.AllocsPerRun(1000, func() { _, _ = c.Get(ctx, key, load) })
+	fetch := fetches("loaded", nil)
+	gets := testing.AllocsPerRun(1000, func() {
+		_, _ = c.Get(ctx, key, load)
+		_, _ = c.GetWith(ctx, key, fetch)
+	})
 	looks := testing.AllocsPerRun(1000, func() { _, _, _ = c.Look(key) })
 	if gets != 0 || looks != 0 {
 		t.Fatal(gets, looks)

@@ -10,7 +10,7 @@ import (
 type Setup struct {
 	Entries uint32 // how many the cache may hold: 1 to 65,536 for each shard, and so at most 268,435,456
 	Shards  uint32 // how many parts it has, each with a lock of its own: 1 to 4,096; 0 stands for one for each 65,536 entries
-	Window  uint32 // how many of the entries the windows may hold: 1 to Entries; 0 stands for a hundredth
+	Window  uint32 // how many of the entries the windows may hold, for good: 1 to Entries; 0 leaves it to Adaptive
 	Flights uint32 // how many loads may be open in a shard: 1 to 4,096; 0 stands for 1,024
 	Bound   uint64 // how much the entries may weigh together: 1 to 2^48 for each shard; 0 stands for 2^48 each
 	// How long after its last write, and after its last use, an entry expires.
@@ -23,6 +23,29 @@ type Setup struct {
 	// Seeded says whether keys that are numbers are hashed under a random seed of the cache's own, as strings always are. Then an
 	// attacker who chooses keys can't aim at the library's tables.
 	Seeded bool
+	// Adaptive says whether the windows follow the stream of look-ups: On, which takes 512 to 4,194,304 Entries and no Window; Off, by
+	// which they stay at Window or else at a hundredth of the entries; Default, which is On where that may be.
+	Adaptive Choice
+	// Reads says whether goroutines that hit wait for each other: Shared, the zero value, or Exact.
+	Reads Reads
+}
+
+// A Choice is a setting that is on, off or, as the zero value, left to the package: a bool would have no value for that.
+type Choice uint8
+
+// The choices.
+const (
+	Default Choice = iota
+	On
+	Off
+)
+
+// String returns the choice's name.
+func (c Choice) String() string {
+	if c > Off {
+		return fmt.Sprintf("Choice(%d)", uint8(c))
+	}
+	return [...]string{"Default", "On", "Off"}[c]
 }
 
 const (
@@ -30,9 +53,11 @@ const (
 	mostShards  = 4096
 	mostFlights = 4096    // of a shard
 	mostWeight  = 1 << 48 // of a shard
+	// The entries of a whole cache whose window may follow.
+	leastAdaptive, mostAdaptive = 512, 64 * 65_536
 )
 
-// parts returns the setup of each shard, or an error that is BadSetup and says which setting is out of its range.
+// parts returns the setup of each shard, or an error that is ErrBadSetup and says which setting is out of its range.
 func (s Setup) parts() ([]Setup, error) {
 	if err := s.check(); err != nil {
 		return nil, err
@@ -82,7 +107,33 @@ func (s Setup) check() error {
 			return wrong("%s is %d, and has to be from %d to %d%s", setting.name, setting.value, setting.least, setting.most, setting.because)
 		}
 	}
+	if err := s.checkAdaptive(); err != nil {
+		return err
+	}
+	if s.Reads > Exact {
+		return wrong("Reads is %v, and has to be Shared or Exact", s.Reads)
+	}
 	return s.checkDurations()
+}
+
+// mayAdapt returns whether the cache has as many entries as an adviser takes.
+func (s Setup) mayAdapt() bool { return s.Entries >= leastAdaptive && s.Entries <= mostAdaptive }
+
+// adapts returns whether the windows follow the stream, in a setup that is in its ranges.
+func (s Setup) adapts() bool {
+	return s.Adaptive == On || s.Adaptive == Default && s.Window == 0 && s.mayAdapt()
+}
+
+func (s Setup) checkAdaptive() error {
+	switch {
+	case s.Adaptive > Off:
+		return wrong("Adaptive is %v, and has to be Default, On or Off", s.Adaptive)
+	case s.Adaptive == On && s.Window != 0:
+		return wrong("Adaptive is On, and has to be Default or Off with a Window, which is %d", s.Window)
+	case s.Adaptive == On && !s.mayAdapt():
+		return wrong("Adaptive is On, and has to be Default or Off unless Entries, which is %d, is from %d to %d", s.Entries, leastAdaptive, mostAdaptive)
+	}
+	return nil
 }
 
 // checkDurations compares them in whole milliseconds, as the library gets them. A refresh that isn't below AfterWrite would never
@@ -104,7 +155,7 @@ func (s Setup) checkDurations() error {
 }
 
 func wrong(how string, of ...any) error {
-	return fmt.Errorf("%w: %s", BadSetup, fmt.Sprintf(how, of...))
+	return fmt.Errorf("%w: %s", ErrBadSetup, fmt.Sprintf(how, of...))
 }
 
 // part returns the i-th of n parts.

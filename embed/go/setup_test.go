@@ -76,9 +76,14 @@ func TestEachSettingOutOfItsRangeIsNamedWithItsValueAndItsRange(t *testing.T) {
 		{Setup{Entries: 3, Refresh: time.Millisecond - 1}, "Refresh is 999.999µs, and has to be at least 1ms"},
 		{Setup{Entries: 3, AfterWrite: 5 * time.Second, Refresh: 10 * time.Second}, "Refresh is 10s, and has to be below AfterWrite, 5s"},
 		{Setup{Entries: 3, AfterWrite: 5*time.Second + 2, Refresh: 5*time.Second + 1}, "Refresh is 5s, and has to be below AfterWrite, 5s"},
+		{Setup{Entries: 512, Window: 5, Adaptive: On}, "Adaptive is On, and has to be Default or Off with a Window, which is 5"},
+		{Setup{Entries: 511, Adaptive: On}, "Adaptive is On, and has to be Default or Off unless Entries, which is 511, is from 512 to 4194304"},
+		{Setup{Entries: 4_194_305, Adaptive: On}, "Adaptive is On, and has to be Default or Off unless Entries, which is 4194305, is from 512 to 4194304"},
+		{Setup{Entries: 512, Adaptive: 3}, "Adaptive is Choice(3), and has to be Default, On or Off"},
+		{Setup{Entries: 512, Reads: 2}, "Reads is Reads(2), and has to be Shared or Exact"},
 	} {
 		_, err := Open[uint64, string](row.s)
-		if !errors.Is(err, BadSetup) || err.Error() != "rookdresser: a setting is out of its range: "+row.said {
+		if !errors.Is(err, ErrBadSetup) || err.Error() != "rookdresser: a setting is out of its range: "+row.said {
 			t.Error(row.s, err)
 		}
 	}

@@ -2,25 +2,43 @@ package rookdresser
 
 import (
 	"math"
-	"sync"
 	"time"
 )
 
-// A shard is one cache of the library behind a lock. The lock is held in all its calls but close, keys and what it counts.
+// A shard is one cache of the library, which goroutines take alone, or read side by side while it is open.
+//
+// It is closed at first: one lock guards it. After many hits with no other call it opens: a goroutine that is sure to hit then takes
+// the lock of a stripe alone. Any other call closes all stripes before it reads or changes anything. What a hit changes is in its
+// stripe, or is the latest moment.
 type shard[K comparable, V any] struct {
-	mu    sync.Mutex
-	lib   library
-	table table[K, V]
-	stats Stats
-	// As the library has them: the latest moment, and the durations, never being the greatest.
-	latest, afterWrite, afterAccess, refresh uint64
+	mu     lock
+	lib    library
+	stats  Stats
+	inARow uint64   // hits with no other call since; none while it is open
+	untold uint64   // hits of which the library will never hear
+	_      [64]byte // what a telling writes is apart from what each hit reads
+	table  table[K, V]
+	// As the library has them, never being the greatest: the durations, and how long a value is sure to be found and not due.
+	afterWrite, afterAccess, sureFor uint64
+	// Of each hit as it is made. The library needn't have heard of it.
+	latest  moment
+	isOpen  flag // changed by whoever has the lock
+	stripes []stripe
 }
 
 func shardOf[K comparable, V any](s Setup, lib library) *shard[K, V] {
-	return &shard[K, V]{
-		lib: lib, table: tableOf[K, V](),
-		afterWrite: orNever(s.AfterWrite), afterAccess: orNever(s.AfterAccess), refresh: orNever(s.Refresh),
+	of := &shard[K, V]{
+		lib: lib, table: tableOf[K, V](), stripes: stripesOf(s),
+		afterWrite: orNever(s.AfterWrite), afterAccess: orNever(s.AfterAccess), sureFor: orNever(s.Refresh),
 	}
+	if of.afterWrite < of.sureFor {
+		of.sureFor = of.afterWrite
+	}
+	// If an entry's age counts from its use, no hit is sure: it may be refused memory, and the library would know of no use.
+	if of.afterAccess != never {
+		of.sureFor = 0
+	}
+	return of
 }
 
 const never = math.MaxUint64
@@ -32,10 +50,11 @@ func orNever(d time.Duration) uint64 {
 	return uint64(d.Milliseconds())
 }
 
-// moment returns a moment as the library counts it: one before the latest counts as the latest. Each call below is given such.
+// moment returns a moment as the library counts it: one before the latest counts as the latest. Each call below is given such, by
+// whoever has the shard alone.
 func (s *shard[K, V]) moment(now uint64) uint64 {
-	if now < s.latest {
-		return s.latest
+	if latest := s.latest.Load(); now < latest {
+		return latest
 	}
 	return now
 }
@@ -46,8 +65,15 @@ func (s *shard[K, V]) made(fault Fault, now uint64) error {
 		s.stats.refuse(fault)
 		return fault
 	}
-	s.latest = now
+	s.passTo(now)
 	return nil
+}
+
+// passTo makes a moment the latest. It is written only if it grows, which takes as long as some hits.
+func (s *shard[K, V]) passTo(now uint64) {
+	if now != s.latest.Load() {
+		s.latest.Store(now)
+	}
 }
 
 // isThere tells whether the row has an entry that hasn't expired.
@@ -59,21 +85,30 @@ func (s *shard[K, V]) isThere(at int32, now uint64) bool {
 	return now-of.written < s.afterWrite && now-of.used < s.afterAccess
 }
 
-// sureHit returns the value of the row if a look-up or a seek surely hits, with nothing due and nothing leaving. The library is
-// told before its next call, so that most hits don't cross into C. If an entry's age counts from its use, that isn't done: a hit
-// may be refused memory, and the library would know of no use.
+// sureUntil returns the moment before which a look-up or a seek of the row surely hits; 0 if there is none.
+func (s *shard[K, V]) sureUntil(at int32) uint64 {
+	if at == none || s.table.rows[at].slot == none {
+		return 0
+	}
+	written := s.table.slots[s.table.rows[at].slot].written
+	if until := written + s.sureFor; until >= written {
+		return until
+	}
+	return never
+}
+
+// sureHit returns the value of the row if a look-up or a seek surely hits, with nothing due and nothing leaving. The library is told
+// before its next call, so that most hits don't cross into C.
 func (s *shard[K, V]) sureHit(at int32, number, now uint64) (v V, sure bool) {
-	if s.afterAccess != never || !s.isThere(at, now) {
+	if now >= s.sureUntil(at) {
+		s.inARow = 0
 		return v, false
 	}
-	of := &s.table.slots[s.table.rows[at].slot]
-	if now-of.written >= s.refresh {
-		return v, false
-	}
-	s.latest = now
+	s.passTo(now)
 	s.stats.Hits++
+	s.inARow++
 	s.lib.hit(number, now)
-	return of.value, true
+	return s.table.slots[s.table.rows[at].slot].value, true
 }
 
 // looked counts what the latest look-up or seek found, and returns it.
@@ -84,7 +119,7 @@ func (s *shard[K, V]) looked() (v V, found bool) {
 	}
 	s.stats.Hits++
 	of := &s.table.slots[s.lib.token()]
-	of.used = s.latest
+	of.used = s.latest.Load()
 	return of.value, true
 }
 
@@ -95,7 +130,7 @@ func (s *shard[K, V]) put(key K, hash uint64, v V, weight uint32, now uint64) er
 		s.table.drop(token)
 		return err
 	}
-	s.table.store(token, s.table.hold(at, key, hash, number), s.latest)
+	s.table.store(token, s.table.hold(at, key, hash, number), s.latest.Load())
 	return nil
 }
 
@@ -114,16 +149,17 @@ func (s *shard[K, V]) left(listens bool) (left []Left[K, V]) {
 }
 
 func (s *shard[K, V]) close(listens bool) []Left[K, V] {
-	s.mu.Lock()
+	s.take()
 	defer s.mu.Unlock()
 	_ = s.lib.clear(0)
 	left := s.left(listens)
 	_ = s.lib.close()
+	s.lib.by = nil
 	return left
 }
 
 func (s *shard[K, V]) keys(keys []K, now uint64) []K {
-	s.mu.Lock()
+	s.take()
 	defer s.mu.Unlock()
 	now = s.moment(now)
 	for at := range s.table.rows {
@@ -133,4 +169,19 @@ func (s *shard[K, V]) keys(keys []K, now uint64) []K {
 		}
 	}
 	return keys
+}
+
+// numbers returns the library's numbers, as if it had heard of each hit.
+func (s *shard[K, V]) numbers() (Numbers, Fault) {
+	n, fault := s.lib.numbers()
+	if fault != 0 {
+		return n, fault
+	}
+	n.Lookups += s.untold
+	n.Hits += s.untold
+	n.Step += s.untold
+	if latest := s.latest.Load(); latest > n.Latest {
+		n.Latest = latest
+	}
+	return n, 0
 }

@@ -5,7 +5,8 @@ import (
 	"time"
 )
 
-// Numbers are the library's counts; the Guide says what each means. Latest is in milliseconds since the cache was opened.
+// Numbers are the library's counts, as if it had heard of each hit; the Guide says what each means. Latest is in milliseconds since
+// the cache was opened. Step counts the slides of the windows too.
 type Numbers struct {
 	Lookups, Hits, Misses, Loads, Failed, Evicted, Entries, Weight, Step, Latest, Flights uint64
 }
@@ -65,7 +66,7 @@ func (s *Stats) leave(cause Cause) {
 func (c *Cache[K, V]) Stats() Stats {
 	sum := Stats{Refused: map[Fault]uint64{}}
 	for _, s := range c.shards {
-		s.mu.Lock()
+		s.take()
 		sum.add(&s.stats)
 		s.mu.Unlock()
 	}
@@ -90,11 +91,11 @@ func (s *Stats) add(other *Stats) {
 	}
 }
 
-// Numbers returns the library's counts, summed over the shards, or the error Closed.
+// Numbers returns the library's counts, summed over the shards, or the error ErrClosed.
 func (c *Cache[K, V]) Numbers() (sum Numbers, err error) {
 	for _, s := range c.shards {
-		s.mu.Lock()
-		n, fault := s.lib.numbers()
+		s.take()
+		n, fault := s.numbers()
 		s.mu.Unlock()
 		if fault != 0 {
 			return Numbers{}, fault
@@ -120,10 +121,21 @@ func (n *Numbers) add(other Numbers) {
 	}
 }
 
+// Window returns how many entries the windows may hold now, of all shards together; 0 if the cache is closed. It follows the stream of
+// look-ups if the Setup's Adaptive is on.
+func (c *Cache[K, V]) Window() (entries uint32) {
+	for _, s := range c.shards {
+		s.take()
+		entries += s.lib.window()
+		s.mu.Unlock()
+	}
+	return entries
+}
+
 // Kept returns how many values and keys this package keeps. While no load is open, both equal Numbers().Entries.
 func (c *Cache[K, V]) Kept() (values, keys int) {
 	for _, s := range c.shards {
-		s.mu.Lock()
+		s.take()
 		v, k := s.table.kept()
 		s.mu.Unlock()
 		values, keys = values+v, keys+k

@@ -45,7 +45,7 @@ func (s *source) write(c *Cache[int, uint64], key int, puts bool) (err error) {
 
 func TestNoGetAndNoLookReturnsAVersionThatWasReplacedBeforeIt(t *testing.T) {
 	for _, s := range []Setup{
-		{Entries: 4}, {Entries: 64, Seeded: true}, {Entries: 8, Shards: 4}, {Entries: 64, Refresh: time.Millisecond, AfterWrite: 3 * time.Millisecond},
+		{Entries: 4}, {Entries: 64, Seeded: true}, {Entries: 8, Shards: 4}, {Entries: 64, Refresh: time.Millisecond, AfterWrite: 3 * time.Millisecond}, {Entries: 512, Shards: 2},
 	} {
 		s, clock := timed(s)
 		c, err := Open[int, uint64](s)
@@ -202,7 +202,7 @@ func TestAStormOfGetsThatGiveUpLeavesNothing(t *testing.T) {
 
 func TestAStormOfClosingLetsGoOfEverything(t *testing.T) {
 	for turn := 0; turn < 50; turn++ {
-		c, err := Open[uint64, string](Setup{Entries: 40, Shards: 1 + uint32(turn%3)})
+		c, err := Open[uint64, string](Setup{Entries: 40 + 560*uint32(turn%2), Shards: 1 + uint32(turn%3)})
 		if err != nil {
 			t.Fatal(err)
 		}
@@ -222,7 +222,7 @@ func TestAStormOfClosingLetsGoOfEverything(t *testing.T) {
 					}
 					return "loaded", 1, nil
 				})
-				if err != nil && !errors.Is(err, Closed) {
+				if err != nil && !errors.Is(err, ErrClosed) {
 					t.Error(err)
 				}
 			}
@@ -232,6 +232,9 @@ func TestAStormOfClosingLetsGoOfEverything(t *testing.T) {
 		values, keys := c.Kept()
 		if left := s.Explicit + s.Replaced + s.Expired + s.Size; values != 0 || keys != 0 || left != uint64(told.Load()) || s.Loads-s.Loose != left {
 			t.Fatal(values, keys, s, told.Load())
+		}
+		if c.adviser != nil {
+			isClosed(t, c)
 		}
 	}
 }

@@ -41,7 +41,7 @@ func requests(t *testing.T, c *Cache[string, string], clock *hand, seed int64, e
 			if err == nil && v != key {
 				t.Error(v, key)
 			}
-			if err == errDown || errors.Is(err, TooManyFlights) {
+			if err == errDown || errors.Is(err, ErrTooManyFlights) {
 				err = nil
 			}
 		case what < 830:
@@ -75,6 +75,10 @@ func TestAfterAHundredThousandRequestsExactlyWhatIsHeldIsKept(t *testing.T) {
 	keepsWhatIsHeld(t, s)
 	s.AfterWrite, s.AfterAccess, s.Refresh = 0, 100*time.Millisecond, 60*time.Millisecond
 	keepsWhatIsHeld(t, s)
+	s.Entries = 600
+	keepsWhatIsHeld(t, s)
+	s.AfterWrite, s.AfterAccess, s.Refresh, s.Shards = 1500*time.Millisecond, 0, 600*time.Millisecond, 1
+	keepsWhatIsHeld(t, s)
 }
 
 func keepsWhatIsHeld(t *testing.T, s Setup) {
@@ -82,6 +86,9 @@ func keepsWhatIsHeld(t *testing.T, s Setup) {
 	c := openOf[string](t, s)
 	var told uint64
 	c.Listen(func(Left[string, string]) { atomic.AddUint64(&told, 1) })
+	if c.adviser != nil {
+		defer restless(c)()
+	}
 	together(8, func(i int) {
 		if err := requests(t, c, clock, int64(i), 12500); err != nil {
 			t.Error(err)
@@ -110,7 +117,7 @@ func TestACacheThatIsClosedWhileInUseLetsGoOfEverything(t *testing.T) {
 				runtime.Gosched()
 			}
 			c.Close()
-		} else if err := requests(t, c, clock, int64(i), 20000); !errors.Is(err, Closed) {
+		} else if err := requests(t, c, clock, int64(i), 20000); !errors.Is(err, ErrClosed) {
 			t.Error(err)
 		}
 	})

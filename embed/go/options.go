@@ -1,0 +1,55 @@
+package rookdresser
+
+import "context"
+
+// An Option is a function of the caller's that a cache calls, for Open and OpenHashed.
+type Option[K comparable, V any] func(*Cache[K, V])
+
+// OnLeave has the cache call a listener for each entry that leaves, with its key, its value and the cause.
+//
+// The listener runs in the goroutine whose call made the entry leave, with no lock held, after the load of that call has landed. It
+// may use the cache. If it panics, it is still called for the other entries, and then the call panics with the first panic's value.
+// If it ends its goroutine, another goroutine calls it for the others.
+func OnLeave[K comparable, V any](listener func(Left[K, V])) Option[K, V] {
+	return func(c *Cache[K, V]) { c.listener = listener }
+}
+
+// Weigh has the cache weigh the values of Store, GetWith and GetManyWith. Without it each weighs 1.
+//
+// It runs in the goroutine that stores or loads the value, with no lock held, and may use the cache. If it panics or ends its
+// goroutine, nothing is stored: in a load, that is as if fetch had.
+func Weigh[K comparable, V any](weigh func(K, V) uint32) Option[K, V] {
+	return func(c *Cache[K, V]) { c.weigh = weigh }
+}
+
+func (c *Cache[K, V]) weightOf(key K, v V) uint32 {
+	if c.weigh == nil {
+		return 1
+	}
+	return c.weigh(key, v)
+}
+
+// Store is Put with the weight that Weigh returns.
+func (c *Cache[K, V]) Store(key K, v V) error { return c.Put(key, v, c.weightOf(key, v)) }
+
+// GetWith is Get with the weight that Weigh returns.
+func (c *Cache[K, V]) GetWith(ctx context.Context, key K, fetch func(context.Context) (V, error)) (V, error) {
+	return c.Get(ctx, key, func(ctx context.Context) (v V, weight uint32, err error) {
+		if v, err = fetch(ctx); err == nil {
+			weight = c.weightOf(key, v)
+		}
+		return v, weight, err
+	})
+}
+
+// GetManyWith is GetMany with the weights that Weigh returns.
+func (c *Cache[K, V]) GetManyWith(ctx context.Context, keys []K, fetch func(context.Context, []K) (map[K]V, error)) (map[K]V, error) {
+	return c.GetMany(ctx, keys, func(ctx context.Context, absent []K) (map[K]Weighed[V], error) {
+		values, err := fetch(ctx, absent)
+		weighed := make(map[K]Weighed[V], len(values))
+		for key, v := range values {
+			weighed[key] = Weighed[V]{v, c.weightOf(key, v)}
+		}
+		return weighed, err
+	})
+}

@@ -1,0 +1,146 @@
+//go:build turns
+
+package rookdresser
+
+// Two goroutines make calls in every order.
+
+import (
+	"fmt"
+	"testing"
+
+	"rookdresser/internal/goroutine"
+)
+
+// merges returns the orders of the calls of two goroutines, as the goroutine of each.
+func merges(a, b int) (all [][]int) {
+	if a+b == 0 {
+		return [][]int{nil}
+	}
+	if a > 0 {
+		for _, rest := range merges(a-1, b) {
+			all = append(all, append([]int{0}, rest...))
+		}
+	}
+	if b > 0 {
+		for _, rest := range merges(a, b-1) {
+			all = append(all, append([]int{1}, rest...))
+		}
+	}
+	return all
+}
+
+// A made call is one with its answer, and when it began and ended.
+type made struct {
+	began, ended int
+	said         string
+}
+
+// An outcome is what the calls of an order, one after another, return, and what is seen at the end.
+type outcome struct {
+	order []int // the goroutine of each call
+	said  []string
+	seen  string
+}
+
+func valueOf(own, at int) string { return fmt.Sprint(100*(own+1) + at) }
+
+func outcomesOf(s Setup, looks int, calls [2][]call) (all []outcome) {
+	for _, order := range merges(len(calls[0]), len(calls[1])) {
+		c, next, of := lookedAt(exactly(s), looks), [2]int{}, outcome{order: order}
+		for _, own := range order {
+			of.said = append(of.said, c.answer(calls[own][next[own]], valueOf(own, next[own])))
+			next[own]++
+		}
+		of.seen = c.seen()
+		c.Close()
+		all = append(all, of)
+	}
+	return all
+}
+
+// fits tells whether the calls returned this, in an order in which none comes before one that had ended when it began.
+func (of outcome) fits(calls [2][]made, seen string) bool {
+	latest, next := 0, [2]int{}
+	for i, own := range of.order {
+		call := calls[own][next[own]]
+		if next[own]++; call.began > latest {
+			latest = call.began
+		}
+		if call.said != of.said[i] || call.ended <= latest {
+			return false
+		}
+	}
+	return of.seen == seen
+}
+
+// haveAnOrder has two goroutines make their calls in every order. Each time their answers, and what is seen at the end, are those of a
+// cache that tells each hit at once, to which the calls are made one after another.
+func haveAnOrder(t *testing.T, s Setup, looks int, calls [2][]call, most int) int {
+	t.Helper()
+	outcomes := outcomesOf(s, looks, calls)
+	return everyOrder(most, func() ([2]func(), func()) {
+		c, time := lookedAt(s, looks), 0
+		var mades [2][]made
+		of := func(own int) func() {
+			return func() {
+				c.moments.Store(goroutine.Current(), int64(0))
+				for at, call := range calls[own] {
+					loseTurn(step{})
+					time++
+					made := made{began: time}
+					made.said = c.answer(call, valueOf(own, at))
+					time++
+					made.ended = time
+					mades[own] = append(mades[own], made)
+				}
+			}
+		}
+		return [2]func(){of(0), of(1)}, func() {
+			seen := c.seen()
+			c.Close()
+			for _, of := range outcomes {
+				if of.fits(mades, seen) {
+					return
+				}
+			}
+			t.Fatal(looks, calls, mades, seen, outcomes)
+		}
+	})
+}
+
+// The looks that leave a shard about to open, and open.
+var aboutToOpen, isOpen = 8, 13
+
+func TestThreeCallsOfTwoGoroutinesHaveAnOrderIfFourTurnsAreLost(t *testing.T) {
+	defer openSoon()()
+	firsts, orders := []call{{"look", 1, 9}, {"look", 2, 17}, {"put", 1, 5}}, 0
+	for _, looks := range []int{aboutToOpen, isOpen} {
+		for _, first := range firsts {
+			for _, second := range firsts {
+				for _, other := range []call{{"look", 2, 17}, {"drop", 2, 9}, {what: "count"}} {
+					orders += haveAnOrder(t, aged, looks, [2][]call{{first, second}, {other}}, 4)
+				}
+			}
+		}
+	}
+	if t.Log(orders, "orders"); orders < 1000 {
+		t.Fatal(orders)
+	}
+}
+
+func TestSixCallsOfTwoGoroutinesHaveAnOrderIfTwoTurnsAreLost(t *testing.T) {
+	defer openSoon()()
+	orders := 0
+	for _, calls := range [][2][]call{
+		{{{"look", 2, 9}, {"put", 1, 5}, {"look", 1, 9}}, {{"look", 1, 9}, {"look", 2, 9}, {"drop", 1, 9}}},
+		{{{"look", 2, 9}, {"look", 1, 9}, {"look", 2, 17}}, {{"look", 1, 16}, {"put", 2, 9}, {"look", 2, 9}}},
+		{{{"look", 2, 9}, {"look", 2, 9}, {"look", 1, 9}}, {{"look", 2, 9}, {what: "count"}, {"look", 2, 9}}},
+	} {
+		for _, looks := range []int{aboutToOpen, isOpen} {
+			orders += haveAnOrder(t, aged, looks, calls, 2)
+		}
+	}
+	if t.Log(orders, "orders"); orders < 500 {
+		t.Fatal(orders)
+	}
+}
