@@ -2,7 +2,7 @@
 """Builds the native module by a C compiler, and the wheel around it: what pip calls to build the package. It needs nothing else.
 
     python3 backend.py              builds the module into rookdresser/, so that the package can be imported from this folder
-    python3 backend.py --refuses    the same with refusal.c, for test_memory.py
+    python3 backend.py --refuses    the same with refusal.c, for test_memory.py and test_window.py
 
 librookdresser.a comes from the folder that ROOKDRESSER_LIB names, or else from the checkout's out/embed or out/embed-unproved.
 One module serves every CPython from 3.10 on. CC and CFLAGS are followed.
@@ -29,7 +29,7 @@ SUFFIX = ".abi3.so" if IS_LIMITED else sysconfig.get_config_var("EXT_SUFFIX")
 # PyWeakref_GetObject is deprecated from 3.13 on, but what stands in its place isn't in the limited API of 3.10.
 FLAGS = ["-std=gnu11", "-O2", "-fPIC", "-shared", "-fvisibility=hidden", "-Wall", "-Wextra", "-Werror", "-Wno-deprecated-declarations"]
 LINKED = ["-Wl,--exclude-libs,ALL"]
-REFUSES = ["-Wl,--wrap=malloc,--wrap=realloc"]
+REFUSES = ["-Wl,--wrap=malloc,--wrap=realloc,--wrap=free"]
 
 
 def library():

@@ -35,7 +35,9 @@ class Cache(Table[K, V]):
     `entries`       how many it may hold; at most 65,536 for each shard
     `shards`        of how many caches of the library it is made, at most 4,096; by default one for each 65,536 entries. Entries, window
                     and bound are shared out among them evenly
-    `window`        how many of the entries the window may hold; by default a hundredth
+    `window`        how many of the entries the window may hold, a fixed number
+    `adaptive`      True: the window follows the look-ups, which takes 512 to 4,194,304 entries and no `window`. False: if no `window` is
+                    given, it holds a hundredth of the entries. By default it follows them if it can
     `flights`       how many loads each shard may have open at a time; at most 4,096
     `bound`         how much the entries may weigh together
     `weigh`         weigh(key, value) returns a value's weight, a whole number; by default each weighs 1
@@ -52,12 +54,13 @@ class Cache(Table[K, V]):
     def __init__(self, entries: int, window: Optional[int] = None, flights: int = 1024, bound: int = 1 << 48,
                  after_write: int = 0, after_access: int = 0, refresh: int = 0,
                  weigh: Optional[Callable[[K, V], int]] = None, on_leave: Optional[Callable[[K, V, str], object]] = None,
-                 clock: Optional[Callable[[], int]] = None, seeded: bool = True, shards: Optional[int] = None) -> None:
-        setup, parts, self._entries = setup_of({
+                 clock: Optional[Callable[[], int]] = None, seeded: bool = True, shards: Optional[int] = None,
+                 adaptive: Optional[bool] = None) -> None:
+        setup, parts, self._entries, follows = setup_of({
             "entries": entries, "shards": shards, "window": window, "flights": flights, "bound": bound, "after_write": after_write,
-            "after_access": after_access, "refresh": refresh})
-        self._open(setup, parts, os.urandom(24) if seeded else None, _keys.SECRET, weigh, clock, on_leave, _log, _keys.plain,
-                   _keys.secret_prime(), Load, Refused, waits)
+            "after_access": after_access, "refresh": refresh}, adaptive)
+        self._open(setup, parts, self._entries if follows else 0, os.urandom(24) if seeded else None, _keys.SECRET, weigh, clock, on_leave,
+                   _log, _keys.plain, _keys.secret_prime(), Load, Refused, waits)
         _fork.watch(self)
 
     def __enter__(self) -> Cache[K, V]:
@@ -215,6 +218,8 @@ class Cache(Table[K, V]):
 
     def numbers(self) -> Dict[str, int]:
         """Returns the numbers of the library, by name, of all shards together.
+
+        `step` counts the library's own calls: a `get` that loads is two, and each move of a window by one entry is one more.
 
         >>> cache.put("a", 1)
         >>> cache.numbers()["entries"]

@@ -18,11 +18,13 @@ static int look(Table *self, PyObject *key, int takes, PyObject **value) {
     STEP
     int is_found = find(self, key, hash, &number);
     rd_cache *cache = shard_of(self, number);
+    if (is_found == 0 && self->advice) follow(self, cache, now);
     if (is_found == 0 && !(fault = rd_look(cache, number, now, &answer))) {
         is_there = answer.kind == RD_HIT;
         *(is_there ? &self->counts.hits : &self->counts.misses) += 1;
         *value = is_there ? ((Use *)(uintptr_t)answer.token)->value : NULL;
         Py_XINCREF(*value);
+        if (self->advice) note(self, number);
         take_left(self, cache, &answer, &left);
         if (takes && !rd_drop_key(cache, number, now, &answer)) take_left(self, cache, &answer, &left);
     }
@@ -91,6 +93,7 @@ static int put(Table *self, PyObject *key, PyObject *value) {
     is_found = find(self, key, hash, &number);
     rd_cache *cache = shard_of(self, number);
     rd_token token = {(uintptr_t)use, (uint32_t)weight};
+    if (is_found == 0 && self->advice) follow(self, cache, now);
     if (is_found == 0 && !(fault = rd_put(cache, number, token, now, &answer))) {
         link_use(self, use, hash, number);
         use = NULL;

@@ -41,6 +41,17 @@ static PyObject *table_numbers(Table *self, PyObject *none) {
     return tuple_of(&sum.lookups, NUMBERS);
 }
 
+static PyObject *table_window(Table *self, PyObject *none) {
+    (void)none;
+    uint64_t window;
+    int is_open;
+    STEP
+    window = windows_of(self), is_open = self->caches->is_open;
+    END_STEP
+    if (!is_open) return refuse(self, RD_CLOSED), NULL;
+    return PyLong_FromUnsignedLongLong(window);
+}
+
 static PyObject *table_counts(Table *self, PyObject *none) {
     (void)none;
     Counts counts;
@@ -141,6 +152,13 @@ PyMethodDef held_methods[] = {
      "... except Refused as refused:\n"
      "...     print(refused, refused.fault, cache.refused())\n"
      "the value is heavier than bound 3 {3: 1}"},
+    {"window", METHOD(table_window), METH_NOARGS,
+     "window($self)\n--\n\n"
+     "Returns how many entries the windows may hold now, of all shards together.\n\n"
+     "If the window follows the look-ups (`adaptive`), the number changes by up to four at each look, get or put; it begins at 40\n"
+     "hundredths of the entries. Else it is what each shard was opened with. Raises Refused of a closed cache.\n\n"
+     ">>> Cache(entries=1000).window(), Cache(entries=1000, adaptive=False).window()\n"
+     "(400, 10)"},
     {"_numbers", METHOD(table_numbers), METH_NOARGS, "The numbers of the library, of all shards together."},
     {"_counts", METHOD(table_counts), METH_NOARGS, "What this side counted, in the order of Stats."},
     {"_uses", METHOD(table_uses), METH_NOARGS, "(hash, number, load or None) of each key of an entry or an open load."},

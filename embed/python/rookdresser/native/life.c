@@ -39,20 +39,35 @@ static int take_seed(Table *self, PyObject *seed) {
     return 0;
 }
 
-/* The memory of the buckets and of the caches. */
-static int take_memory(Table *self, const rd_setup *setup, uint64_t shards) {
+/* The memory of the buckets and of the caches, and of the advice if there is to be one. */
+static int take_memory(Table *self, const rd_setup *setup, uint64_t shards, int is_advised) {
     uint64_t buckets = 8;
     while (buckets < ((uint64_t)setup->entries + setup->flights) * shards && buckets < UINT64_C(1) << 40) buckets *= 2;
     Use **all = zeroed(buckets * sizeof *all);
     rd_cache *caches = shards > 1 ? zeroed(shards * sizeof *caches) : &self->one_cache;
-    if (!all || !caches) {
+    Advice *advice = is_advised ? zeroed(sizeof *advice + shards * sizeof *advice->windows) : NULL;
+    if (!all || !caches || (is_advised && !advice)) {
+        PyMem_Free(advice);
         PyMem_Free(all);
         if (shards > 1) PyMem_Free(caches);
         PyErr_NoMemory();
         return -1;
     }
-    self->buckets = all, self->mask = buckets - 1, self->caches = caches, self->shards = shards;
+    self->buckets = all, self->mask = buckets - 1, self->caches = caches, self->shards = shards, self->advice = advice;
     return 0;
+}
+
+/* Opens the adviser for so many entries, unless there are none, and the shards. Returns a fault, and then nothing is open; or 0. */
+static uint64_t open_all(Table *self, rd_setup *setup, uint32_t advised) {
+    uint64_t fault = advised ? open_adviser(self, advised) : 0;
+    if (!fault && advised) setup->window = self->advice->share;
+    self->window = setup->window;
+    for (uint64_t i = 0; i < self->shards && !fault; i++) {
+        fault = rd_open(setup, &self->caches[i]);
+        if (advised) self->advice->windows[i] = setup->window;
+    }
+    if (fault) close_all(self);
+    return fault;
 }
 
 static PyObject *given_or_null(PyObject *given) {
@@ -66,10 +81,11 @@ static PyObject *opened_once(void) { return PyErr_Format(PyExc_ValueError, "a ca
 static PyObject *table_open(Table *self, PyObject *args) {
     PyObject *given, *of_shards, *seed, *weigh, *clock, *on_leave, *log, *plain, *prime, *load_type, *refusal, *waits;
     int hash_is_secret;
-    uint64_t shards;
+    unsigned int advised;
+    uint64_t shards, fault;
     rd_setup setup;
-    if (!PyArg_ParseTuple(args, "O!OOpOOOOOO!O!OO", &PyTuple_Type, &given, &of_shards, &seed, &hash_is_secret, &weigh, &clock, &on_leave,
-                          &log, &plain, &PyLong_Type, &prime, &PyType_Type, &load_type, &refusal, &waits))
+    if (!PyArg_ParseTuple(args, "O!OIOpOOOOOO!O!OO", &PyTuple_Type, &given, &of_shards, &advised, &seed, &hash_is_secret, &weigh, &clock,
+                          &on_leave, &log, &plain, &PyLong_Type, &prime, &PyType_Type, &load_type, &refusal, &waits))
         return NULL;
     if (PyTuple_Size(given) != 7 || PyType_GetSlot((PyTypeObject *)load_type, Py_tp_new) != (void *)load_new
         || !is_of(waits, Py_tp_methods, waits_methods))
@@ -81,17 +97,12 @@ static PyObject *table_open(Table *self, PyObject *args) {
     /* Only now, as a setting's __index__ may have opened the cache. */
     if (self->load_type) return opened_once();
     if (take_seed(self, seed) < 0) return NULL;
-    if (take_memory(self, &setup, shards) < 0) return NULL;
+    if (take_memory(self, &setup, shards, advised != 0) < 0) return NULL;
     self->hash_is_secret = (char)hash_is_secret;
     self->load_type = given_or_null(load_type), self->refusal = given_or_null(refusal), self->waits = (Waits *)given_or_null(waits);
     self->log = given_or_null(log), self->plain = given_or_null(plain), self->prime = given_or_null(prime);
     self->weigh = given_or_null(weigh), self->clock = given_or_null(clock), self->on_leave = given_or_null(on_leave);
-    for (uint64_t i = 0; i < shards; i++) {
-        uint64_t fault = rd_open(&setup, &self->caches[i]);
-        if (!fault) continue;
-        while (i) rd_close(&self->caches[--i]);
-        return refuse(self, fault), NULL;
-    }
+    if ((fault = open_all(self, &setup, advised))) return refuse(self, fault), NULL;
     Py_RETURN_NONE;
 }
 
@@ -141,6 +152,7 @@ static void table_dealloc(Table *self) {
     Py_XDECREF((PyObject *)self->waits);
     if (self->buckets != &self->one_bucket) PyMem_Free(self->buckets);
     if (self->caches != &self->one_cache) PyMem_Free(self->caches);
+    PyMem_Free(self->advice);
     ((freefunc)PyType_GetSlot(type, Py_tp_free))(self);
     Py_DECREF(type);
 }

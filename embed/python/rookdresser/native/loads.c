@@ -35,8 +35,10 @@ int seek(Table *self, PyObject *key, Load *mine, PyObject **found) {
     STEP
     int is_found = find(self, key, hash, &number);
     rd_cache *cache = shard_of(self, number);
+    if (is_found == 0 && self->advice) follow(self, cache, now);
     if (is_found == 0 && !(fault = rd_seek(cache, number, now, &answer))) {
         kind = (int)answer.kind;
+        if (self->advice) note(self, number);
         Use *entry = kind == RD_HIT || kind == RD_HIT_LEAD ? (Use *)(uintptr_t)answer.token : NULL;
         *(entry ? &self->counts.hits : &self->counts.misses) += 1;
         if (kind == RD_HIT)
@@ -128,6 +130,7 @@ int land(Table *self, Load *load, PyObject *value) {
         uint64_t hash = load->use->hash, number = load->use->number;
         rd_cache *cache = shard_of(self, number);
         rd_token token = {(uintptr_t)load->use, (uint32_t)weight};
+        if (self->advice) follow(self, cache, load->now);
         uint64_t fault = rd_land_keep(cache, load->id, number, token, load->now, &answer);
         use = ended(self, load);
         left = load->left, load->left = NULL;

@@ -10,7 +10,7 @@
  *     keys.c    the number that is made of a key          waits.c     who waits for which load
  *     ask.c     what runs code of the caller's            calls.c     the calls
  *     held.c    what a table holds                        life.c      how a table is opened, and its end
- *     function.c   a cached function */
+ *     advice.c  how the windows follow the look-ups       function.c  a cached function */
 #include "native.h"
 
 void join_methods(void);

@@ -17,6 +17,11 @@
 #endif
 
 enum { FAULTS = 16, NUMBERS = sizeof(rd_numbers) / sizeof(uint64_t) };
+/* The adviser sees so many look-ups at a time, and a window moves by so many entries at most ahead of a call. */
+enum { BATCH = 64, SLIDES = 4 };
+
+/* Of a function that is seldom called: it stays out of its caller, which needs fewer instructions then. */
+#define SELDOM __attribute__((noinline))
 
 typedef struct Load Load;
 typedef struct Wait Wait;
@@ -77,10 +82,21 @@ typedef struct {
     uint64_t hits, misses, joins, loads, failed, refreshes, load_ns, loose, left[4];
 } Counts;
 
+/* What lets the windows follow the look-ups. */
+typedef struct {
+    rd_adviser adviser; /* one for all shards */
+    uint32_t share;     /* how many entries it wants the window of each shard to hold */
+    uint32_t noted;     /* how many look-ups it hasn't seen yet */
+    uint64_t keys[BATCH];
+    uint32_t windows[]; /* how many entries the window of each shard may hold now */
+} Advice;
+
 typedef struct {
     PyObject_HEAD
     rd_cache *caches, one_cache; /* one for each shard */
     uint64_t shards;
+    Advice *advice;            /* null if the windows stay as they were opened */
+    uint32_t window;           /* how many entries the window of each shard could hold as it was opened */
     Use **buckets, *one_bucket;
     uint64_t mask;             /* how many buckets there are, less one */
     uint64_t displaced, reach; /* how many uses have another number than their hash, and how far that is at most */
@@ -110,7 +126,14 @@ void free_uses(Use *use);
 int find(Table *self, PyObject *key, uint64_t hash, uint64_t *number);
 Load *load_of(Table *self, uint64_t number, uint64_t id);
 void take_left(Table *self, rd_cache *cache, const rd_answer *answer, Use **left);
+void close_all(Table *self);
 Use *take_all(Table *self, int with_loads);
+
+/* advice.c: how the windows follow the look-ups. All but windows_of need self->advice. */
+uint64_t open_adviser(Table *self, uint32_t entries);
+void note(Table *self, uint64_t number);
+void follow(Table *self, rd_cache *cache, uint64_t now);
+uint64_t windows_of(Table *self);
 
 /* ask.c: what runs code of the caller's. */
 void *zeroed(size_t size);

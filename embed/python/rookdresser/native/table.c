@@ -113,6 +113,12 @@ void take_left(Table *self, rd_cache *cache, const rd_answer *answer, Use **left
     }
 }
 
+/* Closes the library's side. */
+void close_all(Table *self) {
+    for (uint64_t i = 0; i < self->shards; i++) rd_close(&self->caches[i]);
+    if (self->advice) rd_close_adviser(&self->advice->adviser);
+}
+
 /* Closes the library's side. All entries have left, and the loads too if they are to. */
 Use *take_all(Table *self, int with_loads) {
     Use *left = NULL, *use, *next;
@@ -125,6 +131,6 @@ Use *take_all(Table *self, int with_loads) {
             else self->counts.left[RD_EXPLICIT - 1]++;
             use->cause = RD_EXPLICIT, use->next = left, left = use;
         }
-    for (uint64_t i = 0; i < self->shards; i++) rd_close(&self->caches[i]);
+    close_all(self);
     return left;
 }
