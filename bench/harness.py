@@ -9,8 +9,9 @@ import sys
 ROOT = pathlib.Path(__file__).resolve().parent.parent
 sys.path.insert(0, str(ROOT / "tools" / "lib"))
 
-import unproved_program  # noqa: E402
+import trees  # noqa: E402
 import words  # noqa: E402
+from kit import unproved as without_proof  # noqa: E402
 
 # The peers are packages of Debian.
 JARS = ["/usr/share/java/caffeine.jar", "/usr/share/java/guava.jar"]
@@ -61,20 +62,6 @@ def unpack(source, target):
         shutil.copy(file, place)
 
 
-def crates_below(names):
-    """The repository's crates among the names and below them, with the lines of crates.txt on them."""
-    lines = {}
-    for line in (ROOT / "crates.txt").read_text().splitlines():
-        if not line.startswith("#") and ":" in line:
-            lines[line.split(":")[0].split()[0]] = line
-    found, left = {}, [name for name in names if name in lines]
-    while left:
-        name = left.pop()
-        found[name] = lines[name]
-        left += [dep for dep in lines[name].split(":")[1].split() if dep in lines and dep not in found]
-    return found
-
-
 def wants(*commands):
     """Ends the runner with a sentence if one of these commands isn't there."""
     for command in commands:
@@ -119,19 +106,15 @@ def build(folder, harness, name, deps, *words, unproved=False, edits=()):
     """
     wants("rt")
     crates = folder / "crates"
-    below = crates_below(deps.split())
-    for crate in below:
-        shutil.copytree(ROOT / "crates" / crate, crates / crate, symlinks=True, ignore=shutil.ignore_patterns("out") if unproved else None)
+    trees.copy_crates(folder, deps.split(), f"{name}: {deps}", built=not unproved)
     unpack(harness, crates / name)
     for file, old, new in edits:
         text = (folder / file).read_text()
         assert text.count(old) == 1, (file, old)
         (folder / file).write_text(text.replace(old, new))
-    (folder / "crates.txt").write_text("\n".join([*below.values(), f"{name}: {deps}\n"]))
-    shutil.copy(ROOT / "HANDLES", folder / "HANDLES")
     if unproved:
         program = folder / name
-        unproved_program.build(program, crates / name)
+        without_proof.build_program(program, crates / name)
         return program
     made = subprocess.run(["rt", "run", "--", *words], cwd=crates / name, capture_output=True, text=True)
     if made.returncode != 0:

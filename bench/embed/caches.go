@@ -1,6 +1,7 @@
-// caches CACHE KEYS ROUNDS THREADS: hits, puts and read-through of the keys in a file through Go's wrapper or golang-lru, as calls.c
-// does: a line for each, with the least nanoseconds an operation of some rounds and the misses of the read-through. With one thread
-// they are of processor, the collector's work included; with more they are of time, of all threads together.
+// caches CACHE KEYS ROUNDS THREADS [WORK [ENTRIES]]: hits, puts and read-through of the keys in a file through Go's wrapper or another
+// cache, as calls.c does, or the one of them that is named: a line for each, with the least nanoseconds an operation of some rounds and
+// the misses of the read-through. With one thread they are of processor, the collector's work included; with more they are of time, of
+// all threads together. Each thread goes through all keys; in the work `stream`, a read-through too, each takes the next one.
 package main
 
 import (
@@ -10,16 +11,18 @@ import (
 	"os"
 	"runtime"
 	"strconv"
+	"strings"
 	"sync"
 	"sync/atomic"
 	"syscall"
 	"time"
 
-	lru "github.com/hashicorp/golang-lru"
 	"rookdresser"
 )
 
-const entries, held = 4096, 2048
+const held = 2048
+
+var entries = 4096
 
 type cache interface {
 	hit(key uint64)
@@ -41,27 +44,25 @@ func (o ours) readThrough(key uint64) {
 	_, _ = o.c.Get(ctx, key, func(context.Context) (uint64, uint32, error) { atomic.AddUint64(&misses, 1); return key, 1, nil })
 }
 
-type theirs struct{ c *lru.Cache }
-
-func (o theirs) hit(key uint64) { o.c.Get(key) }
-func (o theirs) put(key uint64) { o.c.Add(key, key) }
-func (o theirs) close()         {}
-func (o theirs) readThrough(key uint64) {
-	if _, found := o.c.Get(key); !found {
-		atomic.AddUint64(&misses, 1)
-		o.c.Add(key, key)
-	}
-}
+// Other caches by their names, if their packages are there.
+var others = map[string]func() cache{}
 
 func open(name string) cache {
-	if name == "golang-lru" {
-		c, err := lru.New(entries)
-		check(err)
-		return theirs{c}
+	if other := others[name]; other != nil {
+		return other()
 	}
-	setup := rookdresser.Setup{Entries: entries, Seeded: name == "seeded"}
-	if name == "sharded" {
+	setup := rookdresser.Setup{Entries: uint32(entries), Seeded: name == "seeded"}
+	if strings.HasPrefix(name, "sharded") {
 		setup.Shards = 8
+	}
+	if strings.HasSuffix(name, "exact") {
+		setup.Reads = rookdresser.Exact
+	}
+	switch name {
+	case "fixed":
+		setup.Adaptive = rookdresser.Off
+	case "fixed-40":
+		setup.Window = setup.Entries * 40 / 100
 	}
 	c, err := rookdresser.Open[uint64, uint64](setup)
 	check(err)
@@ -87,20 +88,41 @@ func now(threads int) time.Duration {
 var begun = time.Now()
 
 // Each thread goes through all keys, from a place of its own.
-func round(call func(uint64), keys []uint64, mask uint64, threads int) time.Duration {
+func each(call func(uint64), keys []uint64, mask uint64, threads int) func(int) {
+	return func(t int) {
+		from := t * len(keys) / threads
+		for _, part := range [][]uint64{keys[from:], keys[:from]} {
+			for _, key := range part {
+				call(key & mask)
+			}
+		}
+	}
+}
+
+// The threads take the keys in turn.
+func inTurn(call func(uint64), keys []uint64, _ uint64, _ int) func(int) {
+	var next int64
+	return func(int) {
+		for {
+			at := atomic.AddInt64(&next, 1) - 1
+			if at >= int64(len(keys)) {
+				return
+			}
+			call(keys[at])
+		}
+	}
+}
+
+func round(thread func(int), threads int) time.Duration {
 	runtime.GC()
 	began := now(threads)
 	var all sync.WaitGroup
 	for t := 0; t < threads; t++ {
 		all.Add(1)
-		go func(from int) {
+		go func(t int) {
 			defer all.Done()
-			for _, part := range [][]uint64{keys[from:], keys[:from]} {
-				for _, key := range part {
-					call(key & mask)
-				}
-			}
-		}(t * len(keys) / threads)
+			thread(t)
+		}(t)
 	}
 	all.Wait()
 	return (now(threads) - began) / time.Duration(threads)
@@ -113,20 +135,33 @@ func main() {
 	check(err)
 	threads, err := strconv.Atoi(os.Args[4])
 	check(err)
+	only := ""
+	if len(os.Args) > 5 {
+		only = os.Args[5]
+	}
+	if len(os.Args) > 6 {
+		entries, err = strconv.Atoi(os.Args[6])
+		check(err)
+	}
 	runtime.GOMAXPROCS(threads)
 	keys := make([]uint64, len(raw)/8)
 	for i := range keys {
 		keys[i] = binary.LittleEndian.Uint64(raw[8*i:])
 	}
 	for _, work := range []struct {
-		name string
-		of   func(cache) func(uint64)
-		mask uint64
+		name   string
+		of     func(cache) func(uint64)
+		mask   uint64
+		shared func(func(uint64), []uint64, uint64, int) func(int)
 	}{
-		{"hit", func(c cache) func(uint64) { return c.hit }, held - 1},
-		{"put", func(c cache) func(uint64) { return c.put }, held - 1},
-		{"read-through", func(c cache) func(uint64) { return c.readThrough }, 1<<64 - 1},
+		{"hit", func(c cache) func(uint64) { return c.hit }, held - 1, each},
+		{"put", func(c cache) func(uint64) { return c.put }, held - 1, each},
+		{"read-through", func(c cache) func(uint64) { return c.readThrough }, 1<<64 - 1, each},
+		{"stream", func(c cache) func(uint64) { return c.readThrough }, 1<<64 - 1, inTurn},
 	} {
+		if only == "" && work.name == "stream" || only != "" && only != work.name {
+			continue
+		}
 		least := time.Duration(1 << 62)
 		for r := 0; r < rounds; r++ {
 			c := open(os.Args[1])
@@ -134,7 +169,7 @@ func main() {
 				c.put(key)
 			}
 			misses = 0
-			if took := round(work.of(c), keys, work.mask, threads); took < least {
+			if took := round(work.shared(work.of(c), keys, work.mask, threads), threads); took < least {
 				least = took
 			}
 			c.close()

@@ -1,16 +1,18 @@
 //! main CACHE KEYS ROUNDS THREADS [WORK]: hits, puts and read-through of the keys in a file, or the one of them that is named: a line
-//! for each, with the least nanoseconds an operation of some rounds, all threads together, and the misses of the read-through.
-use rookdresser::{Found, Loading, Reads, Setup, Token, Tokens};
+//! for each, with the least nanoseconds an operation of some rounds, all threads together, and the misses of the read-through. Each
+//! thread goes through all keys; in the work `stream`, a read-through too, each takes the next one.
+use rookdresser::{Cache, Found, Loading, Reads, Setup, Token, Tokens};
 use std::cell::RefCell;
 use std::hash::{BuildHasher, Hasher, RandomState};
+use std::sync::atomic::{AtomicUsize, Ordering::Relaxed};
 use std::sync::Mutex;
 use std::time::Instant;
 
 const HELD: u64 = 2048;
-const SETUP: Setup =
-    Setup { entries: 4096, window: 41, flights: 64, bound: 1 << 40, after_write: 0, after_access: 0, refresh: 0 };
+const SETUP: Setup = Setup { window: Some(41), flights: 64, ..Setup::of(4096) };
+const FOLLOWING: Setup = Setup { window: None, ..SETUP };
 // A shard of eight has an eighth of all.
-const EIGHTH: Setup = Setup { entries: 512, window: 5, ..SETUP };
+const EIGHTH: Setup = Setup { entries: 512, window: Some(5), ..SETUP };
 
 /// What the caches have in common. A value is its key.
 trait Work {
@@ -53,6 +55,31 @@ impl Work for Alone {
     }
     fn read_through(&self, key: u64, now: u64) -> bool {
         read_through(&mut self.0.borrow_mut(), key, now)
+    }
+}
+
+// The cache of one owner.
+struct Owned(RefCell<Cache<u64, u64>>);
+
+// SAFETY: as of `Alone`.
+unsafe impl Sync for Owned {}
+
+impl Work for Owned {
+    fn look(&self, key: u64, now: u64) -> bool {
+        self.0.borrow_mut().look(&key, now).expect("memory is there").0.is_some()
+    }
+    fn put(&self, key: u64, now: u64) {
+        self.0.borrow_mut().put(&key, key, 1, now).expect("memory is there");
+    }
+    fn read_through(&self, key: u64, now: u64) -> bool {
+        let mut cache = self.0.borrow_mut();
+        match cache.seek(&key, now).expect("loads land at once").0 {
+            Found::Lead(id) => {
+                cache.land(id, &key, key, 1, now);
+                false
+            }
+            _ => true,
+        }
     }
 }
 
@@ -140,13 +167,31 @@ impl Work for Mutex<lru::LruCache<u64, u64>> {
     }
 }
 
+// SHARDSxENTRIES, of which each shard has so many; or ENTRIES, divided by the cores.
+fn sized(size: &str, setup: impl Fn(u32) -> Setup) -> Loading<u64, u64, ()> {
+    let opened = match size.split_once('x') {
+        Some((shards, entries)) => {
+            Loading::sharded(shards.parse().expect("a number"), &setup(entries.parse().expect("a number")))
+        }
+        None => Loading::open(&setup(size.parse().expect("a number"))),
+    };
+    opened.expect("the setup is within its ranges")
+}
+
 fn made(cache: &str) -> Box<dyn Work + Sync> {
     let open = |setup| Tokens::open(setup).expect("the setup is within its ranges");
+    let owned = |setup| Box::new(Owned(RefCell::new(Cache::open(&setup).expect("the setup is within its ranges"))));
+    let one_lock = |setup| Loading::<u64, u64, ()>::sharded(1, &setup).expect("the setup is within its ranges");
     match cache {
         "alone" => Box::new(Alone(RefCell::new(open(&SETUP)))),
         "mutex" => Box::new(Locked(vec![Mutex::new(open(&SETUP))])),
         "sharded" => Box::new(Locked((0..8).map(|_| Mutex::new(open(&EIGHTH))).collect())),
-        "loading" => Box::new(Loading::<u64, u64, ()>::sharded(1, &SETUP).expect("the setup is within its ranges")),
+        "cache" => owned(SETUP),
+        "follows-cache" => owned(FOLLOWING),
+        "loading" => Box::new(one_lock(SETUP)),
+        "follows-loading" => Box::new(one_lock(FOLLOWING)),
+        "exact" => Box::new(one_lock(SETUP).with_reads(Reads::Exact)),
+        "follows-exact" => Box::new(one_lock(FOLLOWING).with_reads(Reads::Exact)),
         "loading-folded" => {
             let seed = Folded(RandomState::new().hash_one(0));
             Box::new(Loading::<u64, u64, (), _>::sharded_with_hasher(1, &SETUP, seed).expect("the setup is within its ranges"))
@@ -156,28 +201,38 @@ fn made(cache: &str) -> Box<dyn Work + Sync> {
         }
         #[cfg(feature = "lru")]
         "lru" => Box::new(Mutex::new(lru::LruCache::<u64, u64>::new(4096))),
-        // SHARDSxENTRIES, of which each shard has so many; or ENTRIES, divided by the cores. They may be read exactly.
+        // A kind of cache, and its size.
         _ => {
-            let (reads, size) = match cache.strip_prefix("exact-") {
-                Some(size) => (Reads::Exact, size),
-                None => (Reads::Shared, cache.strip_prefix("loading-").expect("a cache")),
-            };
-            let opened = match size.split_once('x') {
-                Some((shards, entries)) => {
-                    let setup = Setup::of(entries.parse().expect("a number"));
-                    Loading::<u64, u64, ()>::sharded(shards.parse().expect("a number"), &setup)
-                }
-                None => Loading::open(&Setup::of(size.parse().expect("a number"))),
-            };
-            Box::new(opened.expect("the setup is within its ranges").with_reads(reads))
+            let (kind, size) = cache.split_once('-').expect("a cache");
+            let entries = || size.parse().expect("a number");
+            match kind {
+                "owned" => owned(Setup::of(entries())),
+                "fixed" => owned(Setup { adaptive: Some(false), ..Setup::of(entries()) }),
+                "window" => owned(Setup { window: Some(entries()), ..Setup::of(entries()) }),
+                "exact" => Box::new(sized(size, Setup::of).with_reads(Reads::Exact)),
+                "loading" => Box::new(sized(size, Setup::of)),
+                _ => panic!("there is no cache {cache}"),
+            }
         }
     }
 }
 
-// The nanoseconds an operation, all threads together, and how many missed. Each thread begins at a place of its own.
-fn timed(cache: &(dyn Work + Sync), keys: &[u64], threads: usize, work: fn(&dyn Work, u64, u64) -> bool) -> (f64, u64) {
+// The nanoseconds an operation, all threads together, and how many missed. Each thread begins at a place of its own, or the threads
+// take the keys of one stream.
+fn timed(
+    cache: &(dyn Work + Sync),
+    keys: &[u64],
+    threads: usize,
+    is_one_stream: bool,
+    work: fn(&dyn Work, u64, u64) -> bool,
+) -> (f64, u64) {
     let begun = Instant::now();
+    let next = AtomicUsize::new(0);
     let part = |t: usize| {
+        if is_one_stream {
+            let taken = std::iter::from_fn(|| keys.get(next.fetch_add(1, Relaxed)));
+            return taken.filter(|&&key| !work(cache, key, 0)).count() as u64;
+        }
         let (before, after) = keys.split_at(t * keys.len() / threads);
         let stream = after.iter().chain(before).enumerate();
         stream.filter(|&(i, &key)| !work(cache, key, i as u64)).count() as u64
@@ -189,33 +244,37 @@ fn timed(cache: &(dyn Work + Sync), keys: &[u64], threads: usize, work: fn(&dyn 
             running.into_iter().map(|thread| thread.join().expect("no thread panics")).sum()
         }),
     };
-    (begun.elapsed().as_nanos() as f64 / (keys.len() * threads) as f64, missed)
+    let made = keys.len() * if is_one_stream { 1 } else { threads };
+    (begun.elapsed().as_nanos() as f64 / made as f64, missed)
 }
 
 fn main() {
     let given: Vec<String> = std::env::args().collect();
     let (rounds, threads): (u32, usize) = (given[3].parse().expect("a number"), given[4].parse().expect("a number"));
-    assert!(given[1] != "alone" || threads == 1);
+    let has_one_owner = ["alone", "cache", "owned", "fixed", "window"].iter().any(|kind| given[1].contains(kind));
+    assert!(!has_one_owner || threads == 1);
     let bytes = std::fs::read(&given[2]).expect("the file of keys");
     let keys: Vec<u64> = bytes.chunks_exact(8).map(|b| u64::from_le_bytes(b.try_into().expect("8 bytes"))).collect();
     type Call = fn(&dyn Work, u64, u64) -> bool;
-    let works: [(&str, Call); 3] = [
+    let works: [(&str, Call); 4] = [
         ("hit", |cache, key, now| cache.look(key % HELD, now)),
         ("put", |cache, key, now| {
             cache.put(key % HELD, now);
             true
         }),
         ("read-through", |cache, key, now| cache.read_through(key, now)),
+        ("stream", |cache, key, now| cache.read_through(key, now)),
     ];
-    for (name, work) in works.into_iter().filter(|work| given.get(5).map_or(true, |only| only == work.0)) {
+    for (name, work) in works.into_iter().filter(|work| given.get(5).map_or(work.0 != "stream", |only| only == work.0)) {
         let mut least = (f64::MAX, 0);
         for _ in 0..rounds {
             let cache = made(&given[1]);
-            if name != "read-through" {
+            let is_held = name == "hit" || name == "put";
+            if is_held {
                 (0..HELD).for_each(|key| cache.put(key, 0));
             }
-            let told = timed(&*cache, &keys, threads, work);
-            assert!(name == "read-through" || told.1 == 0, "all of them are held");
+            let told = timed(&*cache, &keys, threads, name == "stream", work);
+            assert!(!is_held || told.1 == 0, "all of them are held");
             least = if told.0 < least.0 { told } else { least };
         }
         println!("{name} {threads} {:.1} {}", least.0, least.1);
