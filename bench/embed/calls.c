@@ -1,11 +1,23 @@
-/* calls KEYS ROUNDS: hits, puts and read-through of the keys in a file through rookdresser.h, on one thread: a line for each, with the
- * least nanoseconds an operation of some rounds and the misses of the read-through. */
-#include "rookdresser.h"
+/* calls FORM KEYS ROUNDS THREADS [WORK]: hits, puts and read-through of the keys in a file, by threads on one cache: a line for each,
+ * with the least nanoseconds an operation of some rounds and the misses. FORM is `alone`, rd_look and the others on one thread; `mutex`,
+ * the same in a pthread mutex; or `shared`, rd_shared_look and the others, each thread with a caller of its own. */
+#include "rookdresser_waiting.h"
 #include <stdio.h>
 #include <stdlib.h>
-#include <time.h>
-#define ENTRIES 4096
-#define HELD 2048
+#include <string.h>
+
+enum { ENTRIES = 4096, HELD = 2048, MOST = 64 };
+enum form { ALONE, MUTEX, SHARED };
+enum work { HIT, PUT, READ_THROUGH };
+static enum form form;
+static enum work work;
+static uint64_t *keys;
+static size_t count, threads;
+static rd_cache cache;
+static pthread_mutex_t lock = PTHREAD_MUTEX_INITIALIZER;
+static rd_gate gate = RD_GATE_INIT;
+static rd_caller callers[MOST];
+static uint64_t missed[MOST];
 
 static double now_ns(void) {
     struct timespec t;
@@ -13,58 +25,116 @@ static double now_ns(void) {
     return 1e9 * (double)t.tv_sec + (double)t.tv_nsec;
 }
 
-static uint64_t hit(rd_cache *cache, uint64_t key, uint64_t i) {
-    rd_answer a;
-    return rd_look(cache, key % HELD, i, &a) || a.kind != RD_HIT;
+static void wants(bool holds) {
+    if (!holds) exit(3);
 }
 
-static uint64_t put(rd_cache *cache, uint64_t key, uint64_t i) {
-    rd_answer a;
-    return rd_put(cache, key % HELD, (rd_token){key, 1}, i, &a) != 0;
+/* Each call below is made by the form that was asked for, and must not fail. */
+#define MADE(of_cache, of_caller)                                     \
+    do {                                                              \
+        uint64_t fault;                                               \
+        if (form == SHARED) RD_WAITING(&gate, fault, of_caller);      \
+        else {                                                        \
+            if (form == MUTEX) pthread_mutex_lock(&lock);             \
+            fault = of_cache;                                         \
+            if (form == MUTEX) pthread_mutex_unlock(&lock);           \
+        }                                                             \
+        wants(fault == RD_OK);                                        \
+    } while (0)
+
+static inline void put(rd_caller *caller, uint64_t key, uint64_t now) {
+    rd_answer answer;
+    rd_token value = {key, 1};
+    MADE(rd_put(&cache, key, value, now, &answer), rd_shared_put(caller, key, value, now, &answer));
 }
 
-static uint64_t read_through(rd_cache *cache, uint64_t key, uint64_t i) {
-    rd_answer a, landed;
-    if (rd_seek(cache, key, i, &a)) exit(3);
-    if (a.kind == RD_HIT) return 0;
-    if (rd_land_keep(cache, a.number, key, (rd_token){key, 1}, i, &landed)) exit(3);
-    return 1;
+static inline uint64_t hit(rd_caller *caller, uint64_t key, uint64_t now) {
+    rd_answer answer;
+    MADE(rd_look(&cache, key, now, &answer), rd_shared_look(caller, key, now, &answer));
+    return answer.kind != RD_HIT;
+}
+
+static inline uint64_t read_through(rd_caller *caller, uint64_t key, uint64_t now) {
+    rd_answer answer, landed;
+    rd_token value = {key, 1};
+    MADE(rd_seek(&cache, key, now, &answer), rd_shared_seek(caller, key, now, &answer));
+    if (answer.kind == RD_LEAD)
+        MADE(rd_land_keep(&cache, answer.number, key, value, now, &landed), rd_shared_land_keep(caller, answer.number, key, value, now, &landed));
+    return answer.kind != RD_HIT;
+}
+
+/* Goes through all keys, from a place of the thread's own. */
+static void *pass(void *given) {
+    size_t t = (size_t)((rd_caller *)given - callers);
+    rd_caller *caller = given;
+    uint64_t misses = 0;
+    for (size_t i = 0; i < count; i++) {
+        uint64_t key = keys[(i + t * count / threads) % count];
+        if (work == HIT) misses += hit(caller, key % HELD, i);
+        else if (work == PUT) put(caller, key % HELD, i);
+        else misses += read_through(caller, key, i);
+    }
+    missed[t] = misses;
+    return 0;
+}
+
+static void open_all(void) {
+    rd_setup setup = {.entries = ENTRIES, .window = 41, .flights = 64, .bound = 1ull << 40};
+    wants((form == SHARED ? rd_shared_open(&setup, &callers[0]) : rd_open(&setup, &cache)) == RD_OK);
+    for (size_t t = 1; form == SHARED && t < threads; t++) wants(rd_shared_another(&callers[0], &callers[t]) == RD_OK);
+    for (uint64_t key = 0; work != READ_THROUGH && key < HELD; key++) put(&callers[0], key, 0);
+}
+
+static void close_all(void) {
+    if (form != SHARED) wants(rd_close(&cache) == RD_OK);
+    for (size_t t = 0; form == SHARED && t < threads; t++) wants(rd_shared_close(&callers[t]) == RD_OK);
+}
+
+/* The nanoseconds of an operation in one round. */
+static double one_round(void) {
+    pthread_t others[MOST];
+    open_all();
+    double begun = now_ns();
+    for (size_t t = 1; t < threads; t++) wants(pthread_create(&others[t], 0, pass, &callers[t]) == 0);
+    pass(&callers[0]);
+    for (size_t t = 1; t < threads; t++) wants(pthread_join(others[t], 0) == 0);
+    double each = (now_ns() - begun) / (double)(count * threads);
+    close_all();
+    return each;
+}
+
+static void read_keys(const char *path) {
+    FILE *file = fopen(path, "rb");
+    wants(file && !fseek(file, 0, SEEK_END));
+    count = (size_t)ftell(file) / sizeof *keys;
+    rewind(file);
+    keys = malloc(count * sizeof *keys);
+    wants(keys && fread(keys, sizeof *keys, count, file) == count);
 }
 
 int main(int argc, char **argv) {
-    static const struct {
-        const char *name;
-        uint64_t (*call)(rd_cache *, uint64_t, uint64_t);
-    } works[] = {{"hit", hit}, {"put", put}, {"read-through", read_through}};
-    if (argc != 3) return 2;
-    int rounds = atoi(argv[2]);
-    FILE *file = fopen(argv[1], "rb");
-    if (!file) return 2;
-    fseek(file, 0, SEEK_END);
-    size_t n = (size_t)ftell(file) / sizeof(uint64_t);
-    rewind(file);
-    uint64_t *keys = malloc(n * sizeof *keys);
-    if (!keys || fread(keys, sizeof *keys, n, file) != n) return 2;
-    rd_setup setup = {.entries = ENTRIES, .window = 41, .flights = 64, .bound = 1ull << 40};
-    for (int w = 0; w < 3; w++) {
+    static const char *const forms[] = {"alone", "mutex", "shared"}, *const works[] = {"hit", "put", "read-through"};
+    if (argc < 5) return 2;
+    while (strcmp(argv[1], forms[form]))
+        if (form++ == SHARED) return 2;
+    read_keys(argv[2]);
+    int rounds = atoi(argv[3]);
+    threads = (size_t)atoi(argv[4]);
+    if (!threads || threads > MOST || (form == ALONE && threads > 1)) return 2;
+    for (work = HIT; work <= READ_THROUGH; work++) {
+        if (argc > 5 && strcmp(argv[5], works[work])) continue;
         double least = 1e30;
-        uint64_t missed = 0;
+        uint64_t misses = 0;
         for (int round = 0; round < rounds; round++) {
-            rd_cache cache = RD_CACHE_INIT;
-            rd_answer a;
-            if (rd_open(&setup, &cache)) return 1;
-            for (uint64_t key = 0; w < 2 && key < HELD; key++)
-                if (rd_put(&cache, key, (rd_token){key, 1}, 0, &a)) return 1;
-            missed = 0;
-            double begun = now_ns();
-            for (size_t i = 0; i < n; i++)
-                missed += works[w].call(&cache, keys[i], i);
-            double each = (now_ns() - begun) / (double)n;
-            if (each < least) least = each;
-            rd_close(&cache);
+            double each = one_round();
+            if (each < least) {
+                least = each;
+                misses = 0;
+                for (size_t t = 0; t < threads; t++) misses += missed[t];
+            }
         }
-        if (w < 2 && missed) return 1;
-        printf("%s 1 %.1f %llu\n", works[w].name, least, (unsigned long long)missed);
+        wants(work == READ_THROUGH || !misses);
+        printf("%s %zu %.1f %llu\n", works[work], threads, least, (unsigned long long)misses);
     }
     return 0;
 }
