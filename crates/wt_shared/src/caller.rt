@@ -3,7 +3,7 @@ ghost use Rattle.std.specs.Prelude.{◌≡◌, [], IfOk, IsSome, OnErr};
 ghost use mathlib.Core.List.{IsPrefix};
 ghost use Rattle.wt_core.specs.State.{config_fault, opening};
 ghost use Rattle.wt_regions.specs.Lawful.{FailsByField};
-ghost use Rattle.wt_shared.specs.Shared.{Adds, Becomes, IsKept};
+ghost use Rattle.wt_shared.specs.Shared.{Adds, Becomes, IsKept, IsRun};
 
 use crate::kept::Kept;
 use crate::known::Known;
@@ -14,7 +14,10 @@ use std::alloc::Global;
 use std::marker::Model;
 use std::mem;
 use std::sync::Arc;
-use wt_core::{Call, Config, Core, Reply};
+use wt_core::{
+    Call, Config, Core, Reply, landed_once, one_current_load, sharers_are_the_lead_and_joins,
+    stale_results_are_not_stored,
+};
 use wt_history::Log;
 use wt_keys::{CacheKey, Fault, NoMemory, Share};
 use wt_regions::{Notice, Notices, Weighs};
@@ -189,6 +192,20 @@ impl<K: CacheKey, V: Share + Weighs> Caller<K, V> {
             × (self.new.number ≡ self.old.number) × (self.new.left ≡ self.old.left) }
     {
         self.known.seen.learn(&other.known.seen);
+    }
+
+    /// States what is true of the calls that this caller has seen, as of every run of a cache: a key
+    /// has at most one current load; an id is opened at most once, and is then open or landed once; a
+    /// landing tells of the lead and of each call that joins; and a stale load isn't stored.
+    ///
+    /// The function does nothing, and takes no memory.
+    pub fn laws(&self)
+        ensures { IsRun K.eq K.word V.weight self.now.known.config self.now.known.seen.entries }
+    {
+        one_current_load::<K, V>();
+        landed_once::<K, V>();
+        sharers_are_the_lead_and_joins::<K, V>();
+        stale_results_are_not_stored::<K, V>();
     }
 
     /// Returns the number of the latest call in the history, from 1; 0 before the first call. If an
