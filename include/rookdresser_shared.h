@@ -53,6 +53,9 @@ enum rd_shared_fault {
  * RD_OUT_OF_MEMORY. A fault leaves the caller as it was. */
 uint64_t rd_shared_open(const rd_setup *setup, rd_caller *caller);
 
+/* The same for a cache whose keys are names. */
+uint64_t rd_shared_open_names(const rd_setup *setup, rd_caller *caller);
+
 /* Opens theirs as another caller of the cache of mine, which has met all that mine has. Faults, in this order: RD_OPEN_ALREADY
  * if theirs is open, RD_CLOSED if mine is closed, RD_OUT_OF_MEMORY. A fault leaves both as they were. A caller takes memory
  * for as many notices as the cache may hold entries, 32 bytes each, which are touched only if they are used. */
@@ -66,7 +69,7 @@ uint64_t rd_shared_meet(rd_caller *mine, rd_caller *theirs);
 uint64_t rd_shared_close(rd_caller *caller);
 
 /* Each of the eleven calls below does at its place in the history what its namesake of rookdresser.h does, or is busy. On a
- * closed caller it returns RD_CLOSED and writes nothing. If it returns RD_BUSY or RD_LOST it writes nothing. */
+ * closed caller it returns RD_CLOSED and writes nothing; so does a call with a key if the keys are names, by RD_OTHER_KEYS. If it returns RD_BUSY or RD_LOST it writes nothing. */
 uint64_t rd_shared_look(rd_caller *caller, uint64_t key, uint64_t now, rd_answer *answer);
 uint64_t rd_shared_seek(rd_caller *caller, uint64_t key, uint64_t now, rd_answer *answer);
 uint64_t rd_shared_land_keep(rd_caller *caller, uint64_t id, uint64_t key, rd_token value, uint64_t now, rd_answer *answer);
@@ -79,8 +82,23 @@ uint64_t rd_shared_clear(rd_caller *caller, uint64_t now, rd_answer *answer);
 uint64_t rd_shared_clean(rd_caller *caller, uint64_t now, rd_answer *answer);
 uint64_t rd_shared_slide(rd_caller *caller, bool wider, uint64_t now, rd_answer *answer);
 
+/* The eight calls with a key, for a cache of names. Each does the same as its namesake for numbers, or writes nothing and
+ * returns RD_NAME_TOO_LONG, RD_CLOSED, or RD_OTHER_KEYS, in this order. */
+uint64_t rd_shared_look_name(rd_caller *caller, const rd_name *key, uint64_t now, rd_answer *answer);
+uint64_t rd_shared_seek_name(rd_caller *caller, const rd_name *key, uint64_t now, rd_answer *answer);
+uint64_t rd_shared_land_keep_name(rd_caller *caller, uint64_t id, const rd_name *key, rd_token value, uint64_t now,
+                                  rd_answer *answer);
+uint64_t rd_shared_land_loose_name(rd_caller *caller, uint64_t id, const rd_name *key, uint64_t now, rd_answer *answer);
+uint64_t rd_shared_land_failed_name(rd_caller *caller, uint64_t id, const rd_name *key, uint64_t now, rd_answer *answer);
+uint64_t rd_shared_put_name(rd_caller *caller, const rd_name *key, rd_token value, uint64_t now, rd_answer *answer);
+uint64_t rd_shared_drop_name(rd_caller *caller, const rd_name *key, uint64_t now, rd_answer *answer);
+uint64_t rd_shared_forget_name(rd_caller *caller, const rd_name *key, uint64_t now, rd_answer *answer);
+
 /* Writes notice i, from 0, of this caller's latest call that wasn't busy. RD_NO_SUCH_NOTICE if there is none. */
 uint64_t rd_shared_get_notice(rd_caller *caller, uint64_t i, rd_notice *notice);
+
+/* The same for a cache of names. Each of the two returns RD_OTHER_KEYS on a cache of the other kind. */
+uint64_t rd_shared_get_notice_name(rd_caller *caller, uint64_t i, rd_name_notice *notice);
 
 /* Writes the place of this caller's latest call in the history, from 1; 0 before its first. A call that the cache refused has a
  * place too; of one that was refused memory, or that was busy, it is an earlier place. */
@@ -110,10 +128,19 @@ static inline uint64_t rd_leave(rd_caller *caller, uint64_t fault) {
 #define rd_shared_put(c, key, value, now, a) RD_CHECKED(c, rd_shared_put(c, key, value, now, a))
 #define rd_shared_drop_key(c, key, now, a) RD_CHECKED(c, rd_shared_drop_key(c, key, now, a))
 #define rd_shared_forget(c, key, now, a) RD_CHECKED(c, rd_shared_forget(c, key, now, a))
+#define rd_shared_look_name(c, key, now, a) RD_CHECKED(c, rd_shared_look_name(c, key, now, a))
+#define rd_shared_seek_name(c, key, now, a) RD_CHECKED(c, rd_shared_seek_name(c, key, now, a))
+#define rd_shared_land_keep_name(c, id, key, value, now, a) RD_CHECKED(c, rd_shared_land_keep_name(c, id, key, value, now, a))
+#define rd_shared_land_loose_name(c, id, key, now, a) RD_CHECKED(c, rd_shared_land_loose_name(c, id, key, now, a))
+#define rd_shared_land_failed_name(c, id, key, now, a) RD_CHECKED(c, rd_shared_land_failed_name(c, id, key, now, a))
+#define rd_shared_put_name(c, key, value, now, a) RD_CHECKED(c, rd_shared_put_name(c, key, value, now, a))
+#define rd_shared_drop_name(c, key, now, a) RD_CHECKED(c, rd_shared_drop_name(c, key, now, a))
+#define rd_shared_forget_name(c, key, now, a) RD_CHECKED(c, rd_shared_forget_name(c, key, now, a))
 #define rd_shared_clear(c, now, a) RD_CHECKED(c, rd_shared_clear(c, now, a))
 #define rd_shared_clean(c, now, a) RD_CHECKED(c, rd_shared_clean(c, now, a))
 #define rd_shared_slide(c, wider, now, a) RD_CHECKED(c, rd_shared_slide(c, wider, now, a))
 #define rd_shared_get_notice(c, i, notice) RD_CHECKED(c, rd_shared_get_notice(c, i, notice))
+#define rd_shared_get_notice_name(c, i, notice) RD_CHECKED(c, rd_shared_get_notice_name(c, i, notice))
 #define rd_shared_get_place(c, place) RD_CHECKED(c, rd_shared_get_place(c, place))
 #define rd_shared_another(c, d) (rd_enter(c), rd_enter(d), rd_leave(c, rd_leave(d, rd_shared_another(c, d))))
 #define rd_shared_meet(c, d) (rd_enter(c), rd_enter(d), rd_leave(c, rd_leave(d, rd_shared_meet(c, d))))

@@ -2,9 +2,8 @@
  * history is told once, none is left out, and they rise for each caller. Then the calls, in the order of their places, are made on
  * an rd_cache: each answer and each notice is the same. shared_calls N list prints the calls in that order with their replies, as
  * same_history.py reads them. */
+#include "keys.h"
 #include "rookdresser_waiting.h"
-#include <stdio.h>
-#include <stdlib.h>
 #include <string.h>
 #define CHECK(x)                                     \
     do {                                             \
@@ -15,7 +14,7 @@
     } while (0)
 
 enum { THREADS = 4, ROUND = 250000, KEYS = 300, LEADS = 16 };
-enum { LOOK, SEEK, KEEP, LOOSE, FAILED, PUT, DROP, FORGET, CLEAR, CLEAN, SLIDE };
+enum { look, seek, keep, loose, failed, put, drop, forget, clear, clean, slide };
 static const rd_setup setup = {.entries = 100, .window = 10, .flights = 8, .bound = 500, .after_write = 900, .after_access = 400, .refresh = 300};
 
 /* What a call was asked. */
@@ -58,36 +57,36 @@ static uint64_t added(uint64_t sum, const rd_notice *n) {
 static void land(worker *w, call *c) {
     size_t i = below(w, w->open);
     uint64_t how = below(w, 10);
-    c->what = how < 7 ? KEEP : how < 8 ? LOOSE : FAILED;
+    c->what = how < 7 ? keep : how < 8 ? loose : failed;
     c->id = w->leads[i].id;
     c->key = (uint32_t)w->leads[i].key;
     w->leads[i] = w->leads[--w->open];
 }
 
 static call next(worker *w) {
-    static const uint32_t kinds[] = {LOOK, LOOK, LOOK, SEEK, SEEK, SEEK, SEEK, PUT, PUT, PUT, DROP, FORGET};
+    static const uint32_t kinds[] = {look, look, look, seek, seek, seek, seek, put, put, put, drop, forget};
     uint64_t one = below(w, KEYS), other = below(w, KEYS);
     w->now += (uint32_t)below(w, 3);
-    call c = {LOOK, (uint32_t)(one < other ? one : other), w->now, (uint32_t)below(w, 12), 0, w->tokens += THREADS};
+    call c = {look, (uint32_t)(one < other ? one : other), w->now, (uint32_t)below(w, 12), 0, w->tokens += THREADS};
     if (below(w, 200) == 0) c.weight = 501; /* too heavy */
     if (w->open && (w->open == LEADS || below(w, 3) == 0)) land(w, &c);
-    else c.what = below(w, 2000) == 0 ? CLEAR : below(w, 50) == 0 ? CLEAN : below(w, 50) == 0 ? SLIDE : kinds[below(w, 12)];
+    else c.what = below(w, 2000) == 0 ? clear : below(w, 50) == 0 ? clean : below(w, 50) == 0 ? slide : kinds[below(w, 12)];
     return c;
 }
 
 static uint64_t make_shared(rd_caller *caller, const call *c, rd_answer *answer) {
     const rd_token value = {c->token, c->weight};
     switch (c->what) {
-    case LOOK: return rd_shared_look(caller, c->key, c->now, answer);
-    case SEEK: return rd_shared_seek(caller, c->key, c->now, answer);
-    case KEEP: return rd_shared_land_keep(caller, c->id, c->key, value, c->now, answer);
-    case LOOSE: return rd_shared_land_loose(caller, c->id, c->key, c->now, answer);
-    case FAILED: return rd_shared_land_failed(caller, c->id, c->key, c->now, answer);
-    case PUT: return rd_shared_put(caller, c->key, value, c->now, answer);
-    case DROP: return rd_shared_drop_key(caller, c->key, c->now, answer);
-    case FORGET: return rd_shared_forget(caller, c->key, c->now, answer);
-    case CLEAR: return rd_shared_clear(caller, c->now, answer);
-    case CLEAN: return rd_shared_clean(caller, c->now, answer);
+    case look: return CALL(rd_shared_look, rd_shared_look_name)(caller, GIVEN(c->key), c->now, answer);
+    case seek: return CALL(rd_shared_seek, rd_shared_seek_name)(caller, GIVEN(c->key), c->now, answer);
+    case keep: return CALL(rd_shared_land_keep, rd_shared_land_keep_name)(caller, c->id, GIVEN(c->key), value, c->now, answer);
+    case loose: return CALL(rd_shared_land_loose, rd_shared_land_loose_name)(caller, c->id, GIVEN(c->key), c->now, answer);
+    case failed: return CALL(rd_shared_land_failed, rd_shared_land_failed_name)(caller, c->id, GIVEN(c->key), c->now, answer);
+    case put: return CALL(rd_shared_put, rd_shared_put_name)(caller, GIVEN(c->key), value, c->now, answer);
+    case drop: return CALL(rd_shared_drop_key, rd_shared_drop_name)(caller, GIVEN(c->key), c->now, answer);
+    case forget: return CALL(rd_shared_forget, rd_shared_forget_name)(caller, GIVEN(c->key), c->now, answer);
+    case clear: return rd_shared_clear(caller, c->now, answer);
+    case clean: return rd_shared_clean(caller, c->now, answer);
     default: return rd_shared_slide(caller, c->key % 2, c->now, answer);
     }
 }
@@ -95,18 +94,25 @@ static uint64_t make_shared(rd_caller *caller, const call *c, rd_answer *answer)
 static uint64_t make_alone(rd_cache *cache, const call *c, rd_answer *answer) {
     const rd_token value = {c->token, c->weight};
     switch (c->what) {
-    case LOOK: return rd_look(cache, c->key, c->now, answer);
-    case SEEK: return rd_seek(cache, c->key, c->now, answer);
-    case KEEP: return rd_land_keep(cache, c->id, c->key, value, c->now, answer);
-    case LOOSE: return rd_land_loose(cache, c->id, c->key, c->now, answer);
-    case FAILED: return rd_land_failed(cache, c->id, c->key, c->now, answer);
-    case PUT: return rd_put(cache, c->key, value, c->now, answer);
-    case DROP: return rd_drop_key(cache, c->key, c->now, answer);
-    case FORGET: return rd_forget(cache, c->key, c->now, answer);
-    case CLEAR: return rd_clear(cache, c->now, answer);
-    case CLEAN: return rd_clean(cache, c->now, answer);
+    case look: return LOOK(cache, GIVEN(c->key), c->now, answer);
+    case seek: return SEEK(cache, GIVEN(c->key), c->now, answer);
+    case keep: return LAND_KEEP(cache, c->id, GIVEN(c->key), value, c->now, answer);
+    case loose: return LAND_LOOSE(cache, c->id, GIVEN(c->key), c->now, answer);
+    case failed: return LAND_FAILED(cache, c->id, GIVEN(c->key), c->now, answer);
+    case put: return PUT(cache, GIVEN(c->key), value, c->now, answer);
+    case drop: return DROP(cache, GIVEN(c->key), c->now, answer);
+    case forget: return FORGET(cache, GIVEN(c->key), c->now, answer);
+    case clear: return rd_clear(cache, c->now, answer);
+    case clean: return rd_clean(cache, c->now, answer);
     default: return rd_slide(cache, c->key % 2, c->now, answer);
     }
+}
+
+static uint64_t get_shared_notice(rd_caller *caller, uint64_t i, rd_notice *notice) {
+    any_notice told;
+    uint64_t fault = CALL(rd_shared_get_notice, rd_shared_get_notice_name)(caller, i, &told);
+    if (!fault) *notice = by_number(told);
+    return fault;
 }
 
 /* A few of the callers' calls are made by a handle that the thread has just opened, and has met its own. */
@@ -128,10 +134,10 @@ static void *work(void *given) {
         m->notices = 0;
         rd_notice notice;
         for (uint64_t n = 0; n < m->answer.notices; n++) {
-            CHECK(rd_shared_get_notice(caller, n, &notice) == RD_OK);
+            CHECK(get_shared_notice(caller, n, &notice) == RD_OK);
             m->notices = added(m->notices, &notice);
         }
-        CHECK(rd_shared_get_notice(caller, m->answer.notices, &notice) == RD_NO_SUCH_NOTICE);
+        CHECK(get_shared_notice(caller, m->answer.notices, &notice) == RD_NO_SUCH_NOTICE);
         if (brief.is_open) CHECK(rd_shared_meet(&w->caller, &brief) == RD_OK && rd_shared_close(&brief) == RD_OK);
         if (m->answer.kind == RD_LEAD || m->answer.kind == RD_HIT_LEAD) {
             w->leads[w->open].id = m->answer.number;
@@ -147,7 +153,7 @@ static void play(rd_cache *cache, const made *m) {
     uint64_t notices = 0;
     CHECK(make_alone(cache, &m->asked, &answer) == m->fault);
     for (uint64_t n = 0; n < answer.notices; n++) {
-        CHECK(rd_get_notice(cache, n, &notice) == RD_OK);
+        CHECK(get_notice(cache, n, &notice) == RD_OK);
         notices = added(notices, &notice);
     }
     CHECK(answer.kind == m->answer.kind && answer.weight == m->answer.weight && answer.token == m->answer.token);
@@ -159,10 +165,10 @@ static void print(const made *m) {
     const call *c = &m->asked;
     const rd_answer *a = &m->answer;
     printf("%u %s", c->now, calls[c->what]);
-    if (c->what < CLEAR || c->what == SLIDE) printf(" %u", c->key);
-    if (c->what == SLIDE) printf(" %s", c->key % 2 ? "wider" : "narrower");
-    if (c->what >= KEEP && c->what <= FAILED) printf(" %llu %s", (unsigned long long)c->id, c->what == KEEP ? "keep" : c->what == LOOSE ? "loose" : "failed");
-    if (c->what == KEEP || c->what == PUT) printf(" %llu %u", (unsigned long long)c->token, c->weight);
+    if (c->what < clear || c->what == slide) printf(" %u", c->key);
+    if (c->what == slide) printf(" %s", c->key % 2 ? "wider" : "narrower");
+    if (c->what >= keep && c->what <= failed) printf(" %llu %s", (unsigned long long)c->id, c->what == keep ? "keep" : c->what == loose ? "loose" : "failed");
+    if (c->what == keep || c->what == put) printf(" %llu %u", (unsigned long long)c->token, c->weight);
     printf(" = %u %llu %u %llu\n", a->kind, (unsigned long long)a->token, a->weight, (unsigned long long)a->number);
 }
 
@@ -190,11 +196,35 @@ static uint64_t round_of(size_t count, uint64_t before, rd_cache *cache, bool li
     return before + all;
 }
 
+/* A caller that is closed, a name that is too long, and keys of the other kind: nothing happens. */
+static void refuses_other_keys(rd_caller *caller) {
+    rd_caller closed = RD_CALLER_INIT;
+    rd_answer answer;
+    rd_notice notice;
+    rd_name_notice name_notice;
+    uint64_t place;
+    const rd_name name = rd_name_of("a", 1), longer = {{0}, 25};
+    CHECK(rd_shared_look(&closed, 1, 0, &answer) == RD_CLOSED && rd_shared_get_notice(&closed, 0, &notice) == RD_CLOSED);
+    CHECK(rd_shared_look_name(&closed, &longer, 0, &answer) == RD_NAME_TOO_LONG);
+    CHECK(rd_shared_look_name(&closed, &name, 0, &answer) == RD_CLOSED);
+    CHECK(rd_shared_put_name(caller, &longer, (rd_token){1, 1}, 0, &answer) == RD_NAME_TOO_LONG);
+#ifdef NAMES
+    CHECK(rd_shared_look(caller, 1, 0, &answer) == RD_OTHER_KEYS && rd_shared_get_notice(caller, 0, &notice) == RD_OTHER_KEYS);
+    CHECK(rd_shared_get_notice_name(caller, 0, &name_notice) == RD_NO_SUCH_NOTICE);
+#else
+    CHECK(rd_shared_look_name(caller, &name, 0, &answer) == RD_OTHER_KEYS);
+    CHECK(rd_shared_get_notice_name(caller, 0, &name_notice) == RD_OTHER_KEYS);
+#endif
+    CHECK(CALL(rd_shared_open, rd_shared_open_names)(&setup, caller) == RD_OPEN_ALREADY);
+    CHECK(rd_shared_get_place(caller, &place) == RD_OK && place == 0);
+}
+
 int main(int argc, char **argv) {
     if (argc < 2) return 2;
     uint64_t left = strtoull(argv[1], 0, 10), before = 0;
     rd_cache cache = RD_CACHE_INIT;
-    CHECK(rd_open(&setup, &cache) == RD_OK && rd_shared_open(&setup, &workers[0].caller) == RD_OK);
+    CHECK(OPEN(&setup, &cache) == RD_OK && CALL(rd_shared_open, rd_shared_open_names)(&setup, &workers[0].caller) == RD_OK);
+    refuses_other_keys(&workers[0].caller);
     for (int t = 0; t < THREADS; t++) {
         CHECK(t == 0 || rd_shared_another(&workers[0].caller, &workers[t].caller) == RD_OK);
         workers[t].rng = 88172645463325252ull + (uint64_t)t * 7919;

@@ -90,18 +90,48 @@ pub record IsSharedCall (call : Call ℕ Token) (old new : SharedHandle) (before
   -- nor if its keys are names
   pub other : IsSome (names_in old) → (result ≡ 103) × IsIdle old new before told
 
+-- a name and the caller that is asked for it
+pub record SharedAsked : Type 0 where
+  pub name : List ℕ
+  pub caller : View (List ℕ) Token
+
+-- what a call by name goes to: there is such a name, and an open caller of a cache of names
+abbrev pub shared_asked_for : Option (List ℕ) → Option Sharing → Option SharedAsked
+shared_asked_for (Some name) (Some (Names c)) = Some (record { name = name; caller = c })
+shared_asked_for (Some name) (Some (Numbers c)) = None
+shared_asked_for (Some name) None = None
+shared_asked_for None sharing = None
+
+-- what a call with a text goes to
+abbrev pub shared_asked : Text → SharedHandle → Option SharedAsked
+shared_asked t h = shared_asked_for (name_of t) (sharing_of h)
+
+-- the number that is returned if it goes to nothing: the name is too long, the handle closed, or its keys numbers
+abbrev pub shared_number_for_none : Option (List ℕ) → Option Sharing → ℕ
+shared_number_for_none None sharing = 104
+shared_number_for_none (Some name) None = 100
+shared_number_for_none (Some name) (Some sharing) = 103
+
+-- a call by name
+pub record IsSharedNameCall (call : List ℕ → Call (List ℕ) Token) (key : Text) (old new : SharedHandle) (before told : Answer) (result : ℕ) : Type 0 where
+  pub state : IfSome (shared_asked key old) (λ a. IfSome (names_in new) (λ n. HasOutcome (pointwise nat_eq) word_of_name (call a.name) a.caller n before told result))
+  -- an open handle stays open
+  pub still : IsSome (names_in old) → IsSome (names_in new)
+  -- nothing happens if the name is too long, the handle closed or its keys numbers
+  pub unasked : IsNone (shared_asked key old) → (result ≡ shared_number_for_none (name_of key) (sharing_of old)) × IsIdle old new before told
+
 -- the first caller of an empty cache: it has seen no call
-pub record IsFirst (setup : Setup) (c : View ℕ Token) : Type 0 where
+pub record IsFirst {K : Type 0} (setup : Setup) (c : View K Token) : Type 0 where
   pub config : c.known.config ≡ config_of setup
   pub seen : c.known.seen.entries ≡ []
   pub number : c.number ≡ 0
   pub left : c.left ≡ []
 
--- an opening, on a closed handle alone
-pub record IsSharedOpening (setup : Setup) (old new : SharedHandle) (result : ℕ) : Type 0 where
+-- an opening, on a closed handle alone: `found` reads the caller of a cache of its kind of keys
+pub record IsSharedOpening {K : Type 0} (found : SharedHandle → Option (View K Token)) (setup : Setup) (old new : SharedHandle) (result : ℕ) : Type 0 where
   -- if it succeeds the handle has the first caller of an empty cache
-  pub state : result ≡ 0 → IfSome (numbers_in new) (λ c. IsFirst setup c)
-  pub ok : result ≡ 0 → IsSome (numbers_in new)
+  pub state : result ≡ 0 → IfSome (found new) (λ c. IsFirst setup c)
+  pub ok : result ≡ 0 → IsSome (found new)
   -- a closed handle is refused exactly a setting out of its range, or memory
   pub refusal : IsNone (sharing_of old) → Opens (config_fault (config_of setup)) result
   -- nothing is opened twice

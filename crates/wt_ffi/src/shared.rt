@@ -3,6 +3,8 @@ pub(crate) mod calls;
 mod handle;
 pub(crate) mod keyless;
 mod make;
+pub(crate) mod name_calls;
+pub(crate) mod names;
 pub(crate) mod opening;
 pub(crate) mod pointer;
 pub(crate) mod reads;

@@ -1,6 +1,6 @@
 // Opening, sharing, meeting and closing.
 ghost use Rattle.std.specs.Prelude.{◌≡◌, ◌⊎◌, ◌<◌, None, Some, IfSome, IsNone, IsSome};
-ghost use Rattle.wt_ffi.specs.Sharing.{AreOfOne, IsAnother, IsMeeting, IsSharedOpening, another_of, sharing_of};
+ghost use Rattle.wt_ffi.specs.Sharing.{AreOfOne, IsAnother, IsMeeting, IsSharedOpening, another_of, numbers_in, sharing_of};
 
 use crate::handle::{CLOSED, OPEN};
 use crate::setup::{Setup, config_of};
@@ -11,7 +11,7 @@ use wt_shared::Caller;
 
 // Puts the caller into a closed handle, and returns 0; if memory is refused the handle stays
 // closed, and it is 1.
-fn hold(alloc: Global, handle: &mut SharedHandle, sharing: Sharing) -> u64
+pub(crate) fn hold(alloc: Global, handle: &mut SharedHandle, sharing: Sharing) -> u64
     requires { IsNone (sharing_of handle.old) }
     ensures state { result ≡ 0 → sharing_of handle.new ≡ Some sharing }
     ensures number { (result ≡ 0) ⊎ (result ≡ 1) }
@@ -32,7 +32,7 @@ fn hold(alloc: Global, handle: &mut SharedHandle, sharing: Sharing) -> u64
 /// allocation fails, in this order. The handle is then as it was. Takes memory for all the entries.
 #[unsafe(no_mangle)]
 pub extern "C" fn rd_shared_open(alloc: Global, setup: &Setup, handle: &mut SharedHandle) -> u64
-    ensures made { IsSharedOpening setup.now handle.old handle.new result }
+    ensures made { IsSharedOpening numbers_in setup.now handle.old handle.new result }
 {
     if handle.is_open {
         return OPEN;
