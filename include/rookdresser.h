@@ -13,8 +13,9 @@
  *     rd_look(&cache, 1, 0, &answer);                      answer.kind is RD_HIT, answer.token 7
  *     rd_close(&cache);
  *
- * The functions are proved for all numbers and names. This header is not proved: its structs, its signatures and
- * rd_name_of are written by hand to match the functions. The caller has to keep these rules, which nothing checks:
+ * The functions are proved for all numbers and names. This header is not proved: its structs, its signatures, rd_name_of and
+ * rd_fault_text are written by hand. A test compares the structs and the signatures with those of the functions. The caller
+ * has to keep these rules, which nothing checks:
  *
  *  - No pointer is null. Each points to one whole, aligned, live object of its type. The objects of one call don't overlap.
  *  - An rd_cache begins as RD_CACHE_INIT, and from then on only these functions write it. It may be moved, but not copied
@@ -78,20 +79,55 @@ typedef struct rd_setup {
 
 /* The result of a function. If it isn't RD_OK, the call changed no entry, load, number or moment of the cache. A call that
  * returns one of the faults from RD_CLOSED on wrote nothing at all; one that returns another fault emptied the list of
- * notices. */
+ * notices.
+ *
+ * The functions return a uint64_t. If you write switch ((enum rd_fault)fault) without a default, gcc and clang warn of each
+ * fault that has no case (-Wswitch, part of -Wall). An error of a load of yours, a number from RD_LOADING_ERRORS on, is no
+ * rd_fault, so test for it first. */
 enum rd_fault {
     RD_OK = 0,
-    RD_OUT_OF_MEMORY = 1,    /* the same call may succeed later */
-    RD_BAD_SETUP = 2,        /* rd_check returns the setting */
-    RD_TOO_HEAVY = 3,        /* the value weighs more than bound */
-    RD_TOO_MANY_FLIGHTS = 4, /* as many loads are open as flights allows */
-    RD_STEPS_SPENT = 5,      /* 2^60 steps were made */
+    RD_OUT_OF_MEMORY = 1,      /* the same call may succeed later */
+    RD_BAD_SETUP = 2,          /* rd_check returns the setting */
+    RD_TOO_HEAVY = 3,          /* the value weighs more than bound */
+    RD_TOO_MANY_FLIGHTS = 4,   /* as many loads are open as flights allows */
+    RD_STEPS_SPENT = 5,        /* 2^60 steps were made */
     RD_CLOSED = 100,
     RD_OPEN_ALREADY = 101,
     RD_NO_SUCH_NOTICE = 102,
-    RD_OTHER_KEYS = 103,     /* a call by number on a cache of names, or by name on one of numbers */
-    RD_NAME_TOO_LONG = 104   /* the name has more than 24 bytes */
+    RD_OTHER_KEYS = 103,       /* a call by number on a cache of names, or by name on one of numbers */
+    RD_NAME_TOO_LONG = 104,    /* the name has more than 24 bytes */
+    /* Of rookdresser_shared.h alone: */
+    RD_BUSY = 105,             /* another call is at work: nothing has happened, and the same call may succeed later */
+    RD_LOST = 106,             /* the cache is lost, and from now on each call is busy. No code leads here, but no clause
+                                  says so: report it */
+    /* Of rookdresser_loading.h alone, which makes them itself: */
+    RD_TIMED_OUT = 999,        /* the deadline has passed, and the load that the call waited for goes on */
+    RD_WAITS_FOR_ITSELF = 1000 /* the load waits for this very call, so it would never end */
 };
+
+/* Returns what a result means, in a few words for a log, which may change with any version. From RD_LOADING_ERRORS on, a
+ * number is the error of a load. For a number that is no fault, the text says so. */
+static inline const char *rd_fault_text(uint64_t fault) {
+    if (fault > RD_WAITS_FOR_ITSELF) return "the load failed";
+    switch ((enum rd_fault)fault) {
+    case RD_OK: return "the call did what it should";
+    case RD_OUT_OF_MEMORY: return "out of memory";
+    case RD_BAD_SETUP: return "a setting is out of its range";
+    case RD_TOO_HEAVY: return "the value is heavier than the bound";
+    case RD_TOO_MANY_FLIGHTS: return "too many loads are open";
+    case RD_STEPS_SPENT: return "2^60 steps were made";
+    case RD_CLOSED: return "the cache is closed";
+    case RD_OPEN_ALREADY: return "the cache is open already";
+    case RD_NO_SUCH_NOTICE: return "there is no such notice";
+    case RD_OTHER_KEYS: return "the cache has the other kind of keys";
+    case RD_NAME_TOO_LONG: return "the name has more than 24 bytes";
+    case RD_BUSY: return "another call is at work in the cache";
+    case RD_LOST: return "the cache is lost";
+    case RD_TIMED_OUT: return "the load hasn't ended by the deadline";
+    case RD_WAITS_FOR_ITSELF: return "the load of the key waits for this very call";
+    }
+    return "no fault has this number";
+}
 
 /* The kind of an answer, with the fields that it sets; the others are 0. */
 enum rd_kind {
@@ -301,6 +337,72 @@ uint64_t rd_advise(rd_adviser *adviser, const uint64_t *keys, size_t n, uint32_t
 
 /* Closes the adviser and frees its memory. Returns RD_CLOSED if it is closed already. */
 uint64_t rd_close_adviser(rd_adviser *adviser);
+
+/* The library was compiled for these layouts. An option or a pragma that packs structs, or another processor, would have it
+ * read and write other places than the program, without a word, so the compiler refuses such a program. C before C11 has no
+ * check of this kind, and neither has C++ before C++11. RD_FIELD_IS has where a field begins, and its size. */
+#if defined __cplusplus && __cplusplus >= 201103L
+#define RD_HOLDS(what, text) static_assert(what, text)
+#elif defined __STDC_VERSION__ && __STDC_VERSION__ >= 201112L
+#define RD_HOLDS(what, text) _Static_assert(what, text)
+#endif
+#ifdef RD_HOLDS
+#define RD_SIZE_IS(type, size) RD_HOLDS(sizeof(type) == size, #type " has another size than in the library")
+#define RD_FIELD_IS(type, field, at, size) \
+    RD_HOLDS(offsetof(type, field) == at && sizeof(((type *)0)->field) == size, #type "." #field " isn't where the library has it")
+RD_SIZE_IS(rd_cache, 16);
+RD_FIELD_IS(rd_cache, at, 0, 8);
+RD_FIELD_IS(rd_cache, is_open, 8, 1);
+RD_SIZE_IS(rd_token, 16);
+RD_FIELD_IS(rd_token, token, 0, 8);
+RD_FIELD_IS(rd_token, weight, 8, 4);
+RD_SIZE_IS(rd_name, 32);
+RD_FIELD_IS(rd_name, bytes, 0, 24);
+RD_FIELD_IS(rd_name, length, 24, 8);
+RD_SIZE_IS(rd_setup, 48);
+RD_FIELD_IS(rd_setup, entries, 0, 4);
+RD_FIELD_IS(rd_setup, window, 4, 4);
+RD_FIELD_IS(rd_setup, flights, 8, 4);
+RD_FIELD_IS(rd_setup, bound, 16, 8);
+RD_FIELD_IS(rd_setup, after_write, 24, 8);
+RD_FIELD_IS(rd_setup, after_access, 32, 8);
+RD_FIELD_IS(rd_setup, refresh, 40, 8);
+RD_SIZE_IS(rd_answer, 32);
+RD_FIELD_IS(rd_answer, kind, 0, 4);
+RD_FIELD_IS(rd_answer, weight, 4, 4);
+RD_FIELD_IS(rd_answer, token, 8, 8);
+RD_FIELD_IS(rd_answer, number, 16, 8);
+RD_FIELD_IS(rd_answer, notices, 24, 8);
+RD_SIZE_IS(rd_notice, 24);
+RD_FIELD_IS(rd_notice, key, 0, 8);
+RD_FIELD_IS(rd_notice, token, 8, 8);
+RD_FIELD_IS(rd_notice, weight, 16, 4);
+RD_FIELD_IS(rd_notice, cause, 20, 4);
+RD_SIZE_IS(rd_name_notice, 48);
+RD_FIELD_IS(rd_name_notice, key, 0, 32);
+RD_FIELD_IS(rd_name_notice, token, 32, 8);
+RD_FIELD_IS(rd_name_notice, weight, 40, 4);
+RD_FIELD_IS(rd_name_notice, cause, 44, 4);
+RD_SIZE_IS(rd_looked, 48);
+RD_FIELD_IS(rd_looked, key, 0, 8);
+RD_FIELD_IS(rd_looked, now, 8, 8);
+RD_FIELD_IS(rd_looked, answer, 16, 32);
+RD_SIZE_IS(rd_numbers, 88);
+RD_FIELD_IS(rd_numbers, lookups, 0, 8);
+RD_FIELD_IS(rd_numbers, hits, 8, 8);
+RD_FIELD_IS(rd_numbers, misses, 16, 8);
+RD_FIELD_IS(rd_numbers, loads, 24, 8);
+RD_FIELD_IS(rd_numbers, failed, 32, 8);
+RD_FIELD_IS(rd_numbers, evicted, 40, 8);
+RD_FIELD_IS(rd_numbers, entries, 48, 8);
+RD_FIELD_IS(rd_numbers, weight, 56, 8);
+RD_FIELD_IS(rd_numbers, step, 64, 8);
+RD_FIELD_IS(rd_numbers, latest, 72, 8);
+RD_FIELD_IS(rd_numbers, flights, 80, 8);
+RD_SIZE_IS(rd_adviser, 16);
+RD_FIELD_IS(rd_adviser, at, 0, 8);
+RD_FIELD_IS(rd_adviser, is_open, 8, 1);
+#endif
 
 #ifdef __cplusplus
 }

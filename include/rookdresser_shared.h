@@ -44,11 +44,6 @@ typedef struct rd_caller {
 #define RD_CALLER_INIT {0, false}
 #endif
 
-enum rd_shared_fault {
-    RD_BUSY = 105, /* another call is at work in the cache: nothing has happened, and the same call may succeed later */
-    RD_LOST = 106  /* no code leads here, but no clause says so: the cache is lost, and from now on each call is busy. Report it */
-};
-
 /* Opens an empty cache whose keys are numbers, and its first caller. Faults, in this order: RD_OPEN_ALREADY, RD_BAD_SETUP,
  * RD_OUT_OF_MEMORY. A fault leaves the caller as it was. */
 uint64_t rd_shared_open(const rd_setup *setup, rd_caller *caller);
@@ -69,7 +64,8 @@ uint64_t rd_shared_meet(rd_caller *mine, rd_caller *theirs);
 uint64_t rd_shared_close(rd_caller *caller);
 
 /* Each of the eleven calls below does at its place in the history what its namesake of rookdresser.h does, or is busy. On a
- * closed caller it returns RD_CLOSED and writes nothing; so does a call with a key if the keys are names, by RD_OTHER_KEYS. If it returns RD_BUSY or RD_LOST it writes nothing. */
+ * closed caller it returns RD_CLOSED and writes nothing; so does a call with a key if the keys are names, by RD_OTHER_KEYS. If
+ * it returns RD_BUSY or RD_LOST it writes nothing. All faults are those of rd_fault. */
 uint64_t rd_shared_look(rd_caller *caller, uint64_t key, uint64_t now, rd_answer *answer);
 uint64_t rd_shared_seek(rd_caller *caller, uint64_t key, uint64_t now, rd_answer *answer);
 uint64_t rd_shared_land_keep(rd_caller *caller, uint64_t id, uint64_t key, rd_token value, uint64_t now, rd_answer *answer);
@@ -144,6 +140,18 @@ static inline uint64_t rd_leave(rd_caller *caller, uint64_t fault) {
 #define rd_shared_get_place(c, place) RD_CHECKED(c, rd_shared_get_place(c, place))
 #define rd_shared_another(c, d) (rd_enter(c), rd_enter(d), rd_leave(c, rd_leave(d, rd_shared_another(c, d))))
 #define rd_shared_meet(c, d) (rd_enter(c), rd_enter(d), rd_leave(c, rd_leave(d, rd_shared_meet(c, d))))
+#endif
+
+/* The library knows nothing of in_use. */
+#ifdef RD_HOLDS
+#ifdef RD_CHECK
+RD_SIZE_IS(rd_caller, 24);
+RD_FIELD_IS(rd_caller, in_use, 16, 8);
+#else
+RD_SIZE_IS(rd_caller, 16);
+#endif
+RD_FIELD_IS(rd_caller, at, 0, 8);
+RD_FIELD_IS(rd_caller, is_open, 8, 1);
 #endif
 
 #ifdef __cplusplus

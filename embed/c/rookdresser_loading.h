@@ -49,7 +49,7 @@ typedef struct rd_shared {
     struct rd_shared *next; /* the next of those that left the cache by one call */
 } rd_shared;
 
-enum { RD_WAITS_FOR_ITSELF = 1000, RD_LOADING_ERRORS = 1001 };
+enum { RD_LOADING_ERRORS = RD_WAITS_FOR_ITSELF + 1 };
 
 /* Loads a key. Returns RD_OK and writes a new value and its weight, or returns an error of yours, a number from RD_LOADING_ERRORS
  * on, and writes no value. It has to return: it must neither longjmp out nor be cancelled. */

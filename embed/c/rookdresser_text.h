@@ -1,4 +1,4 @@
-/* Sentences for a log: why a setup is refused, and what a fault or a cause means.
+/* Sentences for a log: why a setup is refused, and what a cause means. rd_fault_text of rookdresser.h says what a fault means.
  *
  *     char text[RD_TEXT];
  *     if (rd_open(&setup, &cache) == RD_BAD_SETUP) rd_setup_text(&setup, text, sizeof text), puts(text);
@@ -26,25 +26,6 @@ static inline int rd_setup_text(const rd_setup *setup, char *text, size_t size) 
     case 4: return snprintf(text, size, form, "bound", (unsigned long long)setup->bound, 1ull << 48, "");
     }
     return snprintf(text, size, "%s", "");
-}
-
-/* Returns what a result of a call means: an rd_fault, or one of those of rookdresser_loading.h. */
-static inline const char *rd_fault_text(uint64_t fault) {
-    switch (fault) {
-    case RD_OK: return "the call did what it should";
-    case RD_OUT_OF_MEMORY: return "out of memory";
-    case RD_BAD_SETUP: return "a setting is out of its range";
-    case RD_TOO_HEAVY: return "the value is heavier than bound";
-    case RD_TOO_MANY_FLIGHTS: return "as many loads are open as flights allows";
-    case RD_STEPS_SPENT: return "2^60 steps were made";
-    case RD_CLOSED: return "the cache is closed";
-    case RD_OPEN_ALREADY: return "the cache is open already";
-    case RD_NO_SUCH_NOTICE: return "there is no such notice";
-    case RD_OTHER_KEYS: return "the cache has the other kind of keys";
-    case RD_NAME_TOO_LONG: return "the name has more than 24 bytes";
-    case 1000: return "the load waits for this very call"; /* RD_WAITS_FOR_ITSELF */
-    }
-    return fault > 1000 ? "the load failed" : "no fault has this number"; /* from RD_LOADING_ERRORS on */
 }
 
 /* Returns why an entry left, by its rd_cause. */

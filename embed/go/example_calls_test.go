@@ -240,7 +240,7 @@ func ExampleFault_Error() {
 	fmt.Println(err)
 	// Output:
 	// true true
-	// rookdresser: the value is heavier than Bound
+	// rookdresser: the value is heavier than the bound
 }
 
 func ExampleCause_String() {
@@ -271,7 +271,7 @@ func ExampleWeigh() {
 	fmt.Println(numbers.Weight)
 	// Output:
 	// <nil>
-	// rookdresser: the value is heavier than Bound
+	// rookdresser: the value is heavier than the bound
 	// 6
 }
 

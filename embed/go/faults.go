@@ -20,7 +20,7 @@ const (
 	ErrBadSetup       Fault = C.RD_BAD_SETUP        // a setting is out of its range
 	ErrTooHeavy       Fault = C.RD_TOO_HEAVY        // the value weighs more than its shard's part of Bound
 	ErrTooManyFlights Fault = C.RD_TOO_MANY_FLIGHTS // as many loads are open in the shard as Flights allows
-	ErrStepsSpent     Fault = C.RD_STEPS_SPENT      // 2^60 calls were made
+	ErrStepsSpent     Fault = C.RD_STEPS_SPENT      // 2^60 steps were made
 	ErrClosed         Fault = C.RD_CLOSED           // the cache is closed
 )
 
@@ -44,11 +44,11 @@ func (f Fault) Error() string {
 	case ErrBadSetup:
 		return "rookdresser: a setting is out of its range"
 	case ErrTooHeavy:
-		return "rookdresser: the value is heavier than Bound"
+		return "rookdresser: the value is heavier than the bound"
 	case ErrTooManyFlights:
 		return "rookdresser: too many loads are open"
 	case ErrStepsSpent:
-		return "rookdresser: 2^60 calls were made"
+		return "rookdresser: 2^60 steps were made"
 	case ErrClosed:
 		return "rookdresser: the cache is closed"
 	}

@@ -24,6 +24,7 @@ def facts_in(page=PAGE):
 FACTS = facts_in()
 VERSION, TOOLCHAIN, MINUTES = (FACTS[""][name] for name in ("version", "toolchain", "minutes to replay"))
 FAULTS = FACTS["faults of the program"]
+TEXTS = FACTS["faults of the library"]
 TESTED = FACTS["tested, not proved"]
 
 
@@ -40,6 +41,11 @@ def version_of_package():
 def faults():
     """The numbers of the faults with their meanings, as a sentence without its period."""
     return ", ".join("%s %s" % row for row in FAULTS.items())
+
+
+def cases_of_faults():
+    """The cases of rd_fault_text."""
+    return "".join('    case %s: return "%s";\n' % row for row in TEXTS.items())
 
 
 def table_of_options():

@@ -2,8 +2,8 @@
 from typing import Optional
 
 BAD_SETUP = 2
-FAULTS = {1: "out of memory", BAD_SETUP: "a setting is out of its range", 3: "the value is heavier than bound", 4: "too many loads are open",
-          5: "2^60 calls were made", 100: "the cache is closed"}
+FAULTS = {1: "out of memory", BAD_SETUP: "a setting is out of its range", 3: "the value is heavier than the bound", 4: "too many loads are open",
+          5: "2^60 steps were made", 100: "the cache is closed"}
 
 
 class Refused(Exception):

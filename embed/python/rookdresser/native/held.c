@@ -151,7 +151,7 @@ PyMethodDef held_methods[] = {
      "...     cache.put(\"a\", 6)\n"
      "... except Refused as refused:\n"
      "...     print(refused, refused.fault, cache.refused())\n"
-     "the value is heavier than bound 3 {3: 1}"},
+     "the value is heavier than the bound 3 {3: 1}"},
     {"window", METHOD(table_window), METH_NOARGS,
      "window($self)\n--\n\n"
      "Returns how many entries the windows may hold now, of all shards together.\n\n"
