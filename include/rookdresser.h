@@ -14,7 +14,7 @@
  *     rd_close(&cache);
  *
  * The functions are proved for all numbers and names. This header is not proved: its structs, its signatures, rd_name_of and
- * rd_fault_text are written by hand. A test compares the structs and the signatures with those of the functions. The caller
+ * rd_fault_text are written by hand. A tool compares the structs and the signatures with those of the functions. The caller
  * has to keep these rules, which nothing checks:
  *
  *  - No pointer is null. Each points to one whole, aligned, live object of its type. The objects of one call don't overlap.

@@ -1,4 +1,4 @@
-//! The declarations of `rookdresser.h`, written by hand: nothing compares the two.
+//! The declarations of `rookdresser.h`, written by hand. `tools/gate/check_bindings` compares the two.
 
 /// What the library keeps a cache or an adviser behind.
 #[repr(C)]

@@ -7,7 +7,7 @@ from places import files
 from .part import Part
 
 # The checks of pages and sources, each with the seconds that it takes.
-CHECKS = {"check_facts": 1, "check_layout": 2, "check_prose": 1, "check_guards": 1, "check_rules": 1, "check_readers": 1, "check_kit": 1,
+CHECKS = {"check_facts": 1, "check_bindings": 1, "check_layout": 2, "check_prose": 1, "check_guards": 1, "check_rules": 1, "check_readers": 1, "check_kit": 1,
           "check_checkers": 30, "check_native_steps": 1, "check_native_steps --wrong": 5}
 # Those of the program, which stands where a proved one would.
 OF_PROGRAM = {"check_program": ((), 40), "check_facts --built": ((), 1), "refuse_memory --program": (("cc",), 5), "check_tools": ((), 60),
