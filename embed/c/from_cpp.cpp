@@ -30,7 +30,13 @@ int main() {
     ok = ok && rd_loading_put(&loading, rd_seeded(seed, "alice", 5), new rd_shared(), 1, 0) == RD_OK;
     ok = ok && rd_loading_look(&loading, rd_seeded(seed, "alice", 5), 0, &got) == RD_OK && got;
     rd_loading_release(&loading, got);
-    ok = ok && rd_loading_close(&loading) == RD_OK;
+    int left = 0;
+    const timespec past = {0, 1};
+    const auto load = [](void *, uint64_t, rd_shared **value, uint32_t *) -> uint64_t { return *value = new rd_shared(), RD_OK; };
+    rd_loading_listen(&loading, [](void *context, uint64_t, rd_shared *, rd_cause cause) { *static_cast<int *>(context) += cause; }, &left);
+    ok = ok && rd_loading_get_until(&loading, 2, 0, load, nullptr, &past, &got) == RD_OK && got;
+    rd_loading_release(&loading, got);
+    ok = ok && rd_loading_close(&loading) == RD_OK && left == 2 * RD_EXPLICIT;
     rd_follower follower = RD_FOLLOWER_INIT;
     setup.entries = 512;
     ok = ok && rd_open_follower(&setup, &follower) == RD_OK && setup.window == 204 && rd_open(&setup, &cache) == RD_OK;

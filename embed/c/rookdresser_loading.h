@@ -8,16 +8,18 @@
  *     rd_loading_get(&pages, key, now_ms, load_page, context, &shared);   the page, of which the caller now has a share
  *     rd_loading_release(&pages, shared);
  *
- * Keys are numbers, or names if you define ROOKDRESSER_LOADING_NAMES before you include this header. Your load and your destroy run
- * with no lock held, and may use the cache. Each call returns an rd_fault; rd_loading_get may also return an error. After
- * rd_loading_close all calls return RD_CLOSED. The header takes no memory of its own. It was written by hand; it is tested with the
- * address, undefined-behaviour and thread sanitizers, and not proved. It needs pthreads and the __atomic functions of gcc or clang.
+ * Keys are numbers, or names if you define ROOKDRESSER_LOADING_NAMES before you include this header. Your load, your listener and your
+ * destroy run with no lock held. They may use the cache, take long or block: no call waits for them but the one that made them run, and
+ * those for the key that is loaded. They have to return: they must neither longjmp out nor be cancelled. Each call returns an rd_fault;
+ * the two gets may also return an error. After rd_loading_close all calls return RD_CLOSED. The header takes no memory of its own. It
+ * was written by hand; it is tested with the address, undefined-behaviour and thread sanitizers, and not proved. It needs pthreads and
+ * the __atomic functions of gcc or clang.
  */
 #ifndef ROOKDRESSER_LOADING_H
 #define ROOKDRESSER_LOADING_H
 #include "rookdresser_adaptive.h"
+#include "rookdresser_flights.h"
 #include "rookdresser_stats.h"
-#include <pthread.h>
 
 #ifdef ROOKDRESSER_LOADING_NAMES
 #include "rookdresser_seeded.h"
@@ -46,36 +48,31 @@ static inline uint64_t rd_loading_number(uint64_t key) { return key; }
 /* The beginning of each value. The cache has a share of each value that it holds, and a caller has one of each value that it got. */
 typedef struct rd_shared {
     long shares;
-    struct rd_shared *next; /* the next of those that left the cache by one call */
+    struct rd_shared *next; /* once its entry has left, the next of those that left by one call */
+    rd_loading_key key;     /* then, too, the entry's key, and why it left */
+    uint32_t cause;         /* an rd_cause */
 } rd_shared;
 
 enum { RD_LOADING_ERRORS = RD_WAITS_FOR_ITSELF + 1 };
 
 /* Loads a key. Returns RD_OK and writes a new value and its weight, or returns an error of yours, a number from RD_LOADING_ERRORS
- * on, and writes no value. It has to return: it must neither longjmp out nor be cancelled. */
+ * on, and writes no value. */
 typedef uint64_t rd_load(void *context, rd_loading_key key, rd_shared **value, uint32_t *weight);
 
-/* A load that is open, or a wait for one, on the stack of the thread that loads or waits. */
-typedef struct rd_flight {
-    uint64_t id;
-    pthread_t thread;
-    bool is_over;     /* of a wait: from then on it has the value, with a share, or the error */
-    rd_shared *value;
-    uint64_t error;
-    struct rd_flight *next;
-} rd_flight;
+/* Gets an entry that left, with its value, which is whole until the listener returns. */
+typedef void rd_loading_listener(void *context, rd_loading_key key, rd_shared *value, enum rd_cause cause);
 
 typedef struct rd_loading {
     pthread_mutex_t lock; /* of all that follows */
-    pthread_cond_t ended; /* some load has ended */
     rd_cache cache;
     rd_stats stats;
-    rd_flight *loads, *waits;
+    rd_flight *loads;
     void (*destroy)(rd_shared *value);
-    rd_follower follower; /* closed if the window is fixed */
+    rd_loading_listener *listener; /* null if there is none */
+    void *context;                 /* the listener's */
+    rd_follower follower;          /* closed if the window is fixed */
 } rd_loading;
-#define RD_LOADING_INIT \
-    {PTHREAD_MUTEX_INITIALIZER, PTHREAD_COND_INITIALIZER, RD_CACHE_INIT, {{0}, {0}, {0}, 0}, 0, 0, 0, RD_FOLLOWER_INIT}
+#define RD_LOADING_INIT {PTHREAD_MUTEX_INITIALIZER, RD_CACHE_INIT, {{0}, {0}, {0}, 0}, 0, 0, 0, 0, RD_FOLLOWER_INIT}
 
 /* Opens an empty cache, as rd_open does. The cache calls destroy for each value once nobody has a share of it. */
 static inline uint64_t rd_loading_open(rd_loading *l, const rd_setup *setup, void (*destroy)(rd_shared *value)) {
@@ -102,6 +99,22 @@ static inline uint64_t rd_loading_open_adaptive(rd_loading *l, const rd_setup *s
     return fault;
 }
 
+/* Has the listener get each entry that leaves from now on, once: one that is dropped, cleared, closed over, replaced, expired or evicted.
+ * A value that was never stored is no entry, as that of a put that was refused. Null ends it. You may call it before the cache is open;
+ * a close changes nothing of it.
+ *
+ * The listener runs with no lock held, in the thread whose call removed the entry: after a load of that call has landed, and before the
+ * call returns or sleeps. It may use the cache, take long or block; only its own call waits for it. Afterwards the cache gives up its
+ * share of the value, unless rd_loading_share took another. Entries that one call removed come in the order of their notices. Not
+ * promised: the order of entries that the calls of several threads removed. A call that is at work as you change the listener may call
+ * the one before. Takes the lock, and no memory. O(1). */
+static inline void rd_loading_listen(rd_loading *l, rd_loading_listener *listener, void *context) {
+    pthread_mutex_lock(&l->lock);
+    l->listener = listener;
+    l->context = context;
+    pthread_mutex_unlock(&l->lock);
+}
+
 /* Returns how many entries the window may hold now, of a cache whose window follows the look-ups; 0 of another one. */
 static inline uint32_t rd_loading_window(rd_loading *l) {
     pthread_mutex_lock(&l->lock);
@@ -121,14 +134,16 @@ static inline void rd_loading_release(rd_loading *l, rd_shared *value) {
     if (value && __atomic_sub_fetch(&value->shares, 1, __ATOMIC_ACQ_REL) == 0) l->destroy(value);
 }
 
-/* Counts a call. Returns its fault, with what left by it put before `left`. The lock is held. */
+/* Counts a call. Returns its fault, with what left by it put before `left`, in the order of its notices. The lock is held. */
 static inline uint64_t rd_loading_made(rd_loading *l, uint64_t fault, const rd_answer *answer, rd_shared **left) {
     rd_loading_notice notice;
     if (rd_count(&l->stats, fault, answer)) return fault;
-    for (uint64_t i = 0; i < answer->notices; i++) {
+    for (uint64_t i = answer->notices; i-- > 0;) {
         RD_LOADING_NOTICE(&l->cache, i, &notice);
         rd_count_left(&l->stats, notice.cause);
         rd_shared *value = (rd_shared *)(uintptr_t)notice.token;
+        value->key = notice.key;
+        value->cause = notice.cause;
         value->next = *left;
         *left = value;
     }
@@ -140,14 +155,25 @@ static inline void rd_loading_follow(rd_loading *l, uint64_t fault, rd_loading_k
     if (fault < RD_CLOSED && l->follower.adviser.is_open) rd_follow(&l->follower, &l->cache, rd_loading_number(key));
 }
 
-/* Gives the lock back, and then gives up the cache's share of what left. */
-static inline void rd_loading_leave(rd_loading *l, rd_shared *left) {
+/* Gives the lock back. Then the listener gets what left, and the cache's share of it is given up. */
+static inline void rd_loading_tell(rd_loading *l, rd_shared *left) {
+    rd_loading_listener *listener = l->listener;
+    void *context = l->context;
     pthread_mutex_unlock(&l->lock);
     while (left) {
         rd_shared *next = left->next;
+        if (listener) listener(context, left->key, left, (enum rd_cause)left->cause);
         rd_loading_release(l, left);
         left = next;
     }
+}
+
+/* Gives the lock back, and lets go of what left, which most calls have none of. */
+static inline void rd_loading_leave(rd_loading *l, rd_shared *left) {
+    if (left)
+        rd_loading_tell(l, left);
+    else
+        pthread_mutex_unlock(&l->lock);
 }
 
 static inline rd_token rd_loading_token(rd_shared *value, uint32_t weight) {
@@ -182,54 +208,24 @@ static inline uint64_t rd_loading_look(rd_loading *l, rd_loading_key key, uint64
     return fault;
 }
 
-/* Whether the load waits for this thread: its own thread is it, or waits for a load of this cache that does. The lock is held. */
-static inline bool rd_loading_waits_for(const rd_loading *l, uint64_t id, pthread_t thread) {
-    for (;;) {
-        const rd_flight *at = l->loads, *wait = l->waits;
-        while (at && at->id != id) at = at->next;
-        if (!at) return false;
-        if (pthread_equal(at->thread, thread)) return true;
-        while (wait && !pthread_equal(wait->thread, at->thread)) wait = wait->next;
-        if (!wait) return false;
-        id = wait->id;
-    }
-}
-
-/* Waits for the load of this id, once the lock is given back for what left. The lock is held, and given back. */
-static inline uint64_t rd_loading_join(rd_loading *l, uint64_t id, rd_shared *left, rd_shared **value) {
-    rd_flight wait = {id, pthread_self(), false, 0, RD_OK, l->waits};
-    if (rd_loading_waits_for(l, id, wait.thread)) {
-        rd_loading_leave(l, left);
-        return RD_WAITS_FOR_ITSELF;
-    }
-    l->waits = &wait;
+/* Waits for a load, once the lock is given back for what left. The lock is held, and given back. Whether the load waits for this thread
+ * is looked at as the thread is about to sleep: a listener or a destroy may make loads before. */
+static inline uint64_t rd_loading_join(rd_loading *l, rd_flight *of, const struct timespec *deadline, rd_shared *left, rd_shared **value) {
+    rd_wait wait;
+    uint64_t fault = RD_OK;
+    rd_wait_begin(&wait, of, deadline != 0);
     if (left) {
         rd_loading_leave(l, left);
         pthread_mutex_lock(&l->lock);
     }
-    while (!wait.is_over) pthread_cond_wait(&l->ended, &l->lock);
+    if (!wait.is_over && rd_flight_waits_for(l->loads, of, wait.thread))
+        fault = RD_WAITS_FOR_ITSELF;
+    else if (!rd_wait_sleep(&wait, &l->lock, deadline))
+        fault = RD_TIMED_OUT;
+    rd_wait_end(&wait);
     pthread_mutex_unlock(&l->lock);
     *value = wait.value;
-    return wait.error;
-}
-
-/* Ends a load, and hands its value or its error to those who wait for it. The lock is held. */
-static inline void rd_loading_end(rd_loading *l, const rd_flight *of) {
-    rd_flight **at = &l->loads;
-    while (*at != of) at = &(*at)->next;
-    *at = of->next;
-    for (at = &l->waits; *at;) {
-        rd_flight *wait = *at;
-        if (wait->id != of->id) {
-            at = &wait->next;
-            continue;
-        }
-        *at = wait->next;
-        wait->value = rd_loading_share(of->value);
-        wait->error = of->error;
-        wait->is_over = true;
-    }
-    pthread_cond_broadcast(&l->ended);
+    return fault ? fault : wait.error;
 }
 
 /* Closes a load. A value of which memory is refused isn't stored. The lock is held. */
@@ -250,33 +246,44 @@ static inline void rd_loading_land(rd_loading *l, const rd_flight *of, rd_loadin
     if (fault || answer.kind != RD_KEPT) rd_loading_release(l, of->value);
 }
 
-/* Makes a load. The lock is held, and given back. `old` is the value of an entry that was due, with a share, or none. */
-static inline uint64_t rd_loading_lead(rd_loading *l, uint64_t id, rd_loading_key key, uint64_t now, rd_load *load, void *context,
-                                       rd_shared *left, rd_shared *old, rd_shared **value) {
-    rd_flight of = {id, pthread_self(), false, 0, RD_OK, l->loads};
+/* A load that a thread has to make. */
+typedef struct rd_loading_task {
+    uint64_t id;
+    rd_loading_key key;
+    uint64_t now;
+    rd_load *load;
+    void *context;
+    rd_shared *old; /* the value of an entry that was due, with a share, or none */
+} rd_loading_task;
+
+/* Makes a load. The lock is held, and given back. */
+static inline uint64_t rd_loading_lead(rd_loading *l, const rd_loading_task *task, rd_shared *left, rd_shared **value) {
+    rd_flight of = {task->id, pthread_self(), 0, RD_OK, 0, l->loads};
     uint32_t weight = 1;
+    rd_shared *landed = 0, **end = &left; /* what left by the landing comes behind what left by the look-up */
     l->loads = &of;
     pthread_mutex_unlock(&l->lock);
-    of.error = load(context, key, &of.value, &weight);
+    of.error = task->load(task->context, task->key, &of.value, &weight);
     if (of.error)
         of.value = 0;
     else
         of.value->shares = 1;
     pthread_mutex_lock(&l->lock);
-    rd_loading_land(l, &of, key, weight, now, &left);
-    rd_loading_end(l, &of);
+    rd_loading_land(l, &of, task->key, weight, task->now, &landed);
+    while (*end) end = &(*end)->next;
+    *end = landed;
+    long waits = rd_flight_end(&l->loads, &of);
+    if (of.value) __atomic_add_fetch(&of.value->shares, waits, __ATOMIC_RELAXED);
     rd_loading_leave(l, left);
-    *value = of.error ? old : of.value;
-    if (of.error) return old ? (uint64_t)RD_OK : of.error;
-    rd_loading_release(l, old);
+    *value = of.error ? task->old : of.value;
+    if (of.error) return task->old ? (uint64_t)RD_OK : of.error;
+    rd_loading_release(l, task->old);
     return RD_OK;
 }
 
-/* Writes the key's value, with a share for the caller. If there is none, or it is due for another load, this thread loads it, and all
- * threads that ask meanwhile share the load. While an entry that is due is loaded, the others get the old value; if the load fails,
- * this thread gets it too. Returns RD_WAITS_FOR_ITSELF if a load asks for its own key, or for a key of this cache whose load waits
- * for this thread; or the error of the load. The value's age counts from now. With an error or a fault it writes null. */
-static inline uint64_t rd_loading_get(rd_loading *l, rd_loading_key key, uint64_t now, rd_load *load, void *context, rd_shared **value) {
+/* Inside rd_loading_get: looks the key up, and loads it or waits for its load. */
+static inline uint64_t rd_loading_ask(rd_loading *l, rd_loading_key key, uint64_t now, rd_load *load, void *context,
+                                      const struct timespec *deadline, rd_shared **value) {
     rd_answer answer;
     rd_shared *left = 0, *held = 0;
     *value = 0;
@@ -288,13 +295,47 @@ static inline uint64_t rd_loading_get(rd_loading *l, rd_loading_key key, uint64_
         rd_loading_leave(l, left);
         return fault;
     }
-    if (answer.kind == RD_JOIN) return rd_loading_join(l, answer.number, left, value);
+    if (answer.kind == RD_JOIN) return rd_loading_join(l, rd_flight_of(l->loads, answer.number), deadline, left, value);
     if (answer.kind != RD_LEAD) held = rd_loading_share((rd_shared *)(uintptr_t)answer.token);
-    if (answer.kind != RD_HIT) return rd_loading_lead(l, answer.number, key, now, load, context, left, held, value);
+    if (answer.kind != RD_HIT) {
+        const rd_loading_task task = {answer.number, key, now, load, context, held};
+        return rd_loading_lead(l, &task, left, value);
+    }
     rd_loading_leave(l, left);
     *value = held;
     return RD_OK;
 }
+
+/* Writes the key's value, with a share for the caller. If there is none, or it is due for another load, this thread loads it, and all
+ * threads that ask meanwhile share the load. While an entry that is due is loaded, the others get the old value; if the load fails,
+ * this thread gets it too. The value's age counts from now. With an error or a fault it writes null.
+ *
+ * Faults, in this order: those of rd_seek, or of rd_seek_name; RD_WAITS_FOR_ITSELF if a load asks for its own key, or for a key of this
+ * cache whose load waits for this thread; the error of the load. Takes the lock for the look-up and for the landing, and waits with no
+ * lock held. Not promised: that a load ends, nor that a circle is found that leads through another cache or through threads that a
+ * load starts. */
+static inline uint64_t rd_loading_get(rd_loading *l, rd_loading_key key, uint64_t now, rd_load *load, void *context, rd_shared **value) {
+    return rd_loading_ask(l, key, now, load, context, 0, value);
+}
+
+#ifdef CLOCK_MONOTONIC
+/* The same, but it waits for another thread's load until the deadline at most, an absolute time of CLOCK_MONOTONIC:
+ *
+ *  - a value that is there is written, whatever the deadline;
+ *  - a load that this thread has to make is made, whatever the deadline;
+ *  - if another thread's load ends by the deadline, its value is written, or its error returned;
+ *  - else it returns RD_TIMED_OUT, and writes null. The load goes on, for the others and for the cache, and the same call may succeed
+ *    later. The counts keep the caller among those that shared the load.
+ *
+ * Faults, in this order: those of rd_loading_get before the load's error; RD_TIMED_OUT; the error of the load. A deadline that has passed
+ * ends the wait at once, and so does one whose tv_nsec isn't from 0 to 999,999,999. RD_WAITS_FOR_ITSELF comes also if a wait of the
+ * circle has a deadline. Not promised: how soon after the deadline the call returns. <time.h> hides CLOCK_MONOTONIC, and so this call,
+ * if the compiler is asked for strict C, as by -std=c11: write -std=gnu11, or define _POSIX_C_SOURCE as 200809L. */
+static inline uint64_t rd_loading_get_until(rd_loading *l, rd_loading_key key, uint64_t now, rd_load *load, void *context,
+                                            const struct timespec *deadline, rd_shared **value) {
+    return rd_loading_ask(l, key, now, load, context, deadline, value);
+}
+#endif
 
 /* Removes the key's entry. An open load of the key will store nothing. */
 static inline uint64_t rd_loading_drop(rd_loading *l, rd_loading_key key, uint64_t now) {

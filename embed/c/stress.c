@@ -1,6 +1,6 @@
-/* Eight threads on one loading cache, 100,000 requests. With expiry, refresh, failing loads, invalidations during loads; the same with
- * a window that follows; and a cache that is closed while in use. Afterwards exactly the values live that the library holds, and in
- * the end none. */
+/* Eight threads on one loading cache, 100,000 requests. With expiry, refresh, failing loads, invalidations during loads, waits with a
+ * deadline, and a listener that gets and looks up other keys; the same with a window that follows; and a cache that is closed while in
+ * use. Afterwards exactly the values live that the library holds, and in the end none. The listener got each entry that left, once. */
 #include "keys.h"
 #ifdef NAMES
 #define ROOKDRESSER_LOADING_NAMES
@@ -24,6 +24,7 @@
 typedef struct value {
     rd_shared shared;
     uint64_t key;
+    atomic_bool has_left;
 } value;
 
 static atomic_long live;
@@ -34,6 +35,7 @@ static rd_shared *new_value(uint64_t key) {
     CHECK(v);
     live++;
     v->key = key;
+    v->has_left = false;
     return &v->shared;
 }
 
@@ -63,14 +65,18 @@ static uint64_t load(void *context, rd_loading_key key, rd_shared **got, uint32_
     return RD_OK;
 }
 
+/* A third of the gets have a deadline: it has passed, or is far away. */
 static uint64_t get(rd_loading *l, uint64_t key, unsigned what) {
+    static const struct timespec deadlines[] = {{0, 1}, {INT32_MAX, 0}};
     request r = {l, key, what};
     rd_shared *got;
-    uint64_t fault = rd_loading_get(l, KEY(key), moment, load, &r, &got);
+    uint64_t fault = what % 6 < 2 ? rd_loading_get_until(l, KEY(key), moment, load, &r, &deadlines[what % 6], &got)
+                                  : rd_loading_get(l, KEY(key), moment, load, &r, &got);
     CHECK(!got == (fault != RD_OK));
     CHECK(!got || ((value *)got)->key == key);
     rd_loading_release(l, got);
-    return fault == RD_TOO_MANY_FLIGHTS || fault == RD_LOADING_ERRORS ? RD_OK : fault;
+    if (fault == RD_TIMED_OUT) CHECK(what % 6 == 0);
+    return fault == RD_TOO_MANY_FLIGHTS || fault == RD_LOADING_ERRORS || fault == RD_TIMED_OUT ? RD_OK : fault;
 }
 
 static uint64_t look(rd_loading *l, uint64_t key) {
@@ -79,6 +85,34 @@ static uint64_t look(rd_loading *l, uint64_t key) {
     CHECK(!got || ((value *)got)->key == key);
     rd_loading_release(l, got);
     return fault;
+}
+
+/* What the listener of a cache got, by causes. */
+typedef struct tally {
+    rd_loading *of;
+    atomic_ullong left[RD_SIZE + 1];
+} tally;
+
+/* Each value comes once, under its key. Now and then it uses the cache. If it does so within a load of this thread, a circle may close. */
+static void count_left(void *context, rd_loading_key key, rd_shared *shared, enum rd_cause cause) {
+    static _Thread_local int depth;
+    tally *to = context;
+    value *v = (value *)shared;
+    rd_loading_key wanted = KEY(v->key);
+    CHECK(!atomic_exchange(&v->has_left, true) && memcmp(&key, &wanted, sizeof key) == 0);
+    to->left[cause]++;
+    if (depth > 1 || v->key % 8 > 1) return;
+    depth++;
+    uint64_t fault = v->key % 8 ? look(to->of, v->key / 2) : get(to->of, v->key / 2, 6);
+    CHECK(fault == RD_OK || fault == RD_CLOSED || fault == RD_WAITS_FOR_ITSELF);
+    depth--;
+}
+
+/* The counts of the cache are those of the listener. */
+static void check_told(rd_loading *l, const tally *to) {
+    rd_stats s;
+    CHECK(rd_loading_numbers(l, 0, &s) == RD_OK);
+    for (int cause = RD_EXPLICIT; cause <= RD_SIZE; cause++) CHECK(s.left[cause] == to->left[cause]);
 }
 
 typedef struct worker {
@@ -115,10 +149,12 @@ static void *work(void *given) {
     return 0;
 }
 
-static void run(rd_loading *l, bool adapts, bool closes) {
+static void run(rd_loading *l, tally *to, bool adapts, bool closes) {
     static const rd_setup setup = {.entries = 520, .window = 5, .flights = 64, .bound = 4000, .after_write = 1500, .refresh = 600};
     worker workers[THREADS];
     CHECK((adapts ? rd_loading_open_adaptive : rd_loading_open)(l, &setup, destroy) == RD_OK);
+    to->of = l;
+    rd_loading_listen(l, count_left, to);
     for (uint64_t i = 0; i < THREADS; i++) {
         workers[i].of = l;
         workers[i].rng = i * 104729 + 3;
@@ -132,11 +168,12 @@ static void run(rd_loading *l, bool adapts, bool closes) {
         CHECK(rd_loading_close(l) == RD_OK);
     }
     for (int i = 0; i < THREADS; i++) CHECK(!pthread_join(workers[i].thread, 0));
-    CHECK(!l->loads && !l->waits);
+    CHECK(!l->loads);
+    check_told(l, to);
 }
 
 /* After the requests: exactly the values live that the library holds, and the counts add up. */
-static void check_whole(rd_loading *l) {
+static void check_whole(rd_loading *l, const tally *to) {
     rd_numbers n;
     rd_stats s;
     CHECK(rd_loading_numbers(l, &n, &s) == RD_OK);
@@ -155,15 +192,17 @@ static void check_whole(rd_loading *l) {
 #endif
     CHECK(rd_loading_clear(l, moment) == RD_OK && live == 0);
     CHECK(rd_loading_close(l) == RD_OK);
+    check_told(l, to);
 }
 
 int main(void) {
     static rd_loading fixed = RD_LOADING_INIT, adapted = RD_LOADING_INIT, closed = RD_LOADING_INIT;
-    run(&fixed, false, false);
-    check_whole(&fixed);
-    run(&adapted, true, false);
-    check_whole(&adapted);
-    run(&closed, true, true);
+    static tally of_fixed, of_adapted, of_closed;
+    run(&fixed, &of_fixed, false, false);
+    check_whole(&fixed, &of_fixed);
+    run(&adapted, &of_adapted, true, false);
+    check_whole(&adapted, &of_adapted);
+    run(&closed, &of_closed, true, true);
     CHECK(live == 0 && rd_loading_close(&closed) == RD_CLOSED);
     puts("stress: ok");
     return 0;
