@@ -338,9 +338,9 @@ uint64_t rd_advise(rd_adviser *adviser, const uint64_t *keys, size_t n, uint32_t
 /* Closes the adviser and frees its memory. Returns RD_CLOSED if it is closed already. */
 uint64_t rd_close_adviser(rd_adviser *adviser);
 
-/* The library was compiled for these layouts. An option or a pragma that packs structs, or another processor, would have it
- * read and write other places than the program, without a word, so the compiler refuses such a program. C before C11 has no
- * check of this kind, and neither has C++ before C++11. RD_FIELD_IS has where a field begins, and its size. */
+/* The library was compiled for these layouts. With an option or a pragma that packs structs, or in a program of 32 bits, it
+ * would read and write other places than the program does, without a word. So the compiler refuses such a program; C before
+ * C11 and C++ before C++11 have no check of this kind. RD_FIELD_IS has where a field begins, and its size. */
 #if defined __cplusplus && __cplusplus >= 201103L
 #define RD_HOLDS(what, text) static_assert(what, text)
 #elif defined __STDC_VERSION__ && __STDC_VERSION__ >= 201112L
