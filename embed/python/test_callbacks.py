@@ -25,7 +25,7 @@ class Callbacks(CacheTest):
 
         def ask(_):
             try:
-                cache.get("a", load)
+                cache.get_or_load("a", load)
             except KeyError as error:
                 raised.append(error.args)
 
@@ -46,7 +46,7 @@ class Callbacks(CacheTest):
 
             def ask(_):
                 try:
-                    self.assertEqual(cache.get("a", load), 7)
+                    self.assertEqual(cache.get_or_load("a", load), 7)
                 except ending as error:
                     ended.append(error)
 
@@ -59,12 +59,12 @@ class Callbacks(CacheTest):
 
         def load(key):
             try:
-                cache.get(key, load)
+                cache.get_or_load(key, load)
             except WaitsForItself as error:
                 told.append(error)
             return 7
 
-        self.assertEqual(within_a_minute(lambda: cache.get("a", load)), 7)
+        self.assertEqual(within_a_minute(lambda: cache.get_or_load("a", load)), 7)
         self.assertEqual(len(told), 1)
         self.holds_exactly(cache, 1)
 
@@ -75,12 +75,12 @@ class Callbacks(CacheTest):
             def load(key):
                 gate.wait()
                 try:
-                    cache.get(1 - key, lambda key: key)
+                    cache.get_or_load(1 - key, lambda key: key)
                 except WaitsForItself as error:
                     told.append(error)
                 return key
 
-            self.assertEqual(cache.get(i, load), i)
+            self.assertEqual(cache.get_or_load(i, load), i)
 
         within_a_minute(lambda: together(2, ask))
         self.assertEqual(len(told), 1)
@@ -91,9 +91,9 @@ class Callbacks(CacheTest):
 
         def load(key):
             cache.put(key, 5)
-            return cache.get("b", lambda key: 20) + 1
+            return cache.get_or_load("b", lambda key: 20) + 1
 
-        self.assertEqual(cache.get("a", load), 21)
+        self.assertEqual(cache.get_or_load("a", load), 21)
         self.assertEqual((cache.look("a"), cache.look("b"), cache.stats().loose), (5, 20, 1))
         self.holds_exactly(cache, 2)
 
@@ -105,7 +105,7 @@ class Callbacks(CacheTest):
             cache.close()
             return 7
 
-        self.assertEqual(cache.get("a", load), 7)
+        self.assertEqual(cache.get_or_load("a", load), 7)
         self.assertEqual((left, cache.kept()), ([("b", 1, "explicit")], (0, 0)))
 
     def test_who_waits_for_a_load_may_give_up(self):
@@ -116,11 +116,11 @@ class Callbacks(CacheTest):
             may_end.wait()
             return 7
 
-        leader = threading.Thread(target=lambda: cache.get("a", load))
+        leader = threading.Thread(target=lambda: cache.get_or_load("a", load))
         leader.start()
         begun.wait()
         with self.assertRaises(TimeoutError):
-            cache.get("a", load, timeout=0.01)
+            cache.get_or_load("a", load, timeout=0.01)
         may_end.set()
         leader.join()
         self.assertEqual(cache.look("a"), 7)
@@ -134,7 +134,7 @@ class Callbacks(CacheTest):
             now[0] = 1080
             return 7
 
-        self.assertEqual(cache.get("a", load), 7)
+        self.assertEqual(cache.get_or_load("a", load), 7)
         now[0] = 1099
         self.assertEqual(cache.look("a"), 7)
         now[0] = 1100
@@ -147,18 +147,18 @@ class Callbacks(CacheTest):
             weight = [wrong]
             cache = Cache(entries=10, bound=100, weigh=lambda key, value: weight[0]())
             with self.assertRaises(error):
-                within_a_minute(lambda: cache.get("a", lambda key: 7))
+                within_a_minute(lambda: cache.get_or_load("a", lambda key: 7))
             with self.assertRaises(error):
                 cache.put("a", 7)
             self.holds_exactly(cache, 0)
             weight[0] = lambda: 1
-            self.assertEqual(within_a_minute(lambda: cache.get("a", lambda key: 8)), 8)
+            self.assertEqual(within_a_minute(lambda: cache.get_or_load("a", lambda key: 8)), 8)
             self.holds_exactly(cache, 1)
 
     def test_a_clock_that_is_no_whole_number_moves_nothing(self):
         for wrong, error in ((time.monotonic, TypeError), (lambda: -1, ValueError), (lambda: 2 ** 64, ValueError), (lambda: 1 // 0, ZeroDivisionError)):
             cache = Cache(entries=10, clock=wrong)
-            for call in (lambda: cache.put("a", 1), lambda: cache.get("a", lambda key: 1), lambda: cache.look("a"), lambda: cache.drop("a"), cache.clear):
+            for call in (lambda: cache.put("a", 1), lambda: cache.get_or_load("a", lambda key: 1), lambda: cache.look("a"), lambda: cache.drop("a"), cache.clear):
                 with self.assertRaises(error):
                     within_a_minute(call)
             self.holds_exactly(cache, 0)
@@ -169,7 +169,7 @@ class Callbacks(CacheTest):
 
         def is_there(key, moment):
             now[0] = moment
-            return key in cache
+            return cache.get(key) is not None
 
         self.assertFalse(is_there("a", 1000))
         now[0] = 5
@@ -178,7 +178,7 @@ class Callbacks(CacheTest):
         self.assertFalse(is_there("a", 1100))
         # So does a landing whose get was made before a call at a later moment.
         now[0] = 2000
-        cache.get("b", lambda key: is_there("a", 2090))
+        cache.get_or_load("b", lambda key: is_there("a", 2090))
         self.assertTrue(is_there("b", 2189))
         self.assertFalse(is_there("b", 2190))
         self.holds_exactly(cache, 0)
@@ -196,7 +196,7 @@ class Callbacks(CacheTest):
 
         asked = []
         cache = Cache(entries=10, weigh=weigh, clock=clock)
-        self.assertEqual(within_a_minute(lambda: cache.get("a", lambda key: 7)), 7)
+        self.assertEqual(within_a_minute(lambda: cache.get_or_load("a", lambda key: 7)), 7)
         self.holds_exactly(cache, 1)
 
     def callbacks(self, act):
@@ -262,7 +262,7 @@ class Callbacks(CacheTest):
         for name, cache, key in self.callbacks(blocks):
             def meanwhile(cache=cache):
                 begun.wait()
-                self.assertEqual(cache.get("b", lambda key: 20), 20)
+                self.assertEqual(cache.get_or_load("b", lambda key: 20), 20)
                 self.assertEqual(cache.look("b"), 20)
                 end.wait()
 
@@ -287,8 +287,8 @@ class Callbacks(CacheTest):
         with self.assertLogs("rookdresser", logging.ERROR) as logged:
             cache.put("a", 1)
             now[0] = 200
-            self.assertEqual(within_a_minute(lambda: cache.get("a", lambda key: 2)), 2)
-            self.assertEqual(within_a_minute(lambda: cache.get("a", lambda key: 3)), 2)
+            self.assertEqual(within_a_minute(lambda: cache.get_or_load("a", lambda key: 2)), 2)
+            self.assertEqual(within_a_minute(lambda: cache.get_or_load("a", lambda key: 3)), 2)
             cache.put("a", 4)
             cache.put("b", 5)
             self.assertEqual(told, [("a", 1, "expired"), ("a", 2, "replaced")])
@@ -314,10 +314,10 @@ class Callbacks(CacheTest):
 
     def test_on_leave_may_ask_for_the_key_that_left(self):
         now, told = [0], []
-        cache = Cache(entries=10, after_write=100, clock=lambda: now[0], on_leave=lambda key, value, cause: told.append(cache.get(key, lambda key: 9)))
+        cache = Cache(entries=10, after_write=100, clock=lambda: now[0], on_leave=lambda key, value, cause: told.append(cache.get_or_load(key, lambda key: 9)))
         cache.put("a", 1)
         now[0] = 200
-        self.assertEqual(within_a_minute(lambda: cache.get("a", lambda key: 2)), 2)
+        self.assertEqual(within_a_minute(lambda: cache.get_or_load("a", lambda key: 2)), 2)
         # The value that the get loaded was there by the time that on_leave was called.
         self.assertEqual(told, [2])
         self.holds_exactly(cache, 1)
@@ -332,12 +332,12 @@ class Callbacks(CacheTest):
 
         def meanwhile():
             begun.wait()
-            self.assertEqual(cache.get("b", lambda key: 20), 20)
+            self.assertEqual(cache.get_or_load("b", lambda key: 20), 20)
             self.assertIsNone(cache.look("c"))
             end.wait()
 
         cache = Cache(entries=10, on_leave=block)
-        for blocked in (lambda: cache.get("a", block), lambda: cache.drop("a")):
+        for blocked in (lambda: cache.get_or_load("a", block), lambda: cache.drop("a")):
             thread = threading.Thread(target=blocked)
             thread.start()
             within_a_minute(meanwhile)
@@ -375,12 +375,12 @@ class Callbacks(CacheTest):
             async def returns_one(key):
                 return plainly(key)
 
-            await cache.aget("a", returns_one)
+            await cache.aget_or_load("a", returns_one)
 
-        for call, why in ((lambda cache: cache.get("a", plainly), "load returned a coroutine: use aget"),
+        for call, why in ((lambda cache: cache.get_or_load("a", plainly), "load returned a coroutine: use aget_or_load"),
                           (lambda cache: asyncio.run(by_aget(cache)), "the loaded value is a coroutine, which could be awaited once"),
                           (lambda cache: cache.get_many("a", lambda keys: {"a": plainly("a")}), "the loaded value is a coroutine, which could be awaited once"),
-                          (lambda cache: cache.get_many("a", plainly), "load_many returned a coroutine, and has to return a mapping"),
+                          (lambda cache: cache.get_many("a", plainly), "load_many returned a coroutine, and has to return a mapping: use aget_many"),
                           (lambda cache: cached(entries=10)(plainly)("a"), "the function returned a coroutine, and isn't an async function")):
             cache = Cache(entries=10)
             with self.subTest(why), self.assertRaises(TypeError) as caught:
@@ -392,22 +392,22 @@ class Callbacks(CacheTest):
         cache = Cache(entries=10)
 
         async def work():
-            future = cache.get("a", lambda key: asyncio.get_running_loop().create_future())
+            future = cache.get_or_load("a", lambda key: asyncio.get_running_loop().create_future())
             future.set_result(7)
-            return [await cache.get("a", None) for _ in range(2)]
+            return [await cache.get_or_load("a", None) for _ in range(2)]
 
         self.assertEqual(asyncio.run(work()), [7, 7])
 
     def test_a_default_in_place_of_a_loader_is_told_what_to_call(self):
-        cache, why = Cache(entries=10), "load has to be callable; for a default use look(key, default)"
+        cache, why = Cache(entries=10), "load has to be callable; for a default call get(key, default)"
         for wrong in (5, None):
-            for call in (lambda: cache.get("a", wrong), lambda: asyncio.run(cache.aget("a", wrong))):
+            for call in (lambda: cache.get_or_load("a", wrong), lambda: asyncio.run(cache.aget_or_load("a", wrong))):
                 with self.assertRaises(TypeError) as caught:
                     call()
                 self.assertEqual(str(caught.exception), why)
         with self.assertRaisesRegex(TypeError, "^load_many has to be callable$"):
             cache.get_many("a", 5)
-        self.assertEqual(cache.get("a", lambda key: 7), 7)
+        self.assertEqual(cache.get_or_load("a", lambda key: 7), 7)
         self.holds_exactly(cache, 1)
 
     # Settings.
@@ -440,7 +440,8 @@ class Callbacks(CacheTest):
                 Cache(**settings)
             self.assertEqual((caught.exception.fault, str(caught.exception)), (2, why))
         for name in ("entries", "shards", "window", "flights", "bound", "after_write", "after_access", "refresh"):
-            with self.assertRaisesRegex(TypeError, "^%s is 10.0, and has to be a whole number$" % name):
+            of = " of milliseconds or a timedelta" if name in ("after_write", "after_access", "refresh") else ""
+            with self.assertRaisesRegex(TypeError, "^%s is 10.0, and has to be a whole number%s$" % (name, of)):
                 Cache(**{"entries": 10, name: 10.0})
         for settings in ({"entries": 65_536, "shards": 1}, {"entries": 131_072, "shards": 2}, {"entries": 10, "window": 10, "flights": 4096, "bound": 2 ** 48},
                          {"entries": 1, "window": 1, "flights": 1, "bound": 1, "shards": 4096}, {"entries": 10, "refresh": 4, "after_write": 5},

@@ -67,7 +67,7 @@ class Circles(CacheTest):
             while len(begun) < keys:
                 await asyncio.sleep(0)
             try:
-                await way(cache.aget((key + 1) % keys, load))
+                await way(cache.aget_or_load((key + 1) % keys, load))
             except WaitsForItself:
                 told.append(key)
             except BaseException as error:  # a group's
@@ -77,7 +77,7 @@ class Circles(CacheTest):
             return key
 
         async def work():
-            return await asyncio.gather(*(cache.aget(key, load) for key in range(keys)))
+            return await asyncio.gather(*(cache.aget_or_load(key, load) for key in range(keys)))
 
         self.assertEqual(self.run_in_loop(work), list(range(keys)))
         self.holds_exactly(cache, keys)
@@ -106,7 +106,7 @@ class Circles(CacheTest):
         def load(key):
             begun.wait()
             try:
-                other.get("b", None)
+                other.get_or_load("b", None)
             except WaitsForItself:
                 told.append("the thread")
             return 1
@@ -114,13 +114,13 @@ class Circles(CacheTest):
         async def load_in_loop(key):
             await asyncio.get_running_loop().run_in_executor(None, begun.wait)
             try:
-                await by_gather(one.aget("a", never))
+                await by_gather(one.aget_or_load("a", never))
             except WaitsForItself:
                 told.append("the task")
             return 2
 
         def work(i):
-            return asyncio.run(other.aget("b", load_in_loop)) if i else one.get("a", load)
+            return asyncio.run(other.aget_or_load("b", load_in_loop)) if i else one.get_or_load("a", load)
 
         within_a_minute(lambda: together(2, work))
         self.assertEqual((len(told), one.look("a"), other.look("b")), (1, 1, 2))
@@ -138,9 +138,9 @@ class Circles(CacheTest):
 
         for run in (by_run, by_run_until_complete):
             cache = Cache(entries=10)
-            function = cached(entries=10)(lambda key: run(function.cache.aget((key,), never)))
-            for call in (lambda: cache.get("a", lambda key: run(cache.aget(key, never))),
-                         lambda: cache.get_many("ab", lambda keys: {key: run(cache.aget(key, never)) for key in keys}),
+            function = cached(entries=10)(lambda key: run(function.cache.aget_or_load((key,), never)))
+            for call in (lambda: cache.get_or_load("a", lambda key: run(cache.aget_or_load(key, never))),
+                         lambda: cache.get_many("ab", lambda keys: {key: run(cache.aget_or_load(key, never)) for key in keys}),
                          lambda: function("a")):
                 with self.subTest(run.__name__), self.assertRaises(WaitsForItself):
                     within_a_minute(call)
@@ -149,10 +149,10 @@ class Circles(CacheTest):
 
     def test_loaders_of_two_threads_in_a_circle_are_told_if_one_or_both_run_loops(self):
         def in_loop(cache, key):
-            return asyncio.run(by_gather(cache.aget(key, never)))
+            return asyncio.run(by_gather(cache.aget_or_load(key, never)))
 
         def plainly(cache, key):
-            return cache.get(key, never)
+            return cache.get_or_load(key, never)
 
         for ways in ((in_loop, in_loop), (in_loop, plainly), (plainly, in_loop)):
             cache, gate, told = Cache(entries=10), threading.Barrier(2), []
@@ -166,7 +166,7 @@ class Circles(CacheTest):
                 return key
 
             with self.subTest([way.__name__ for way in ways]):
-                within_a_minute(lambda: together(2, lambda key: cache.get(key, load)))
+                within_a_minute(lambda: together(2, lambda key: cache.get_or_load(key, load)))
                 self.assertEqual((len(told), cache.look(0), cache.look(1)), (1, 0, 1))
                 self.holds_exactly(cache, 2)
 
@@ -174,12 +174,12 @@ class Circles(CacheTest):
         cache, loop = Cache(entries=10), asyncio.new_event_loop()
 
         def load(key):
-            load.task = loop.create_task(cache.aget(key, never))
+            load.task = loop.create_task(cache.aget_or_load(key, never))
             loop.run_until_complete(asyncio.sleep(0))
             self.assertEqual(cache.stats().joins, 1)
             return 7
 
-        self.assertEqual(within_a_minute(lambda: (cache.get("a", load), loop.run_until_complete(load.task))), (7, 7))
+        self.assertEqual(within_a_minute(lambda: (cache.get_or_load("a", load), loop.run_until_complete(load.task))), (7, 7))
         loop.close()
         self.holds_exactly(cache, 1)
 
@@ -198,17 +198,17 @@ class Circles(CacheTest):
             begun.set()
             while cache.stats().joins < 1 or len(cache._uses()) < 2:
                 pass
-            return cache.get("b", never)
+            return cache.get_or_load("b", never)
 
         async def load_in_loop():
             # It blocks the loop, which runs until a task has "a", whose load waits for this one.
-            return cache.get("b", lambda key: checked.wait() and 7)
+            return cache.get_or_load("b", lambda key: checked.wait() and 7)
 
         async def work():
             begun.wait()
-            return await asyncio.gather(cache.aget("a", never), load_in_loop())
+            return await asyncio.gather(cache.aget_or_load("a", never), load_in_loop())
 
-        thread = threading.Thread(target=lambda: cache.get("a", load))
+        thread = threading.Thread(target=lambda: cache.get_or_load("a", load))
         _waits.Waits.check = tell
         try:
             thread.start()
@@ -237,12 +237,12 @@ class Circles(CacheTest):
             def load(key):
                 gate.wait()
                 try:
-                    cache.get(1 - key, None)
+                    cache.get_or_load(1 - key, None)
                 except WaitsForItself:
                     told.append(key)
                 return key
 
-            self.assertEqual(cache.get(i, load), i)
+            self.assertEqual(cache.get_or_load(i, load), i)
 
         _waits.Waits.check = check_together
         try:
@@ -264,12 +264,12 @@ class Circles(CacheTest):
             return key
 
         async def load_later(key):
-            may_end.append(asyncio.create_task(cache.aget("b", load)))
+            may_end.append(asyncio.create_task(cache.aget_or_load("b", load)))
             while len(cache._uses()) < 2:
                 await asyncio.sleep(0)
-            return await cache.aget("b", never)
+            return await cache.aget_or_load("b", never)
 
-        self.assertEqual(self.run_in_loop(lambda: cache.aget("a", load_later)), "b")
+        self.assertEqual(self.run_in_loop(lambda: cache.aget_or_load("a", load_later)), "b")
         self.stale.end()
         self.holds_exactly(cache, 2)
 
@@ -280,12 +280,12 @@ class Circles(CacheTest):
             def load(key):
                 gate.wait()
                 try:
-                    cache.get((key + 1) % 50, None)
+                    cache.get_or_load((key + 1) % 50, None)
                 except WaitsForItself:
                     told.append(key)
                 return key
 
-            self.assertEqual(cache.get(i, load), i)
+            self.assertEqual(cache.get_or_load(i, load), i)
 
         within_a_minute(lambda: together(50, ask))
         self.assertEqual(len(told), 1)
@@ -295,7 +295,7 @@ class Circles(CacheTest):
         cache = Cache(entries=10)
 
         async def load(key):
-            load.task = asyncio.create_task(cache.aget(key, never))
+            load.task = asyncio.create_task(cache.aget_or_load(key, never))
             wait_for = asyncio.shield(load.task)  # shielded, and not awaited either
             for _ in range(5):
                 await asyncio.sleep(0)
@@ -303,7 +303,7 @@ class Circles(CacheTest):
             return 7
 
         async def work():
-            return await cache.aget("a", load), await load.task
+            return await cache.aget_or_load("a", load), await load.task
 
         self.assertEqual(self.run_in_loop(work), (7, 7))
         self.holds_exactly(cache, 1)
@@ -312,12 +312,12 @@ class Circles(CacheTest):
         cache = Cache(entries=10)
 
         async def load(key):
-            own = asyncio.create_task(cache.aget(key, never))
+            own = asyncio.create_task(cache.aget_or_load(key, never))
             done, _ = await asyncio.wait([own, asyncio.create_task(asyncio.sleep(0, 7))], return_when=asyncio.FIRST_COMPLETED)
             self.assertNotIn(own, done)
             return done.pop().result()
 
-        self.assertEqual(self.run_in_loop(lambda: cache.aget("a", load)), 7)
+        self.assertEqual(self.run_in_loop(lambda: cache.aget_or_load("a", load)), 7)
         self.holds_exactly(cache, 1)
 
     def test_a_load_that_gc_closes_in_another_task_s_loader_leaves_that_one_alone(self):
@@ -328,19 +328,19 @@ class Circles(CacheTest):
 
         async def work():
             circle = [Circle()]
-            circle[0].me, circle[0].coroutine = circle[0], cache.aget("orphan", lambda key: asyncio.Event().wait())
+            circle[0].me, circle[0].coroutine = circle[0], cache.aget_or_load("orphan", lambda key: asyncio.Event().wait())
             circle[0].coroutine.send(None)
 
             async def load(key):
                 circle.clear()
                 gc.collect()
                 try:
-                    return await asyncio.create_task(cache.aget("a", load))
+                    return await asyncio.create_task(cache.aget_or_load("a", load))
                 except WaitsForItself:
                     told.append(key)
                     return 7
 
-            return await cache.aget("a", load)
+            return await cache.aget_or_load("a", load)
 
         self.assertEqual((self.run_in_loop(work), told), (7, ["a"]))
         self.holds_exactly(cache, 1)

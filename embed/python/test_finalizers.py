@@ -35,7 +35,7 @@ class Finalizers(CacheTest):
             def __del__(self):
                 dropped.append(cache.drop("x"))
                 cache.look(self.key)
-                cache.get(len(dropped) % 7, lambda key: 1)
+                cache.get_or_load(len(dropped) % 7, lambda key: 1)
                 cache.put("x", 1)
 
         class Key(int):
@@ -57,9 +57,9 @@ class Finalizers(CacheTest):
                 for i in range(rounds):
                     now[0] += 1
                     cache.put(Key(i % 13), Value(Key(i % 11)))
-                    cache.get(Key(i % 17), Value)
+                    cache.get_or_load(Key(i % 17), Value)
                     try:
-                        cache.get(Key(i % 29), fails)
+                        cache.get_or_load(Key(i % 29), fails)
                     except KeyError:
                         pass
                     cache.look(Key(i % 5))
@@ -114,7 +114,7 @@ class Finalizers(CacheTest):
         def call(rng):
             key, what = rng.randrange(40), rng.randrange(8)
             calls = (lambda: cache.put(key, ("v", key)), lambda: cache.drop(key), lambda: cache.forget(key), lambda: cache.look(key),
-                     lambda: cache.get(key, lambda key: ("v", key)), cache.clean, cache.stats, lambda: key in cache)
+                     lambda: cache.get_or_load(key, lambda key: ("v", key)), cache.clean, cache.stats, lambda: key in cache)
             used[what] += 1
             try:
                 value = calls[what]()
@@ -139,7 +139,7 @@ class Finalizers(CacheTest):
                 Bomb(rng)
                 kept.append(weakref.ref(Circle(), lambda _: call(rng)))
                 key = rng.randrange(40)
-                if cache.get(key, lambda key: ("v", key)) != ("v", key):
+                if cache.get_or_load(key, lambda key: ("v", key)) != ("v", key):
                     wrong.append(key)
                 cache.put(key, ("v", key))
                 cache.look(key)
@@ -158,11 +158,11 @@ class Finalizers(CacheTest):
         cache, got, other = Cache(entries=10, weigh=lambda key, value: gc.collect() and 1 or 1), [], Circle()
 
         async def begin():
-            other.coroutine = cache.aget("a", lambda key: asyncio.Event().wait())
+            other.coroutine = cache.aget_or_load("a", lambda key: asyncio.Event().wait())
             other.coroutine.send(None)
 
         asyncio.run(begin())
-        waiter = threading.Thread(target=lambda: got.append(cache.get("a", lambda key: "asked again")))
+        waiter = threading.Thread(target=lambda: got.append(cache.get_or_load("a", lambda key: "asked again")))
         gc.disable()
         waiter.start()
         while cache.stats().joins < 1 and waiter.is_alive():
@@ -195,7 +195,7 @@ class Finalizers(CacheTest):
             await go.wait()
             return 7
 
-        task = loop.create_task(cache.aget("a", load))
+        task = loop.create_task(cache.aget_or_load("a", load))
         loop.run_until_complete(asyncio.sleep(0))
         within_a_minute(lambda: cache.put("b", 1))
         loop.close()

@@ -148,14 +148,14 @@ class Interrupts(unittest.TestCase):
 
         def work(cache):
             cache.put(Key(1), value())
-            cache.get(Key(1), None)
-            cache.get(keys[2], value)
-            cache.get(keys[3], drops)
+            cache.get_or_load(Key(1), None)
+            cache.get_or_load(keys[2], value)
+            cache.get_or_load(keys[3], drops)
             now[0] = 60
-            cache.get(Key(0), value)
+            cache.get_or_load(Key(0), value)
             try:
-                cache.get(keys[1], fails)
-                cache.get(keys[4], fails)
+                cache.get_or_load(keys[1], fails)
+                cache.get_or_load(keys[4], fails)
             except KeyError:
                 pass
             cache.look(keys[5])
@@ -167,7 +167,12 @@ class Interrupts(unittest.TestCase):
             cache.drop(Key(6))
             cache.put_many({keys[1]: value()})
             cache.get_many(keys[:3], lambda asked: {key: value() for key in asked})
-            cache.pop(keys[1])
+            cache.setdefault(keys[1], value())
+            cache.setdefault(keys[2], value())
+            cache.update({keys[3]: value()})
+            list(cache.items()), keys[3] in cache, keys[4] in cache.keys(), None in cache.values()
+            cache.popitem()
+            cache.pop(keys[1], None)
             cache.clear()
             cache.stats()
 
@@ -180,7 +185,7 @@ class Interrupts(unittest.TestCase):
 
         def check(cache, was_interrupted):
             def ask():
-                return [type(cache.get(key, value)) for key in keys]
+                return [type(cache.get_or_load(key, value)) for key in keys]
 
             self.assertEqual(len(told), len({id(value) for _, value, _ in told}))
             # Another thread waits for no lock and no load that the interrupt left.
@@ -206,21 +211,21 @@ class Interrupts(unittest.TestCase):
 
             @callback
             def load(key):
-                joiner = threading.Thread(target=lambda: got.append(cache.get("a", lambda key: 7)), daemon=True)
+                joiner = threading.Thread(target=lambda: got.append(cache.get_or_load("a", lambda key: 7)), daemon=True)
                 joiner.start()
                 joiners.append((joiner, got))
                 while cache._counts()[2] < 1:
                     time.sleep(0)
                 return 7
 
-            cache.get("a", load)
+            cache.get_or_load("a", load)
 
         def check(of, was_interrupted):
             cache, joiners = of
             for joiner, got in joiners:
                 joiner.join(60)
                 self.assertEqual(got, [7])
-            self.assertEqual(within_a_minute(lambda: cache.get("a", lambda key: 7)), 7)
+            self.assertEqual(within_a_minute(lambda: cache.get_or_load("a", lambda key: 7)), 7)
             self.assertEqual((cache.kept(), cache.numbers()["flights"]), ((1, 1), 0))
 
         points = self.interrupted(begin, work, check)
@@ -238,13 +243,13 @@ class Interrupts(unittest.TestCase):
                     time.sleep(0)
                 return 7
 
-            leader = threading.Thread(target=lambda: cache.get("a", load), daemon=True)
+            leader = threading.Thread(target=lambda: cache.get_or_load("a", load), daemon=True)
             leader.start()
             begun.wait()
             return cache, leader, may_end
 
         def work(of):
-            self.assertEqual(of[0].get("a", lambda key: 7), 7)
+            self.assertEqual(of[0].get_or_load("a", lambda key: 7), 7)
 
         def check(of, was_interrupted):
             cache, leader, may_end = of
@@ -252,7 +257,7 @@ class Interrupts(unittest.TestCase):
             leader.join(60)
             self.assertFalse(leader.is_alive())
             self.assertEqual(rookdresser._waits.waits.behind((leader.ident, None), 1 << 63), [])
-            self.assertEqual(within_a_minute(lambda: cache.get("a", lambda key: 7)), 7)
+            self.assertEqual(within_a_minute(lambda: cache.get_or_load("a", lambda key: 7)), 7)
             self.assertEqual((cache.kept(), cache.numbers()["flights"]), ((1, 1), 0))
 
         points = self.interrupted(begin, work, check)
@@ -278,16 +283,22 @@ class Interrupts(unittest.TestCase):
         def load_at_once(key):
             return len((key,))
 
+        @callback
+        async def load_many(keys):
+            await asyncio.sleep(0)
+            return dict.fromkeys(keys, 1)
+
         async def ask(cache):
-            await asyncio.gather(*(cache.aget(key, load) for key in ("a", "a", "b", "fails", "fails", "due")), return_exceptions=True)
-            return await cache.aget("a", never), await cache.aget("c", load_at_once)
+            await asyncio.gather(*(cache.aget_or_load(key, load) for key in ("a", "a", "b", "fails", "fails", "due")), return_exceptions=True)
+            await asyncio.gather(cache.aget_many(["a", "d", "e"], load_many), cache.aget_many(["e", "d", "due"], load_many), return_exceptions=True)
+            return await cache.aget_or_load("a", never), await cache.aget_or_load("c", load_at_once)
 
         def work(cache):
             asyncio.run(ask(cache))
 
         def check(cache, was_interrupted):
             gc.collect()
-            self.assertEqual(within_a_minute(lambda: [cache.get(key, lambda key: 1) for key in ("a", "b", "c", "fails", "due")]), [1] * 5)
+            self.assertEqual(within_a_minute(lambda: [cache.get_or_load(key, lambda key: 1) for key in ("a", "b", "c", "d", "e", "fails", "due")]), [1] * 7)
             numbers = cache.numbers()
             self.assertEqual((cache.kept(), numbers["flights"]), ((numbers["entries"],) * 2, 0))
 

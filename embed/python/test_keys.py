@@ -199,8 +199,8 @@ class Keys(CacheTest):
 
     def test_a_key_that_another_thread_loads_during_a_comparison_is_loaded_once(self):
         cache, loads = Cache(entries=10), []
-        key = self.while_another_thread_compares(cache, lambda key: self.assertEqual(cache.get(key, loads.append), None),
-                                                 lambda key: cache.get(key, loads.append))
+        key = self.while_another_thread_compares(cache, lambda key: self.assertEqual(cache.get_or_load(key, loads.append), None),
+                                                 lambda key: cache.get_or_load(key, loads.append))
         self.assertEqual((len(loads), cache.look(key, 7), cache.stats().loads), (1, None, 1))
         self.holds_exactly(cache, 2)
 
@@ -231,7 +231,7 @@ class Keys(CacheTest):
             rng = random.Random(thread)
             for _ in range(300):
                 key = Yields(rng.randrange(4))
-                rng.choice((cache.drop, lambda key: cache.put(key, thread), lambda key: cache.get(key, lambda key: thread)))(key)
+                rng.choice((cache.drop, lambda key: cache.put(key, thread), lambda key: cache.get_or_load(key, lambda key: thread)))(key)
                 names = [key.name for key in cache]
                 doubled.extend(names if len(names) > len(set(names)) else ())
 
@@ -274,7 +274,7 @@ class Keys(CacheTest):
                 cache.put(good, 1)
                 self.assertEqual(cache.look(same), 1)
                 for key in bad:
-                    for call in (lambda: cache.put(key, 1), lambda: cache.look(key), lambda: cache.drop(key), lambda: cache.get(key, never)):
+                    for call in (lambda: cache.put(key, 1), lambda: cache.look(key), lambda: cache.drop(key), lambda: cache.get_or_load(key, never)):
                         with self.assertRaises(RecursionError):
                             call()
                 self.holds_exactly(cache, 1)
@@ -314,12 +314,12 @@ class Keys(CacheTest):
         cache.put(Odd("a", ""), 1)
         cache.put(Odd("b", ""), 2)
         for bad in ("hash", "eq"):
-            for call in (lambda: cache.get(Odd("c", bad), lambda key: 3), lambda: cache.put(Odd("c", bad), 3), lambda: cache.drop(Odd("c", bad))):
+            for call in (lambda: cache.get_or_load(Odd("c", bad), lambda key: 3), lambda: cache.put(Odd("c", bad), 3), lambda: cache.drop(Odd("c", bad))):
                 with self.assertRaises(ValueError):
                     within_a_minute(call)
             self.holds_exactly(cache, 2)
         with self.assertRaises(TypeError):
-            cache.get([], lambda key: 1)
+            cache.get_or_load([], lambda key: 1)
         self.assertEqual((cache.look(Odd("a", "")), cache.look(Odd("b", "")), cache.look(Odd("c", ""))), (1, 2, None))
         self.holds_exactly(cache, 2)
 
@@ -341,7 +341,7 @@ class Keys(CacheTest):
 
         def work():
             for name in "abab":
-                self.assertEqual(cache.get(Asks(name), lambda key: key.name), name)
+                self.assertEqual(cache.get_or_load(Asks(name), lambda key: key.name), name)
 
         within_a_minute(work)
         self.assertEqual(cache.stats().loads, 2)
@@ -365,7 +365,7 @@ class Keys(CacheTest):
                         cache.put(name, [name] * 50)
                 return self.name == other.name
 
-        for call in (lambda key: cache.put(key, 1), lambda key: cache.get(key, lambda key: 1), cache.look, cache.drop):
+        for call in (lambda key: cache.put(key, 1), lambda key: cache.get_or_load(key, lambda key: 1), cache.look, cache.drop):
             del taken[:]
             cache.clear()
             for name in "abcd":
@@ -401,11 +401,11 @@ class Keys(CacheTest):
                     cache.drop(key)
                 elif now[0] % 5 == 3:
                     try:
-                        cache.get(key, fails)
+                        cache.get_or_load(key, fails)
                     except KeyError:
                         pass
                 else:
-                    cache.get(key, lambda key: 2)
+                    cache.get_or_load(key, lambda key: 2)
                 self.holds_exactly(cache)
 
         within_a_minute(work)

@@ -40,7 +40,7 @@ class Forks(CacheTest):
             i = 0
             while not stop.is_set():
                 i += 1
-                cache.get(i % 3000, lambda key: key)
+                cache.get_or_load(i % 3000, lambda key: key)
 
         busy = [threading.Thread(target=work, daemon=True) for _ in range(3)]
         for thread in busy:
@@ -50,7 +50,7 @@ class Forks(CacheTest):
             child = os.fork()
             if child == 0:
                 signal.alarm(60)
-                values = [cache.get(key, lambda key: key) for key in range(3000)]
+                values = [cache.get_or_load(key, lambda key: key) for key in range(3000)]
                 numbers = cache.numbers()
                 whole = cache.kept() == (numbers["entries"],) * 2 and numbers["flights"] == 0
                 os._exit(0 if values == list(range(3000)) and whole else 1)
@@ -70,13 +70,13 @@ class Forks(CacheTest):
             may_end.wait()
             return 7
 
-        leader = threading.Thread(target=lambda: cache.get("a", load))
+        leader = threading.Thread(target=lambda: cache.get_or_load("a", load))
         leader.start()
         begun.wait()
         child = os.fork()
         if child == 0:
             signal.alarm(60)
-            os._exit(cache.get("a", lambda key: 8))
+            os._exit(cache.get_or_load("a", lambda key: 8))
         status = os.waitpid(child, 0)[1]
         may_end.set()
         leader.join()
@@ -95,11 +95,11 @@ class Forks(CacheTest):
 
         caches = [Equal(entries=10), Equal(entries=10), Unhashable(entries=10)]
         begun, may_end = threading.Barrier(4), threading.Event()
-        leaders = [threading.Thread(target=cache.get, args=("a", lambda key: (begun.wait(), may_end.wait()))) for cache in caches]
+        leaders = [threading.Thread(target=cache.get_or_load, args=("a", lambda key: (begun.wait(), may_end.wait()))) for cache in caches]
         for leader in leaders:
             leader.start()
         begun.wait()
-        ended = forked(lambda: sum(cache.get("a", lambda key: 2) for cache in caches))
+        ended = forked(lambda: sum(cache.get_or_load("a", lambda key: 2) for cache in caches))
         may_end.set()
         for leader in leaders:
             leader.join()
@@ -112,11 +112,11 @@ class Forks(CacheTest):
         def weigh(key, value):
             if key == "b" and not forks:
                 forks.append(1)
-                ended.append(forked(lambda: cache.get("a", lambda key: 8)))
+                ended.append(forked(lambda: cache.get_or_load("a", lambda key: 8)))
             return 1
 
         cache = Cache(entries=10, weigh=weigh)
-        leader = threading.Thread(target=lambda: cache.get("a", lambda key: (begun.set(), may_end.wait(), 7)[2]))
+        leader = threading.Thread(target=lambda: cache.get_or_load("a", lambda key: (begun.set(), may_end.wait(), 7)[2]))
         leader.start()
         begun.wait()
         cache.put("b", 1)
@@ -127,7 +127,7 @@ class Forks(CacheTest):
 
     def test_stats_and_numbers_of_a_child_agree_on_what_failed(self):
         cache, begun, may_end = Cache(entries=10), threading.Event(), threading.Event()
-        leader = threading.Thread(target=lambda: cache.get("a", lambda key: (begun.set(), may_end.wait())))
+        leader = threading.Thread(target=lambda: cache.get_or_load("a", lambda key: (begun.set(), may_end.wait())))
         leader.start()
         begun.wait()
         ended = forked(lambda: 10 * cache.stats().failed + cache.numbers()["failed"])
@@ -163,8 +163,8 @@ class Forks(CacheTest):
             return 7
 
         ended = []
-        waiter = threading.Thread(target=lambda: got.append(cache.get("a", None)))
-        self.assertEqual(cache.get("a", load), 7)
+        waiter = threading.Thread(target=lambda: got.append(cache.get_or_load("a", None)))
+        self.assertEqual(cache.get_or_load("a", load), 7)
         within_a_minute(waiter.join)
         self.assertEqual((ended, got), ([0], [7]))
 
@@ -186,7 +186,7 @@ module = types.ModuleType("module"); sys.modules["module"] = module; module.late
 def work():
     begun.wait()
     i = 0
-    while True: i += 1; cache.get(i %% 1000, lambda key: key)
+    while True: i += 1; cache.get_or_load(i %% 1000, lambda key: key)
 for _ in range(4): threading.Thread(target=work, daemon=True).start()
 begun.wait()
 for i in range(3000): cache.put(i, i)
@@ -201,7 +201,7 @@ for i in range(3000): cache.put(i, i)
 import threading
 from rookdresser import Cache
 cache, never = Cache(entries=10), threading.Event()
-threads = [threading.Thread(target=lambda: cache.get("a", lambda key: never.wait()), daemon=True) for _ in range(5)]
+threads = [threading.Thread(target=lambda: cache.get_or_load("a", lambda key: never.wait()), daemon=True) for _ in range(5)]
 for thread in threads: thread.start()
 while cache.stats().joins < 4: pass
 """
@@ -216,15 +216,15 @@ cache, loop, kept = Cache(entries=10), asyncio.new_event_loop(), []
 class Late:
     def __del__(self, cache=cache, write=os.write): write(1, b"%%r" %% (cache.%s,))
 async def slow(key): await asyncio.Event().wait()
-def in_thread(): cache.get("a", lambda key: threading.Event().wait())
-def in_thread_s_loop(): asyncio.run(cache.aget("a", slow))
-def in_loop(): kept.append(loop.create_task(cache.aget("a", slow))), loop.run_until_complete(asyncio.sleep(0))
+def in_thread(): cache.get_or_load("a", lambda key: threading.Event().wait())
+def in_thread_s_loop(): asyncio.run(cache.aget_or_load("a", slow))
+def in_loop(): kept.append(loop.create_task(cache.aget_or_load("a", slow))), loop.run_until_complete(asyncio.sleep(0))
 if %r == "in_loop": in_loop()
 else: threading.Thread(target=%s, daemon=True).start()
 while not cache.numbers()["flights"]: pass
 builtins.late = Late()
 """
-        calls = {'get("a", lambda key: 7)': "7", 'get("a", lambda key: 7, timeout=60)': "7", 'get_many(["a"], lambda keys: {"a": 7})': "{'a': 7}"}
+        calls = {'get_or_load("a", lambda key: 7)': "7", 'get_or_load("a", lambda key: 7, timeout=60)': "7", 'get_many(["a"], lambda keys: {"a": 7})': "{'a': 7}"}
         for call, told in calls.items():
             for load in ("in_thread", "in_thread_s_loop", "in_loop"):
                 with self.subTest(call, load=load):
@@ -258,12 +258,15 @@ class Recursion(CacheTest):
 
         calls = {
             "put": lambda cache: cache.put(9, "v9"),
-            "get": lambda cache: cache.get(0, None),
-            "get that loads": lambda cache: cache.get(9, lambda key: "v9"),
-            "get that fails": lambda cache: cache.get(9, fails),
-            "get that recurs": lambda cache: cache.get(9, lambda key: deep(9999, int)),
+            "get": lambda cache: cache.get_or_load(0, None),
+            "get that loads": lambda cache: cache.get_or_load(9, lambda key: "v9"),
+            "get that fails": lambda cache: cache.get_or_load(9, fails),
+            "get that recurs": lambda cache: cache.get_or_load(9, lambda key: deep(9999, int)),
             "many": lambda cache: cache.get_many([0, 8, 9], lambda keys: {key: "v%d" % key for key in keys}),
-            "look": lambda cache: cache.look(0),
+            "look": lambda cache: cache.get(0),
+            "items": lambda cache: (0, "v0") in cache.items() and dict(cache.items()),
+            "setdefault": lambda cache: cache.setdefault(9, "v9"),
+            "update": lambda cache: cache.update({9: "v9"}),
             "drop": lambda cache: cache.drop(8),
             "clear": lambda cache: cache.clear(),
             "stats": lambda cache: cache.stats(),
@@ -280,7 +283,7 @@ class Recursion(CacheTest):
                     if error is RecursionError and name != "clear":
                         self.assertEqual(cache.look(1), "v1")
                     self.holds_exactly(cache)
-                    self.assertEqual([cache.get(key, lambda key: "v%d" % key) for key in range(4)], ["v0", "v1", "v2", "v3"])
+                    self.assertEqual([cache.get_or_load(key, lambda key: "v%d" % key) for key in range(4)], ["v0", "v1", "v2", "v3"])
         self.assertEqual(raised, {None, RecursionError, KeyError})
 
     def test_who_joined_a_load_near_the_limit_is_woken(self):
@@ -296,11 +299,11 @@ class Recursion(CacheTest):
                     time.sleep(0)
                 lock.release()
 
-            joiner = threading.Thread(target=lambda: got.append(cache.get(True, lambda key: "asked again")), daemon=True)
+            joiner = threading.Thread(target=lambda: got.append(cache.get_or_load(True, lambda key: "asked again")), daemon=True)
             watcher = threading.Thread(target=join)
             watcher.start()
             # The loader is a function of C, which needs no frame, and ends once somebody has joined.
-            self.called(depth, lambda: cache.get(True, lock.acquire))
+            self.called(depth, lambda: cache.get_or_load(True, lock.acquire))
             is_over.set()
             watcher.join()
             joiner.join(60)

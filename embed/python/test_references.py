@@ -2,11 +2,14 @@
 """Of a debug build of Python: the count of all references is the same after each round of every call."""
 import asyncio
 import gc
+import pickle
 import sys
 import threading
 import unittest
+import warnings
+from datetime import timedelta
 
-from rookdresser import Cache, Refused, WaitsForItself, cached
+from rookdresser import Cache, Closed, Refused, TooHeavy, WaitsForItself, cached
 from threads import never, wait_for_joins
 
 
@@ -43,13 +46,13 @@ def join(cache):
 
     def ask(timeout):
         try:
-            cache.get("joined", None, timeout=timeout)
+            cache.get_or_load("joined", None, timeout=timeout)
         except TimeoutError:
             pass
 
     before = cache.stats().joins
     threads = [threading.Thread(target=ask, args=(timeout,)) for timeout in (None, 0)]
-    cache.get("joined", load)
+    cache.get_or_load("joined", load)
     for thread in threads:
         thread.join()
     cache.drop("joined")
@@ -64,17 +67,26 @@ async def tasks(cache):
 
     async def circle(key):
         try:
-            return await asyncio.gather(asyncio.shield(cache.aget(key, circle)))
+            return await asyncio.gather(asyncio.shield(cache.aget_or_load(key, circle)))
         except WaitsForItself:
             return object()
 
-    await asyncio.gather(*(cache.aget(key, load) for key in ("a", "a", "fails", "fails", "b")), return_exceptions=True)
-    await cache.aget("circle", circle)
-    task = asyncio.create_task(cache.aget("cancelled", lambda key: asyncio.Event().wait()))
+    async def load_many(keys):
+        await asyncio.sleep(0)
+        return {key: object() for key in keys if key != "left out"}
+
+    async def load_many_fails(keys):
+        raise KeyError
+
+    await asyncio.gather(*(cache.aget_or_load(key, load) for key in ("a", "a", "fails", "fails", "b")), return_exceptions=True)
+    await asyncio.gather(*(cache.aget_many(keys, load_many) for keys in (["a", "m"], ["m", "n", "left out"], ["left out", "o"])))
+    await asyncio.gather(*(cache.aget_many(["p", "q"], of) for of in (load_many_fails, load_many)), return_exceptions=True)
+    await cache.aget_or_load("circle", circle)
+    task = asyncio.create_task(cache.aget_or_load("cancelled", lambda key: asyncio.Event().wait()))
     await asyncio.sleep(0)
     task.cancel()
     await asyncio.wait([task])
-    coroutine = cache.aget("closed", lambda key: asyncio.Event().wait())
+    coroutine = cache.aget_or_load("closed", lambda key: asyncio.Event().wait())
     coroutine.send(None)
     coroutine.close()
 
@@ -84,21 +96,28 @@ def one_round():
     cache = Cache(entries=20, after_write=100, refresh=50, shards=2, clock=lambda: now[0], weigh=lambda key, value: 1, on_leave=lambda *of: left.append(of))
     for i in range(50):
         cache.put(i, object())
-        cache.get((i, "a"), lambda key: object())
-        cache.get(Key(i % 5), lambda key: object())
+        cache.get_or_load((i, "a"), lambda key: object())
+        cache.get_or_load(Key(i % 5), lambda key: object())
+        cache.get(i), cache.get((i, "none"), object()), cache.peek(i), cache.peek((i, "none"), object()), (i, None) in cache.items()
+        cache.setdefault((i, "a"), object()), cache.setdefault((i, "b"), object())
         cache.look(i), cache.look(2.0 ** 70), cache.look(i / 7), cache.look(frozenset((i, 2 ** 70)))
     now[0] = 60
     for i in range(50):
-        cache.get(i, lambda key: object())
-        raised(lambda: cache.get("new", fails), KeyError)
+        cache.get_or_load(i, lambda key: object())
+        raised(lambda: cache.get_or_load("new", fails), KeyError)
     cache["a"] = 1
     cache["a"], list(cache), repr(cache), cache.kept(), cache.numbers(), cache.stats(), cache.refused(), len(cache)
     del cache["a"]
+    list(cache.keys()), list(cache.values()), dict(cache.items()), object() in cache.values(), cache.update({1: object()}, b=object())
+    with warnings.catch_warnings(record=True):
+        warnings.simplefilter("always")
+        cache.get("old", lambda key: object()), cache.get("old", lambda key: object(), 5), Cache(10, 2, after_write=timedelta(1))
     cache.put_many({1: 2}), cache.pop(1), cache.pop(1, 7), cache.drop(2), cache.forget(3)
     cache.get_many(range(60, 70), lambda keys: {key: object() for key in keys if key % 2})
     for call, error in ((lambda: cache["none"], KeyError), (lambda: cache.pop("none"), KeyError), (lambda: cache.put([], 1), TypeError),
-                        (lambda: cache.get("a"), TypeError), (lambda: cache.get_many([[]], never), TypeError), (lambda: Cache(entries=0), Refused),
-                        (lambda: cache.get("own", lambda key: cache.get(key, None)), WaitsForItself)):
+                        (lambda: cache.get_or_load("a"), TypeError), (lambda: cache.get("a", 1, load=len), TypeError), (lambda: cache.setdefault([], 1), TypeError),
+                        (lambda: cache.get_many([[]], never), TypeError), (lambda: Cache(entries=0), Refused),
+                        (lambda: cache.get_or_load("own", lambda key: cache.get_or_load(key, None)), WaitsForItself)):
         raised(call, error)
     join(cache)
     asyncio.run(tasks(cache))
@@ -109,8 +128,12 @@ def one_round():
     circle = Cache(entries=5)
     circle.put("me", circle)
     cache.put("open", 1)
+    pickle.loads(pickle.dumps(TooHeavy(3)))
+    cache.popitem()
+    raised(cache.popitem, KeyError)
     cache.close()
-    raised(lambda: cache.look("a"), Refused)
+    for call in (lambda: cache.look("a"), lambda: cache.peek("a"), cache.popitem, lambda: cache.setdefault("a"), lambda: list(cache.items())):
+        raised(call, Closed)
 
 
 @unittest.skipUnless(hasattr(sys, "gettotalrefcount"), "this is no debug build of Python")

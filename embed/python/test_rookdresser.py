@@ -25,16 +25,16 @@ class Rules(CacheTest):
                 return key * 2
 
             got = []
-            together(64, lambda i: got.append(cache.get(21, load)))
+            together(64, lambda i: got.append(cache.get_or_load(21, load)))
             self.assertEqual((made, got), ([21], [42] * 64))
             self.assertEqual(cache.numbers()["loads"], 1)
 
     def test_a_load_that_fails_fails_for_all_who_share_it_and_leaves_nothing(self):
         with Cache(entries=10) as cache:
             with self.assertRaises(KeyError):
-                cache.get("a", lambda key: {}[key])
+                cache.get_or_load("a", lambda key: {}[key])
             self.assertEqual((len(cache), cache.numbers()["failed"], cache.numbers()["flights"]), (0, 1, 0))
-            self.assertEqual(cache.get("a", lambda key: 1), 1)
+            self.assertEqual(cache.get_or_load("a", lambda key: 1), 1)
 
     def test_an_entry_expires_and_its_leaving_is_told(self):
         now, left = [0], []
@@ -49,18 +49,18 @@ class Rules(CacheTest):
     def test_a_due_entry_is_loaded_again_and_kept_where_that_fails(self):
         now = [0]
         with Cache(entries=10, refresh=10, clock=lambda: now[0]) as cache:
-            self.assertEqual(cache.get("a", lambda key: 1), 1)
+            self.assertEqual(cache.get_or_load("a", lambda key: 1), 1)
             now[0] = 10
-            self.assertEqual(cache.get("a", lambda key: 1 // 0), 1)
-            self.assertEqual(cache.get("a", lambda key: 2), 2)
-            self.assertEqual(cache.get("a", lambda key: 3), 2)
+            self.assertEqual(cache.get_or_load("a", lambda key: 1 // 0), 1)
+            self.assertEqual(cache.get_or_load("a", lambda key: 2), 2)
+            self.assertEqual(cache.get_or_load("a", lambda key: 3), 2)
 
     def test_a_value_heavier_than_the_bound_is_refused(self):
         with Cache(entries=10, bound=5, weigh=lambda key, value: value) as cache:
             with self.assertRaises(Refused) as caught:
                 cache.put("a", 6)
             self.assertEqual(caught.exception.fault, 3)
-            self.assertEqual(cache.get("a", lambda key: 6), 6)
+            self.assertEqual(cache.get_or_load("a", lambda key: 6), 6)
             self.assertEqual(len(cache), 0)
 
     def test_a_drop_during_a_load_keeps_its_value_out(self):
@@ -69,7 +69,7 @@ class Rules(CacheTest):
                 cache.drop(key)
                 return 1
 
-            self.assertEqual(cache.get("a", load), 1)
+            self.assertEqual(cache.get_or_load("a", load), 1)
             self.assertIsNone(cache.look("a"))
 
     def test_exactly_what_is_held_is_kept(self):
@@ -80,7 +80,7 @@ class Rules(CacheTest):
                     key = min(r.randrange(300), r.randrange(300))
                     what = r.random()
                     if what < 0.8:
-                        self.assertEqual(cache.get(key, lambda key: key + 1), key + 1)
+                        self.assertEqual(cache.get_or_load(key, lambda key: key + 1), key + 1)
                     elif what < 0.95:
                         cache.put(key, key + 1)
                     else:
@@ -110,10 +110,10 @@ class Rules(CacheTest):
     def test_a_key_that_comes_often_is_let_in(self):
         with Cache(entries=16, window=1) as cache:
             for key in [str(i) for i in range(16)] * 3:
-                cache.get(key, lambda key: key)
+                cache.get_or_load(key, lambda key: key)
             for _ in range(8):
-                cache.get("often", lambda key: key)
-                cache.get("too", lambda key: key)
+                cache.get_or_load("often", lambda key: key)
+                cache.get_or_load("too", lambda key: key)
             self.assertEqual(cache.look("often"), "often")
 
     def test_a_closed_cache_refuses(self):

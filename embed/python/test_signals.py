@@ -39,7 +39,7 @@ class OpenLoads(CacheTest):
             return 0
 
         cache = Cache(entries=10, clock=clock, on_leave=lambda *of: None)
-        return cache, (lambda: cache.look("b"), lambda: cache.put("b", 1), lambda: cache.drop("b"), lambda: cache.get("b", None), cache.clear,
+        return cache, (lambda: cache.look("b"), lambda: cache.put("b", 1), lambda: cache.drop("b"), lambda: cache.get_or_load("b", None), cache.clear,
                        lambda: cache.get_many(["b", "c"], never), lambda: cache.pop("b", None), lambda: cache.forget("b"), cache.clean)
 
     def strike(self, armed, call):
@@ -56,7 +56,7 @@ class OpenLoads(CacheTest):
                 events, threads = [threading.Event() for _ in range(3)], []
                 for event in events:
                     opened = cache.numbers()["flights"]
-                    threads.append(threading.Thread(target=cache.get, args=(one, lambda key, event=event: (event.wait(), "of one")[1])))
+                    threads.append(threading.Thread(target=cache.get_or_load, args=(one, lambda key, event=event: (event.wait(), "of one")[1])))
                     threads[-1].start()
                     while cache.numbers()["flights"] == opened:
                         time.sleep(0)
@@ -67,7 +67,7 @@ class OpenLoads(CacheTest):
                 for event, thread in zip(events, threads):
                     event.set()
                     within_a_minute(thread.join)
-                self.assertEqual(cache.get(other, lambda key: "of the other"), "of the other")
+                self.assertEqual(cache.get_or_load(other, lambda key: "of the other"), "of the other")
                 self.holds_exactly(cache, 2)
                 cache.clear()
                 self.holds_exactly(cache, 0)
@@ -79,7 +79,7 @@ class OpenLoads(CacheTest):
             got, may_end, joins = [], threading.Event(), cache.stats().joins
 
             def ask():
-                got.append(cache.get("a", lambda key: (may_end.wait(), 7)[1]))
+                got.append(cache.get_or_load("a", lambda key: (may_end.wait(), 7)[1]))
 
             threads = [threading.Thread(target=ask) for _ in range(4)]
             for thread in threads:
@@ -103,7 +103,7 @@ class Signals(CacheTest):
         def calls(i):
             key = i % 90
             cache.put(key, key)
-            if cache.get((key * 7) % 90, lambda key: key) != (key * 7) % 90:
+            if cache.get_or_load((key * 7) % 90, lambda key: key) != (key * 7) % 90:
                 wrong.append(key)
             cache.get_many([key, key + 1, "a", (key, 2 ** 70)], lambda keys: {key: key for key in keys})
             cache.look(key), cache.pop(key, None), cache.forget(key + 1), cache.drop(key + 2)
@@ -114,7 +114,7 @@ class Signals(CacheTest):
             i = 0
             while not stop.is_set():
                 i += 1
-                cache.get(i % 90, lambda key: key)
+                cache.get_or_load(i % 90, lambda key: key)
 
         def strike(*_):
             raise Struck
@@ -140,7 +140,7 @@ class Signals(CacheTest):
             within_a_minute(thread.join)
         self.assertEqual(wrong, [])
         self.holds_exactly(cache)
-        self.assertEqual(within_a_minute(lambda: [cache.get(key, lambda key: key) for key in range(90)]), list(range(90)))
+        self.assertEqual(within_a_minute(lambda: [cache.get_or_load(key, lambda key: key) for key in range(90)]), list(range(90)))
 
 
 if __name__ == "__main__":

@@ -40,7 +40,7 @@ class Stress(CacheTest):
 
             if what < 0.78:
                 try:
-                    self.assertEqual(cache.get(key, load).key, key)
+                    self.assertEqual(cache.get_or_load(key, load).key, key)
                 except KeyError as error:
                     self.assertEqual(error.args, (key,))
             elif what < 0.86:
@@ -87,7 +87,7 @@ class Stress(CacheTest):
         def work(seed):
             if seed == 0:
                 for _ in range(200):
-                    cache.get(seed, Value)
+                    cache.get_or_load(seed, Value)
                 cache.close()
                 return
             try:
@@ -137,7 +137,7 @@ class Stress(CacheTest):
                 if what < 0.2:
                     change(key)
                 elif what < 0.6:
-                    check("get", key, least, cache.get(key, load))
+                    check("get", key, least, cache.get_or_load(key, load))
                 elif what < 0.7:
                     check("many", key, least, cache.get_many([key], lambda keys: {key: load(key) for key in keys})[key])
                 elif what < 0.75:
@@ -150,7 +150,7 @@ class Stress(CacheTest):
                 for _ in range(150):
                     key = rng.randrange(keys)
                     least = current(key)
-                    check("aget", key, least, await cache.aget(key, load_in_loop))
+                    check("aget", key, least, await cache.aget_or_load(key, load_in_loop))
 
             await asyncio.gather(*(task() for _ in range(10)))
 

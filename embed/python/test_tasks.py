@@ -1,5 +1,5 @@
 #!/usr/bin/env python3
-"""aget: tasks that share loads while their loop goes on."""
+"""aget_or_load and aget_many: tasks that share loads while their loop goes on."""
 import asyncio
 import gc
 import threading
@@ -28,7 +28,7 @@ class Tasks(CacheTest):
             return key * 2
 
         async def work():
-            return await asyncio.gather(*(cache.aget(21, load) for _ in range(64)))
+            return await asyncio.gather(*(cache.aget_or_load(21, load) for _ in range(64)))
 
         self.assertEqual((self.run_in_loop(work), made), ([42] * 64, [21]))
         self.holds_exactly(cache, 1)
@@ -38,8 +38,8 @@ class Tasks(CacheTest):
 
         async def work():
             with self.assertRaises(KeyError):
-                await cache.aget("a", lambda key: {}[key])
-            return await cache.aget("a", lambda key: 7)
+                await cache.aget_or_load("a", lambda key: {}[key])
+            return await cache.aget_or_load("a", lambda key: 7)
 
         self.assertEqual(self.run_in_loop(work), 7)
         self.holds_exactly(cache, 1)
@@ -54,10 +54,10 @@ class Tasks(CacheTest):
             return 7
 
         async def work():
-            leader = asyncio.create_task(cache.aget("a", load))
+            leader = asyncio.create_task(cache.aget_or_load("a", load))
             while not made:
                 await asyncio.sleep(0)
-            joiner = asyncio.create_task(cache.aget("a", load))
+            joiner = asyncio.create_task(cache.aget_or_load("a", load))
             await joins(cache, 1)
             leader.cancel()
             self.assertEqual(await joiner, 7)
@@ -73,7 +73,7 @@ class Tasks(CacheTest):
 
         async def ask(key):
             try:
-                await cache.aget(key, load)
+                await cache.aget_or_load(key, load)
             except WaitsForItself:
                 told.append("a task")
 
@@ -82,7 +82,7 @@ class Tasks(CacheTest):
             await asyncio.create_task(ask(key))
             # A get in the loop's thread would keep the load from ending.
             try:
-                cache.get(key, lambda key: 1)
+                cache.get_or_load(key, lambda key: 1)
             except WaitsForItself:
                 told.append("the thread")
             try:
@@ -90,7 +90,7 @@ class Tasks(CacheTest):
             finally:
                 return 7
 
-        self.assertEqual(self.run_in_loop(lambda: cache.aget("a", load)), 7)
+        self.assertEqual(self.run_in_loop(lambda: cache.aget_or_load("a", load)), 7)
         self.assertEqual(told, ["a task", "a task", "the thread"])
         self.holds_exactly(cache, 1)
 
@@ -98,13 +98,13 @@ class Tasks(CacheTest):
         cache = Cache(entries=10)
 
         async def work():
-            coroutine = cache.aget("a", lambda key: asyncio.Event().wait())
+            coroutine = cache.aget_or_load("a", lambda key: asyncio.Event().wait())
             coroutine.send(None)
             self.assertEqual(cache.kept(), (0, 1))
             del coroutine
             gc.collect()
             self.assertEqual(cache.kept(), (0, 0))
-            return await cache.aget("a", lambda key: 7)
+            return await cache.aget_or_load("a", lambda key: 7)
 
         self.assertEqual(self.run_in_loop(work), 7)
         self.assertEqual((cache.stats().failed, cache.stats().loads), (1, 1))
@@ -119,20 +119,20 @@ class Tasks(CacheTest):
                 time.sleep(0.001)
             return "by a thread"
 
-        thread = threading.Thread(target=lambda: cache.get("a", load))
+        thread = threading.Thread(target=lambda: cache.get_or_load("a", load))
         thread.start()
         begun.wait()
 
         async def load_in_loop(key):
             got = []
-            thread = threading.Thread(target=lambda: got.append(cache.get("b", None)))
+            thread = threading.Thread(target=lambda: got.append(cache.get_or_load("b", None)))
             thread.start()
             await joins(cache, 2)
             asyncio.get_running_loop().call_later(0.001, thread.join)
             return "by a task"
 
         async def work():
-            return await cache.aget("a", never), await cache.aget("b", load_in_loop)
+            return await cache.aget_or_load("a", never), await cache.aget_or_load("b", load_in_loop)
 
         self.assertEqual(self.run_in_loop(work), ("by a thread", "by a task"))
         thread.join()

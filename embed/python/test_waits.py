@@ -38,11 +38,11 @@ class Waits(CacheTest):
                 pass
             return 7
 
-        threads = [threading.Thread(target=lambda: got.append(cache.get("a", None))) for _ in range(3)]
-        threads += [threading.Thread(target=lambda: got.append(asyncio.run(cache.aget("a", never)))) for _ in range(2)]
+        threads = [threading.Thread(target=lambda: got.append(cache.get_or_load("a", None))) for _ in range(3)]
+        threads += [threading.Thread(target=lambda: got.append(asyncio.run(cache.aget_or_load("a", never)))) for _ in range(2)]
 
         def lead():
-            self.assertEqual(cache.get("a", load), 7)
+            self.assertEqual(cache.get_or_load("a", load), 7)
             # Else they would look for themselves, a second later.
             left.append(_waits.waits.behind((threading.get_ident(), None), 1 << 63))
 
@@ -62,7 +62,7 @@ class Waits(CacheTest):
 
         def begin():
             idents.append(threading.get_ident())
-            loop.create_task(cache.aget("a", load))
+            loop.create_task(cache.aget_or_load("a", load))
             loop.run_until_complete(asyncio.sleep(0))
 
         def goes_on():
@@ -72,7 +72,7 @@ class Waits(CacheTest):
 
         def ask():
             idents.append(threading.get_ident())
-            got.append(cache.get("a", None))
+            got.append(cache.get_or_load("a", None))
 
         first = threading.Thread(target=begin)
         first.start()
@@ -98,7 +98,7 @@ class Waits(CacheTest):
 
         def serve():
             # Somebody keeps the tasks, so that gc doesn't end them.
-            kept.extend(loop.create_task(cache.aget(key, slow)) for key in "abc")
+            kept.extend(loop.create_task(cache.aget_or_load(key, slow)) for key in "abc")
             loop.run_forever()
             loop.close()
 
@@ -106,8 +106,8 @@ class Waits(CacheTest):
         server = threading.Thread(target=serve)
         server.start()
         begun.wait()
-        waiters = [threading.Thread(target=lambda: got.append(cache.get("a", lambda key: "asked again"))),
-                   threading.Thread(target=lambda: got.append(asyncio.run(cache.aget("a", lambda key: "asked again"))))]
+        waiters = [threading.Thread(target=lambda: got.append(cache.get_or_load("a", lambda key: "asked again"))),
+                   threading.Thread(target=lambda: got.append(asyncio.run(cache.aget_or_load("a", lambda key: "asked again"))))]
         for waiter in waiters:
             waiter.start()
         wait_for_joins(cache, 2)
@@ -116,8 +116,8 @@ class Waits(CacheTest):
         for waiter in waiters:
             within_a_minute(waiter.join)
         self.assertEqual(got, ["asked again"] * 2)
-        self.assertEqual(within_a_minute(lambda: cache.get("b", lambda key: "at once")), "at once")
-        self.assertEqual(self.run_in_loop(lambda: cache.aget("c", lambda key: "in a new loop")), "in a new loop")
+        self.assertEqual(within_a_minute(lambda: cache.get_or_load("b", lambda key: "at once")), "at once")
+        self.assertEqual(self.run_in_loop(lambda: cache.aget_or_load("c", lambda key: "in a new loop")), "in a new loop")
         self.holds_exactly(cache, 3)
         del kept[:]
         gc.collect()
@@ -133,7 +133,7 @@ class Waits(CacheTest):
 
         for key in range(20):
             loop = asyncio.new_event_loop()
-            task = loop.create_task(cache.aget(key, slow))
+            task = loop.create_task(cache.aget_or_load(key, slow))
             tasks.append(weakref.ref(task))
             loop.run_until_complete(asyncio.sleep(0))
             loop.close()
@@ -146,13 +146,13 @@ class Waits(CacheTest):
 
     def test_waits_of_loops_that_are_closed_leave_nothing(self):
         cache, begun, may_end, tasks = Cache(entries=10), threading.Event(), threading.Event(), []
-        leader = threading.Thread(target=lambda: cache.get("a", lambda key: (begun.set(), may_end.wait())))
+        leader = threading.Thread(target=lambda: cache.get_or_load("a", lambda key: (begun.set(), may_end.wait())))
         leader.start()
         begun.wait()
         logging.getLogger("asyncio").setLevel(logging.CRITICAL)
         for _ in range(20):
             loop = asyncio.new_event_loop()
-            task = loop.create_task(cache.aget("a", never))
+            task = loop.create_task(cache.aget_or_load("a", never))
             tasks.append(weakref.ref(task))
             loop.run_until_complete(asyncio.sleep(0))
             loop.close()
@@ -166,7 +166,7 @@ class Waits(CacheTest):
 
     def test_waits_that_give_up_leave_nothing(self):
         cache, begun, may_end = Cache(entries=10), threading.Event(), threading.Event()
-        leader = threading.Thread(target=lambda: cache.get("a", lambda key: (begun.set(), may_end.wait())))
+        leader = threading.Thread(target=lambda: cache.get_or_load("a", lambda key: (begun.set(), may_end.wait())))
         leader.start()
         begun.wait()
         self.addCleanup(may_end.set)
@@ -174,14 +174,14 @@ class Waits(CacheTest):
         def give_up(times):
             for _ in range(times):
                 try:
-                    cache.get("a", None, timeout=0)
+                    cache.get_or_load("a", None, timeout=0)
                 except TimeoutError:
                     continue
                 self.fail("it ended")
 
         async def cancel(times):
             for _ in range(times):
-                task = asyncio.create_task(cache.aget("a", never))
+                task = asyncio.create_task(cache.aget_or_load("a", never))
                 await asyncio.sleep(0)
                 task.cancel()
                 await asyncio.wait([task])
@@ -218,7 +218,7 @@ class Waits(CacheTest):
                 raise KeyError(i)
             except KeyError:
                 try:
-                    cache.get("a", load)
+                    cache.get_or_load("a", load)
                 except Failure as error:
                     tell(error)
 
@@ -227,7 +227,7 @@ class Waits(CacheTest):
                 raise KeyError(i)
             except KeyError:
                 try:
-                    await cache.aget("b", load_in_loop)
+                    await cache.aget_or_load("b", load_in_loop)
                 except Failure as error:
                     tell(error)
 
@@ -242,7 +242,7 @@ class Waits(CacheTest):
             self.assertEqual((len(of), {(id(row[0]), id(row[1])) for row in of}), (21, {(id(of[0][0]), id(of[0][1]))}))
             self.assertIsInstance(of[0][1], KeyError)
         frames = [row[2] for row in told]
-        self.assertEqual((frames.count(["ask_in_loop", "aget", "_make", "load_in_loop"]), len(frames)), (21, 21))
+        self.assertEqual((frames.count(["ask_in_loop", "aget_or_load", "_make", "load_in_loop"]), len(frames)), (21, 21))
         # From Python 3.12 on a traceback is the exception's alone, and those of threads that raise at the same time may mix.
         self.assertLess(max(len(row[2]) for row in of_threads), 10)
         if sys.version_info < (3, 12):
@@ -257,7 +257,7 @@ class Waits(CacheTest):
             raise Failure
 
         async def load_that_asks_for_itself(key):
-            return await cache.aget(key, never)
+            return await cache.aget_or_load(key, never)
 
         def many(keys):
             raise Failure
@@ -285,11 +285,11 @@ class Waits(CacheTest):
 
         cache = Cache(entries=10)
         rows = (
-            lambda: asyncio.run(failures(lambda: cache.aget("a", load), 1)),
-            lambda: asyncio.run(failures(lambda: cache.aget("a", load_in_loop), 5)),
-            lambda: asyncio.run(failures(lambda: cache.aget("a", load_that_asks_for_itself), 1)),
-            lambda: asyncio.run(cancelled(lambda: cache.aget("a", load_in_loop))),
-            lambda: caught(lambda: cache.get("a", load)),
+            lambda: asyncio.run(failures(lambda: cache.aget_or_load("a", load), 1)),
+            lambda: asyncio.run(failures(lambda: cache.aget_or_load("a", load_in_loop), 5)),
+            lambda: asyncio.run(failures(lambda: cache.aget_or_load("a", load_that_asks_for_itself), 1)),
+            lambda: asyncio.run(cancelled(lambda: cache.aget_or_load("a", load_in_loop))),
+            lambda: caught(lambda: cache.get_or_load("a", load)),
             lambda: caught(lambda: cache.get_many("ab", many)),
             lambda: caught(lambda: cache.get_many("ab", lambda keys: Failing(a=1))),
         )
@@ -304,15 +304,15 @@ class Waits(CacheTest):
 
     def test_a_time_limit_is_a_number_of_any_size(self):
         cache, begun, may_end = Cache(entries=10), threading.Event(), threading.Event()
-        leader = threading.Thread(target=lambda: cache.get("a", lambda key: (begun.set(), may_end.wait(), 7)[2]))
+        leader = threading.Thread(target=lambda: cache.get_or_load("a", lambda key: (begun.set(), may_end.wait(), 7)[2]))
         leader.start()
         begun.wait()
         self.addCleanup(may_end.set)
         for timeout, error in ((-1, TimeoutError), (0, TimeoutError), (1e-9, TimeoutError), (float("nan"), ValueError), ("1", TypeError)):
             with self.subTest(timeout), self.assertRaises(error):
-                within_a_minute(lambda: cache.get("a", None, timeout=timeout))
+                within_a_minute(lambda: cache.get_or_load("a", None, timeout=timeout))
         got = []
-        waiters = [threading.Thread(target=lambda timeout=timeout: got.append(cache.get("a", None, timeout=timeout)))
+        waiters = [threading.Thread(target=lambda timeout=timeout: got.append(cache.get_or_load("a", None, timeout=timeout)))
                    for timeout in (None, float("inf"), 1e300, 1e10, 3600)]
         joins = cache.stats().joins
         for waiter in waiters:
@@ -333,12 +333,12 @@ class Waits(CacheTest):
                 gate.wait()
                 with concurrent.futures.ThreadPoolExecutor(1) as pool:
                     try:
-                        return pool.submit(cache.get, 1 - key, None, 0.01).result()
+                        return pool.submit(cache.get_or_load, 1 - key, None, 0.01).result()
                     except TimeoutError:
                         gave_up.append(key)
                         return key
 
-            cache.get(i, load)
+            cache.get_or_load(i, load)
 
         within_a_minute(lambda: together(2, ask))
         self.assertGreater(len(gave_up), 0)

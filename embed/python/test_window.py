@@ -70,6 +70,13 @@ class Ruled:
         self.looked(number)
         return found.startswith("hit")
 
+    def peek(self, number):
+        return self.shard_of(number).call_peek(self.moment, as_key(number)).startswith("hit")
+
+    def there(self):
+        """The keys whose entries haven't expired."""
+        return sorted(key[1] for shard in self.shards for key in shard.entries if self.peek(key[1]))
+
     def seek(self, number):
         """The number of the load that it opens, or None."""
         words = self.follow(number).call_seek(self.moment, as_key(number)).split()
@@ -119,14 +126,14 @@ class WindowTest(CacheTest):
         self.assertEqual(cache.window(), rule.window())
         numbers = cache.numbers()
         self.assertEqual((numbers["step"], numbers["hits"]), (sum(shard.steps for shard in rule.shards), sum(shard.counts["hits"] for shard in rule.shards)))
-        self.assertEqual(sorted(cache), sorted(key[1] for shard in rule.shards for key in shard.entries))
+        self.assertEqual((len(cache), sorted(cache)), (sum(len(shard.entries) for shard in rule.shards), rule.there()))
         self.holds_exactly(cache)
 
     def gets(self, cache, rule, keys):
         """The windows in their order, as the keys are got from both."""
         windows = []
         for key in keys:
-            cache.get(key, abs)
+            cache.get_or_load(key, abs)
             rule.get(key)
             self.assertEqual(cache.window(), rule.window())
             if windows[-1:] != [rule.window()]:
@@ -212,10 +219,10 @@ class Rules(WindowTest):
         # All entries, and then 40 hundredths or fewer, whichever keys are of the sample.
         cache = Cache(entries=1024)
         for key in shift(700, 2000, 30_000):
-            cache.get(key, abs)
+            cache.get_or_load(key, abs)
         self.assertEqual(cache.window(), 1024)
         for key in zipf(50_000, 60_000):
-            cache.get(key, abs)
+            cache.get_or_load(key, abs)
         self.assertLessEqual(cache.window(), 409)
 
     def test_every_call_shows_what_it_looks_up_once(self):
@@ -226,23 +233,28 @@ class Rules(WindowTest):
         calls = {
             "look": (lambda key: cache.look(key) is not None, rule.look),
             "item": (lambda key: self.item(cache, key), rule.look),
-            "in": (lambda key: key in cache, rule.look),
+            "get": (lambda key: cache.get(key) is not None, rule.look),
+            "in": (lambda key: key in cache, rule.peek),
+            "peek": (lambda key: cache.peek(key) is not None, rule.peek),
+            "setdefault": (lambda key: cache.setdefault(key, key), lambda key: rule.look(key) or rule.put(key)),
             "pop": (lambda key: cache.pop(key, None) is not None, rule.pop),
             "put": (lambda key: cache.put(key, key), rule.put),
             "drop": (cache.drop, rule.drop),
-            "get": (lambda key: cache.get(key, abs), rule.get),
-            "get that fails": (lambda key: self.fails(cache, key), lambda key: self.fails_by(rule, key)),
-            "aget": (lambda key: loop.run_until_complete(cache.aget(key, abs)), rule.get),
+            "get_or_load": (lambda key: cache.get_or_load(key, abs), rule.get),
+            "get_or_load that fails": (lambda key: self.fails(cache, key), lambda key: self.fails_by(rule, key)),
+            "aget_or_load": (lambda key: loop.run_until_complete(cache.aget_or_load(key, abs)), rule.get),
             "get_many": (lambda key: cache.get_many([key, key + 1, key], lambda keys: {key: key for key in keys}), lambda key: rule.get_many([key, key + 1])),
+            "aget_many": (lambda key: loop.run_until_complete(cache.aget_many([key, key + 1], lambda keys: {key: key for key in keys})),
+                          lambda key: rule.get_many([key, key + 1])),
         }
-        names = list(calls) + ["look", "get", "get"] * 4
+        names = list(calls) + ["look", "get_or_load", "get_or_load"] * 4
         windows = set()
         for keys in (zipf(50_000, 6000, 3), shift(450, 1500, 9000)):
             for key in keys:
                 now[0] = rule.moment = now[0] + rng.randrange(2)
                 name = rng.choice(names)
                 ours, theirs = (call(key) for call in calls[name])
-                if name in ("look", "item", "in", "pop", "drop"):
+                if name in ("look", "item", "get", "in", "peek", "pop", "drop"):
                     self.assertEqual(ours, theirs, name)
                 self.assertEqual((cache.window(), cache.numbers()["latest"]), (rule.window(), max(shard.latest for shard in rule.shards)), name)
                 windows.add(cache.window())
@@ -261,7 +273,7 @@ class Rules(WindowTest):
             raise ValueError
 
         try:
-            cache.get(key, load)
+            cache.get_or_load(key, load)
         except ValueError:
             pass
 
@@ -278,7 +290,7 @@ class Rules(WindowTest):
             opened = rule.seek(key)
             for other in range(10 ** 9, 10 ** 9 + 1000):
                 with self.assertRaises(Refused) as caught:
-                    cache.get(other, abs)
+                    cache.get_or_load(other, abs)
                 faults.add(caught.exception.fault)
                 rule.follow(other)
             rule.land(key, opened)
@@ -287,7 +299,7 @@ class Rules(WindowTest):
         # All entries are wanted from about the 2,000th look-up on, or the 1,000th if the refused ones counted.
         stream = shift(400, 1500, 3000)
         self.gets(cache, rule, stream[:900])
-        cache.get(7, load)
+        cache.get_or_load(7, load)
         self.gets(cache, rule, stream[900:])
         self.agrees(cache, rule)
         self.assertEqual(faults, {4})
@@ -377,7 +389,7 @@ class Comparisons(WindowTest):
                 for key in shift(500, 1000, 6000, seed):
                     what = rng.random()
                     if what < 0.7:
-                        self.assertEqual(cache.get(key, abs), key)
+                        self.assertEqual(cache.get_or_load(key, abs), key)
                     elif what < 0.9:
                         cache.put(key, key)
                     else:
@@ -406,7 +418,7 @@ class Lives(WindowTest):
         def used():
             cache = Cache(entries=512, shards=2)
             for key in shift(400, 1500, 3000):
-                cache.get(key, abs)
+                cache.get_or_load(key, abs)
             self.assertGreater(blocks(), before)
             return cache
 

@@ -46,7 +46,7 @@ class Pages:
         return row[0]
 
     def get(self, number):
-        return self.cache.get(number, self.load)
+        return self.cache.get_or_load(number, self.load)
 
 
 def server_of(pages, port):

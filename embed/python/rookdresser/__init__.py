@@ -1,7 +1,7 @@
 """A loading cache for Python threads and tasks: the proved sequential cache of librookdresser, in a module of C.
 
     with Cache(entries=1000, after_write=60_000) as cache:
-        page = cache.get(url, load)         # load(url) is called once, however many threads ask
+        page = cache.get_or_load(url, load)     # load(url) is called once, however many threads ask
 
 Keys are whatever can be hashed, values whatever there is. This package is tested, not proved; see README.md.
 """
@@ -10,11 +10,13 @@ try:
 except ModuleNotFoundError as error:
     raise ImportError("rookdresser's native module isn't built: run backend.py beside the package, or install it by pip") from error
 
-from ._cache import Cache, LeftOut
+from ._cache import Cache
 from ._decorator import CacheInfo, cached
-from ._faults import Refused
+from ._faults import BadSetup, Closed, OutOfMemory, Refused, StepsSpent, TooHeavy, TooManyFlights
+from ._loads import LeftOut
 from ._stats import Stats
 from ._waits import WaitsForItself
 
-__all__ = ["Cache", "CacheInfo", "LeftOut", "Refused", "Stats", "WaitsForItself", "cached"]
+__all__ = ["BadSetup", "Cache", "CacheInfo", "Closed", "LeftOut", "OutOfMemory", "Refused", "Stats", "StepsSpent", "TooHeavy", "TooManyFlights",
+           "WaitsForItself", "cached"]
 __version__ = "0.2.0.dev0"

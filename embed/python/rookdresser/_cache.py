@@ -1,36 +1,37 @@
-"""The cache. Its calls are those of native/; here are its constructor, what asyncio needs, and the calls for many keys."""
+"""The cache. Its calls are those of native/ and of _loads.py; here are its constructor and what makes it a mapping."""
 from __future__ import annotations
 
-import asyncio
-import inspect
 import logging
 import os
-from collections.abc import Coroutine
-from typing import Any, Awaitable, Callable, Dict, Hashable, Iterable, List, Mapping, Optional, Tuple, TypeVar, Union
+from collections.abc import ItemsView, KeysView, Mapping, MutableMapping, ValuesView
+from datetime import timedelta
+from typing import Any, Callable, Dict, Hashable, Iterable, Optional, Tuple, TypeVar, Union
 
 from . import _fork, _keys
-from ._faults import Refused
-from ._native import Load, Table
-from ._settings import setup_of
+from ._faults import Closed, Refused
+from ._loads import Loads
+from ._native import Load
+from ._settings import by_name, setup_of
 from ._stats import Stats
-from ._waits import wait_in_loop, waits
+from ._views import Items, Keys, Values
+from ._waits import waits
 
 K = TypeVar("K", bound=Hashable)
 V = TypeVar("V")
+Duration = Union[int, timedelta]
 log = logging.getLogger("rookdresser")
 NUMBERS = ("lookups", "hits", "misses", "loads", "failed", "evicted", "entries", "weight", "step", "latest", "flights")
 
 
-class LeftOut(KeyError):
-    """The function that get_many was given returned nothing for the key. Callers of get or aget that share the key's load get this."""
-
-
-class Cache(Table[K, V]):
-    """A loading cache for threads and tasks. Keys are whatever can be hashed, values whatever there is.
+class Cache(Loads[K, V]):
+    """A loading cache for threads and tasks, and a mapping. Keys are whatever can be hashed, values whatever there is.
 
     >>> with Cache(entries=1000, after_write=60_000) as cache:
-    ...     cache.get("a", str.upper)
-    'A'
+    ...     cache.get_or_load("a", str.upper), cache.get("b")
+    ('A', None)
+
+    All settings but `entries` are given by name. A duration is a whole number of milliseconds, or a timedelta, which is rounded up to
+    milliseconds; 0: never. A setting out of its range raises BadSetup.
 
     `entries`       how many it may hold; at most 65,536 for each shard
     `shards`        of how many caches of the library it is made, at most 4,096; by default one for each 65,536 entries. Entries, window
@@ -41,9 +42,9 @@ class Cache(Table[K, V]):
     `flights`       how many loads each shard may have open at a time; at most 4,096
     `bound`         how much the entries may weigh together
     `weigh`         weigh(key, value) returns a value's weight, a whole number; by default each weighs 1
-    `after_write`   an entry expires so many milliseconds after it was written; 0: never
-    `after_access`  an entry expires so many milliseconds after it was used; 0: never
-    `refresh`       an entry is due for a further load so many milliseconds after it was written, fewer than `after_write`; 0: never
+    `after_write`   an entry expires so long after it was written
+    `after_access`  an entry expires so long after it was used
+    `refresh`       an entry is due for a further load so long after it was written, less than `after_write`
     `on_leave`      on_leave(key, value, cause) is called for each entry that leaves, in the thread whose call made it leave, after that
                     call's step and after the load has landed. The cause is "explicit", "replaced", "expired" or "size". What it raises
                     is logged
@@ -51,8 +52,9 @@ class Cache(Table[K, V]):
     `seeded`        False: the library gets hash(key) as it is. Then strangers may not choose the keys
     """
 
-    def __init__(self, entries: int, window: Optional[int] = None, flights: int = 1024, bound: int = 1 << 48,
-                 after_write: int = 0, after_access: int = 0, refresh: int = 0,
+    @by_name
+    def __init__(self, entries: int, *, window: Optional[int] = None, flights: int = 1024, bound: int = 1 << 48,
+                 after_write: Duration = 0, after_access: Duration = 0, refresh: Duration = 0,
                  weigh: Optional[Callable[[K, V], int]] = None, on_leave: Optional[Callable[[K, V, str], object]] = None,
                  clock: Optional[Callable[[], int]] = None, seeded: bool = True, shards: Optional[int] = None,
                  adaptive: Optional[bool] = None) -> None:
@@ -75,151 +77,68 @@ class Cache(Table[K, V]):
         """Returns how many entries it holds, of how many."""
         try:
             return "<Cache of %d entries, %d held>" % (self._entries, len(self))
-        except Refused:
+        except Closed:
             return "<Cache of %d entries, closed>" % self._entries
 
     def __reduce__(self) -> Any:
         """Raises TypeError: a cache is neither copied nor pickled."""
         raise TypeError("a cache can't be copied or pickled")
 
-    async def aget(self, key: K, load: Callable[[K], Union[V, Awaitable[V]]]) -> V:
-        """Returns what get returns, for a task: neither the load nor the wait for another's blocks the loop.
+    def keys(self) -> KeysView[K]:
+        """Returns a view of the keys. To iterate is over those of one moment, without any that has expired, and is no use of the entries.
 
-        `load` may return an awaitable. To give up a wait, use asyncio.wait_for or asyncio.timeout.
+        A key may be asked for as in the cache: also that is no use. `len` of a view is that of the cache.
 
-        >>> async def load(key):
-        ...     return key.upper()
-        >>> asyncio.run(cache.aget("a", load))
-        'A'
+        >>> cache.update(a=1, b=2)
+        >>> sorted(cache.keys()), "a" in cache.keys(), cache.keys() & {"b", "c"}
+        (['a', 'b'], True, {'b'})
         """
-        if not callable(load):
-            raise TypeError("load has to be callable; for a default use look(key, default)")
-        task, loop = _this_task()
-        mine: Optional[Load[V]] = None
-        of: Optional[Load[V]] = None
-        try:
-            while True:
-                mine, of = Load(), None
-                try:
-                    value, of = self._seek(key, mine, task, loop)
-                    if of is None:
-                        return value  # type: ignore[return-value]
-                    if of is mine:
-                        return await self._make(key, mine, load)
-                except BaseException as error:
-                    # It has ended, unless an interrupt struck.
-                    self._fail(mine, error)
-                    raise
-                if await wait_in_loop(of, task):
-                    self._fail(of, SystemExit("the task that made the load is done, or its loop is closed"))
-                if of.error is None or isinstance(of.error, Exception):
-                    return self._shared(of)
-                # The task that loaded was told to end, not this one.
-        finally:
-            # An exception's traceback keeps this frame, and a load and a task keep their exceptions.
-            del task, mine, of
+        return Keys(self)
 
-    async def _make(self, key: K, mine: Load[V], load: Callable[[K], Union[V, Awaitable[V]]]) -> V:
-        """Makes a load in this task."""
-        try:
-            loaded = load(key)
-            value: V = await loaded if inspect.isawaitable(loaded) else loaded
-            return self._land(mine, value)
-        except BaseException as error:
-            if self._fail(mine, error):
-                return mine.old  # type: ignore[return-value]
-            raise
-        finally:
-            del mine
+    def values(self) -> ValuesView[V]:
+        """Returns a view of the values, as keys does.
 
-    def get_many(self, keys: Iterable[K], load_many: Callable[[List[K]], Mapping[K, V]],
-                 timeout: Optional[float] = None) -> Dict[K, V]:
-        """Returns the values of the keys that there are, by key. load_many(list of keys) is called once, for all that have none.
-
-        If these are more than may be loading (`flights`), it raises Refused and calls nothing: ask for fewer keys at a time.
-
-        A key that load_many leaves out isn't in what is returned, and nothing is stored for it. What load_many raises is raised here,
-        and in all who share one of its loads. Loads that others make of these keys are waited for last, each for at most `timeout`
-        seconds; if such a load ends by SystemExit or the like, load_many is called once more, for its key.
-
-        >>> cache.get_many(["a", "b"], lambda keys: {key: key.upper() for key in keys})
-        {'a': 'A', 'b': 'B'}
+        >>> cache.update(a=1, b=2)
+        >>> sorted(cache.values()), 2 in cache.values()
+        ([1, 2], True)
         """
-        if not callable(load_many):
-            raise TypeError("load_many has to be callable")
-        found: Dict[K, V] = {}
-        mine: Dict[K, Load[V]] = {}
-        others: Dict[K, Load[V]] = {}
-        begun: List[Load[V]] = []
-        loop = waits.running_loop()
-        of: Optional[Load[V]] = None
-        try:
-            try:
-                for key in dict.fromkeys(keys):
-                    begun.append(Load())
-                    value, of = self._seek(key, begun[-1], None, loop)
-                    if of is None:
-                        found[key] = value  # type: ignore[assignment]
-                    else:
-                        (mine if of is begun[-1] else others)[key] = of
-                if mine:
-                    self._make_many(mine, begun, load_many, found)
-            except BaseException as error:
-                self._fail_all(begun, error)
-                raise
-            for key, of in others.items():
-                self._wait(of, timeout)
-                if of.error is not None and not isinstance(of.error, Exception):
-                    # The thread that loaded was told to end, not this one.
-                    found.update(self.get_many([key], load_many, timeout))
-                elif not isinstance(of.error, LeftOut):
-                    found[key] = self._shared(of)
-            return found
-        finally:
-            # An exception's traceback keeps this frame, and a load keeps its exception.
-            del of
-            for loads in (mine, others):
-                loads.clear()
-            begun.clear()
+        return Values(self)
 
-    def _make_many(self, mine: Dict[K, Load[V]], begun: List[Load[V]], load_many: Callable[[List[K]], Mapping[K, V]],
-                   found: Dict[K, V]) -> None:
-        """Makes these loads together. If that fails, due entries keep their old values, and if there are others it is raised."""
-        try:
-            loaded = load_many(list(mine))
-            self._refuse_coroutine(loaded, "load_many returned a coroutine, and has to return a mapping")
-        except Exception as error:
-            self._fail_all(begun, error)
-            if not all(load.is_refresh for load in mine.values()):
-                raise
-            found.update((key, load.old) for key, load in mine.items())  # type: ignore[misc]
-            return
-        for key in mine:
-            if key in loaded:
-                found[key] = self._land(mine[key], loaded[key])
-            elif self._fail(mine[key], LeftOut(key)):
-                found[key] = mine[key].old  # type: ignore[assignment]
+    def items(self) -> ItemsView[K, V]:
+        """Returns a view of the pairs of key and value, as keys does. dict(cache.items()) is a copy of one moment.
 
-    def _refuse_coroutine(self, value: object, why: str) -> None:
-        """Raises TypeError of a coroutine, which can be awaited once. A Future or a Task is kept, as many may await it."""
-        if isinstance(value, Coroutine):
-            value.close()
-            raise TypeError(why)
+        >>> cache.update(a=1, b=2)
+        >>> dict(cache.items()) == {"a": 1, "b": 2}, ("a", 2) in cache.items()
+        (True, False)
+        """
+        return Items(self)
+
+    def update(self, values: Any = (), /, **named: V) -> None:
+        """Does what put_many does, and then stores each value that is given by name.
+
+        >>> cache.update({"a": 1}, b=2)
+        >>> cache["a"], cache["b"]
+        (1, 2)
+        """
+        self.put_many(values)
+        self.put_many(named)  # type: ignore[arg-type]
 
     def put_many(self, values: Union[Mapping[K, V], Iterable[Tuple[K, V]]]) -> None:
         """Stores each value under its key, of a mapping or of pairs, in their order. If one is refused, those before it are stored.
+
+        What has `keys` counts as a mapping.
 
         >>> cache.put_many({"a": 1, "b": 2})
         >>> cache["a"], len(cache)
         (1, 2)
         """
-        for key, value in values.items() if isinstance(values, Mapping) else values:
+        for key, value in _pairs_of(values):
             self.put(key, value)
 
     def numbers(self) -> Dict[str, int]:
         """Returns the numbers of the library, by name, of all shards together.
 
-        `step` counts the library's own calls: a `get` that loads is two, and each move of a window by one entry is one more.
+        `step` counts the library's own calls: a `get_or_load` that loads is two, and each move of a window by one entry is one more.
 
         >>> cache.put("a", 1)
         >>> cache.numbers()["entries"]
@@ -230,18 +149,24 @@ class Cache(Table[K, V]):
     def stats(self) -> Stats:
         """Returns what this side has counted.
 
-        >>> "a" in cache, cache.stats().misses
-        (False, 1)
+        >>> cache.get("a"), cache.stats().misses
+        (None, 1)
         """
         return Stats(*self._counts())
 
 
-def _this_task() -> Tuple[asyncio.Task[Any], asyncio.AbstractEventLoop]:
-    task = asyncio.current_task()
-    if task is None:
-        raise RuntimeError("aget is for a task of asyncio")
-    return task, task.get_loop()
+def _pairs_of(values: Any) -> Iterable[Tuple[Any, Any]]:
+    """The pairs of what dict() would take."""
+    if isinstance(values, Mapping):
+        return values.items()
+    if hasattr(values, "keys"):
+        return ((key, values[key]) for key in values.keys())
+    return values  # type: ignore[no-any-return]
 
 
 def _log(key: object, error: BaseException) -> None:
     log.error("on_leave raised for the key %r", key, exc_info=error)
+
+
+# A mapping in all but its equality: two caches are equal if they are one.
+MutableMapping.register(Cache)

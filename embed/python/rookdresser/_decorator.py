@@ -120,7 +120,7 @@ def _in_tasks(cache: Cache[Any, Any], function: Callable[..., Any], key: Optiona
     @functools.wraps(function)
     async def ask(*arguments: Any, **named: Any) -> Any:
         of = key(*arguments, **named) if key else _key(arguments, named) if named else arguments
-        return await cache.aget(of, lambda _: function(*arguments, **named))
+        return await cache.aget_or_load(of, lambda _: function(*arguments, **named))
 
     return ask
 

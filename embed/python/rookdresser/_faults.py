@@ -1,5 +1,7 @@
-"""What a call raises if it is refused."""
-from typing import Optional
+"""What a call raises if it is refused: one class for each fault."""
+from __future__ import annotations
+
+from typing import Any, Dict, Optional, Tuple, Type
 
 BAD_SETUP = 2
 FAULTS = {1: "out of memory", BAD_SETUP: "a setting is out of its range", 3: "the value is heavier than the bound", 4: "too many loads are open",
@@ -9,13 +11,89 @@ FAULTS = {1: "out of memory", BAD_SETUP: "a setting is out of its range", 3: "th
 class Refused(Exception):
     """A call was refused, and nothing has changed. `fault` is its number in rookdresser.h.
 
+    Each fault has a class of its own, by which it is raised: OutOfMemory, BadSetup, TooHeavy, TooManyFlights, StepsSpent, Closed.
+    Refused(number) makes one of that class. A number that has none is of Refused itself.
+
     >>> try:
     ...     Cache(entries=0)
     ... except Refused as refused:
-    ...     print(refused.fault, refused)
-    2 entries is 0, and has to be from 1 to 268435456
+    ...     print(type(refused).__name__, refused.fault, refused)
+    BadSetup 2 entries is 0, and has to be from 1 to 268435456
     """
 
+    def __new__(cls, fault: int, why: Optional[str] = None) -> Refused:
+        """Returns an exception of the fault's class."""
+        return Exception.__new__(_CLASSES.get(fault, cls) if cls is Refused else cls, fault, why)  # type: ignore[call-arg]
+
     def __init__(self, fault: int, why: Optional[str] = None) -> None:
-        super().__init__(why or FAULTS.get(fault, "fault %d" % fault))
+        super().__init__(why or FAULTS.get(fault) or "fault %s" % fault)
         self.fault = fault
+
+    def __reduce__(self) -> Tuple[Any, ...]:
+        """Returns what pickle and copy make it of: the fault and the sentence, and what was set on it."""
+        return type(self), (self.fault, *self.args), self.__dict__
+
+
+class OutOfMemory(Refused, MemoryError):
+    """An allocation failed in the library. The same call may succeed later.
+
+    >>> Refused(1), issubclass(OutOfMemory, MemoryError)
+    (OutOfMemory('out of memory'), True)
+    """
+
+
+class BadSetup(Refused, ValueError):
+    """A setting is out of its range. The sentence has its name, its value and the range.
+
+    >>> try:
+    ...     Cache(entries=10, window=11)
+    ... except BadSetup as refused:
+    ...     print(refused)
+    window is 11, and has to be from 1 to 10, the entries
+    """
+
+
+class TooHeavy(Refused, ValueError):
+    """The value weighs more than its shard's part of `bound`. Only what stores raises it: a load returns such a value.
+
+    >>> try:
+    ...     Cache(entries=10, bound=5, weigh=lambda key, value: value).put("a", 6)
+    ... except TooHeavy as refused:
+    ...     print(refused)
+    the value is heavier than bound
+    """
+
+
+class TooManyFlights(Refused):
+    """As many loads are open in the key's shard as `flights` allows. Ask again once one has ended.
+
+    >>> cache = Cache(entries=10, flights=1)
+    >>> try:
+    ...     cache.get_many(["a", "b"], dict.fromkeys)
+    ... except TooManyFlights as refused:
+    ...     print(refused)
+    too many loads are open
+    """
+
+
+class StepsSpent(Refused):
+    """The shard has made 2^60 calls, after which it makes no more. At a thousand million a second that takes 36 years.
+
+    >>> Refused(5)
+    StepsSpent('2^60 calls were made')
+    """
+
+
+class Closed(Refused):
+    """The cache is closed.
+
+    >>> cache.close()
+    >>> try:
+    ...     cache.get("a")
+    ... except Closed as refused:
+    ...     print(refused)
+    the cache is closed
+    """
+
+
+_CLASSES: Dict[int, Type[Refused]] = {1: OutOfMemory, BAD_SETUP: BadSetup, 3: TooHeavy, 4: TooManyFlights, 5: StepsSpent, 100: Closed}

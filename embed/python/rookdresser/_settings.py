@@ -1,8 +1,13 @@
-"""The settings of a cache: the range of each, and what a shard gets of them."""
+"""The settings of a cache: how they are given, the range of each, and what a shard gets of them."""
+import functools
 import operator
-from typing import Any, Dict, Optional, Tuple
+import warnings
+from datetime import timedelta
+from typing import Any, Callable, Dict, Optional, Tuple, TypeVar
 
 from ._faults import BAD_SETUP, Refused
+
+F = TypeVar("F", bound=Callable[..., None])
 
 MOST_ENTRIES = 65_536  # of a shard
 MOST_SHARDS = 4_096
@@ -10,14 +15,34 @@ MOST_FLIGHTS = 4_096
 MOST_WEIGHT = 1 << 48  # of a shard
 MOST_MILLISECONDS = (1 << 64) - 1
 LEAST_ADVISED, MOST_ADVISED = 512, 4_194_304  # entries of all shards together
+DURATIONS = ("after_write", "after_access", "refresh")
+# The settings behind `entries` in the order in which they could once be given by place.
+BY_PLACE = ("window", "flights", "bound", *DURATIONS, "weigh", "on_leave", "clock", "seeded", "shards", "adaptive")
+
+
+def by_name(init: F) -> F:
+    """Lets a constructor take settings behind the first by place, too, with a DeprecationWarning, until version 1.0."""
+    @functools.wraps(init)
+    def opened(self: Any, *given: Any, **settings: Any) -> None:
+        by_place = dict(zip(BY_PLACE, given[1:]))
+        if len(given) > 1 + len(BY_PLACE):
+            raise TypeError("a cache has %d settings, and was given %d" % (1 + len(BY_PLACE), len(given)))
+        for name in by_place:
+            if name in settings:
+                raise TypeError("%s is given twice" % name)
+        if by_place:
+            warnings.warn("give settings by name: %s" % ", ".join("%s=" % name for name in by_place), DeprecationWarning, stacklevel=2)
+        init(self, *given[:1], **by_place, **settings)
+
+    return opened  # type: ignore[return-value]
 
 
 def setup_of(given: Dict[str, Any], adaptive: Any) -> Tuple[Tuple[int, ...], int, int, bool]:
     """Returns the settings of each shard in their order in the library, how many shards there are, how many entries they may hold, and
     whether their windows follow the look-ups. If they do, the window among the settings isn't used.
 
-    Raises Refused with the name, the value and the range of a setting that is out of its range, and TypeError if one is no whole number,
-    or `adaptive` no truth value. Entries, window and bound are of all shards together, and are shared out, rounding up.
+    Raises BadSetup with the name, the value and the range of a setting that is out of its range, and TypeError if one is no whole number
+    (or timedelta, of a duration), or `adaptive` no truth value. Entries, window and bound are of all shards together, and are shared out, rounding up.
     """
     of = {name: _whole(name, number) for name, number in given.items() if number is not None}
     entries, shards, window = of["entries"], of.get("shards"), of.get("window")
@@ -32,7 +57,7 @@ def setup_of(given: Dict[str, Any], adaptive: Any) -> Tuple[Tuple[int, ...], int
     follows = _follows(adaptive, entries, window)
     _check("flights", of["flights"], 1, MOST_FLIGHTS)
     _check("bound", of["bound"], 1, shards * MOST_WEIGHT, each % MOST_WEIGHT if shards > 1 else "")
-    for age in ("after_write", "after_access", "refresh"):
+    for age in DURATIONS:
         _check(age, of[age], 0, MOST_MILLISECONDS)
     if 0 < of["after_write"] <= of["refresh"]:
         raise Refused(BAD_SETUP, "refresh is %d, and has to be below after_write, %d" % (of["refresh"], of["after_write"]))
@@ -61,10 +86,15 @@ def _share(number: int, parts: int) -> int:
 
 
 def _whole(name: str, given: Any) -> int:
+    is_duration = name in DURATIONS
+    if is_duration and isinstance(given, timedelta):
+        # Milliseconds, rounded up: a duration that isn't 0 never becomes 0, which is for ever.
+        given = -(-given // timedelta(milliseconds=1))
     try:
         return operator.index(given)
     except TypeError:
-        raise TypeError("%s is %r, and has to be a whole number" % (name, given)) from None
+        kind = "a whole number of milliseconds or a timedelta" if is_duration else "a whole number"
+        raise TypeError("%s is %r, and has to be %s" % (name, given, kind)) from None
 
 
 def _check(name: str, number: int, least: int, most: int, why: str = "") -> None:

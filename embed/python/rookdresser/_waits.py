@@ -18,11 +18,11 @@ Who = Union["asyncio.Future[Any]", Tuple[int, Optional[Loop]], Tuple[int]]
 class WaitsForItself(RuntimeError):
     """The wait would keep the load from ending, so it was not begun, or has ended.
 
-    A load asked for its own key, or loads wait for each other in a circle, or get() in the thread of a loop would wait for a task
+    A load asked for its own key, or loads wait for each other in a circle, or get_or_load() in the thread of a loop would wait for a task
     of that loop.
 
     >>> try:
-    ...     cache.get("a", lambda key: cache.get(key, str.upper))
+    ...     cache.get_or_load("a", lambda key: cache.get_or_load(key, str.upper))
     ... except WaitsForItself as error:
     ...     print(error)
     the load of the key waits for this very caller

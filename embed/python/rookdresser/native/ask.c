@@ -73,11 +73,14 @@ int weight_of(Table *self, PyObject *key, PyObject *value, uint64_t *weight) {
     return whole(PyObject_CallFunctionObjArgs(self->weigh, key, value, NULL), 32, "the weight that weigh returned", weight);
 }
 
-/* Raises Refused, and counts it. A table that wasn't opened has no such type, and raises ValueError. */
+/* Raises what `refusal` returns for the fault, and counts it. A table that wasn't opened has no `refusal`, and raises ValueError. The class
+ * is the exception's own, as a handler is found by it before Python 3.11. */
 void refuse(Table *self, uint64_t fault) {
     self->refused[fault < 8 ? fault : (fault - 100) % 8 + 8]++;
     PyObject *number = PyLong_FromUnsignedLongLong(fault);
-    if (number) PyErr_SetObject(self->refusal ? self->refusal : PyExc_ValueError, number);
+    PyObject *error = number ? PyObject_CallFunctionObjArgs(self->refusal ? self->refusal : PyExc_ValueError, number, NULL) : NULL;
+    if (error) PyErr_SetObject((PyObject *)Py_TYPE(error), error);
+    Py_XDECREF(error);
     Py_XDECREF(number);
 }
 
@@ -118,6 +121,9 @@ int tell(Table *self, Use *left) {
     if (type) PyErr_Restore(type, raised, trace);
     return type ? -1 : 0;
 }
+
+/* True or False, of a call that returned 1 or 0; null of one that raised. */
+PyObject *truth_of(int is_true) { return is_true < 0 ? NULL : PyBool_FromLong(is_true); }
 
 /* Closes a coroutine and raises TypeError: of all who would get it, one alone could await it. _cache.py knows which awaitables are such. */
 int refuse_coroutine(Table *self, PyObject *value, const char *why) {

@@ -83,15 +83,23 @@ static PyObject *table_kept(Table *self, PyObject *none) {
     return Py_BuildValue("nn", entries, entries + loads);
 }
 
-/* Copies each use with references to its key and its load, as far as there is room. Returns how many there are. */
-static Py_ssize_t copied(Table *self, Use *all, Py_ssize_t room) {
+static int has_expired(Table *self, const Use *use, uint64_t now) {
+    rd_answer answer;
+    return rd_peek(shard_of(self, use->number), use->number, now, &answer) || answer.kind != RD_HIT;
+}
+
+/* Copies each use with references to what it has, as far as there is room; with a moment, the entries alone that haven't expired by then.
+ * Returns how many there are. */
+static Py_ssize_t copied(Table *self, const uint64_t *now, Use *all, Py_ssize_t room) {
     Py_ssize_t count = 0;
     STEP
     for (uint64_t i = 0; i <= self->mask; i++)
-        for (Use *use = self->buckets[i]; use; use = use->next, count++) {
-            if (count >= room) continue;
-            all[count] = *use;
+        for (Use *use = self->buckets[i]; use; use = use->next) {
+            if (now && (use->load || has_expired(self, use, *now))) continue;
+            if (count++ >= room) continue;
+            all[count - 1] = *use;
             Py_INCREF(use->key);
+            Py_XINCREF(use->value);
             Py_XINCREF((PyObject *)use->load);
         }
     END_STEP
@@ -103,35 +111,47 @@ static PyObject *key_of(const Use *use) {
     return use->key;
 }
 
+static PyObject *item_of(const Use *use) { return PyTuple_Pack(2, use->key, use->value); }
+
 static PyObject *row_of(const Use *use) {
     PyObject *load = use->load ? (PyObject *)use->load : Py_None;
     return Py_BuildValue("KKO", use->hash, use->number, load);
 }
 
-/* A list of what `of` makes of each use at one moment: of all, or of entries alone. */
-static PyObject *list_of(Table *self, int with_loads, PyObject *of(const Use *use)) {
+/* A list of what `of` makes of each use at one moment: of all, or with a moment of the entries alone that haven't expired by then. */
+static PyObject *list_of(Table *self, const uint64_t *now, PyObject *of(const Use *use)) {
     Py_ssize_t room = self->entries + self->loads;
     Use *all = zeroed(((size_t)room + 1) * sizeof(Use));
     if (!all) return PyErr_NoMemory();
-    Py_ssize_t count = copied(self, all, room);
+    Py_ssize_t count = copied(self, now, all, room);
     PyObject *list = PyList_New(0);
     for (Py_ssize_t i = 0; i < count && i < room; i++) {
-        PyObject *one = list && (with_loads || !all[i].load) ? of(&all[i]) : NULL;
+        PyObject *one = list ? of(&all[i]) : NULL;
         if (one && PyList_Append(list, one) < 0) Py_CLEAR(list);
         Py_XDECREF(one);
         if (PyErr_Occurred()) Py_CLEAR(list);
         Py_DECREF(all[i].key);
+        Py_XDECREF(all[i].value);
         Py_XDECREF((PyObject *)all[i].load);
     }
     PyMem_Free(all);
     return list;
 }
 
-static PyObject *table_uses(Table *self, PyObject *none) { return (void)none, list_of(self, 1, row_of); }
+static PyObject *table_uses(Table *self, PyObject *none) { return (void)none, list_of(self, NULL, row_of); }
+
+/* The same of the entries now, unless the cache is closed. */
+static PyObject *list_of_entries(Table *self, PyObject *of(const Use *use)) {
+    uint64_t now;
+    if (now_of(self, &now) < 0) return NULL;
+    if (!self->caches->is_open) return refuse(self, RD_CLOSED), NULL;
+    return list_of(self, &now, of);
+}
+
+static PyObject *table_pairs(Table *self, PyObject *none) { return (void)none, list_of_entries(self, item_of); }
 
 PyObject *table_iter(Table *self) {
-    if (!self->caches->is_open) return refuse(self, RD_CLOSED), NULL;
-    PyObject *keys = list_of(self, 0, key_of), *iterator = keys ? PyObject_GetIter(keys) : NULL;
+    PyObject *keys = list_of_entries(self, key_of), *iterator = keys ? PyObject_GetIter(keys) : NULL;
     Py_XDECREF(keys);
     return iterator;
 }
@@ -161,6 +181,7 @@ PyMethodDef held_methods[] = {
      "(400, 10)"},
     {"_numbers", METHOD(table_numbers), METH_NOARGS, "The numbers of the library, of all shards together."},
     {"_counts", METHOD(table_counts), METH_NOARGS, "What this side counted, in the order of Stats."},
+    {"_pairs", METHOD(table_pairs), METH_NOARGS, "(key, value) of each entry of one moment that hasn't expired."},
     {"_uses", METHOD(table_uses), METH_NOARGS, "(hash, number, load or None) of each key of an entry or an open load."},
     {NULL, NULL, 0, NULL},
 };

@@ -191,9 +191,8 @@ static PyType_Slot table_slots[] = {
 PyType_Spec table_spec = {"rookdresser._native.Table", sizeof(Table), 0, BASE_WITH_GC, table_slots};
 
 void join_methods(void) {
-    PyMethodDef *to = all_methods;
-    for (PyMethodDef *from = call_methods; from->ml_name; from++) *to++ = *from;
-    for (PyMethodDef *from = held_methods; from->ml_name; from++) *to++ = *from;
-    for (PyMethodDef *from = life_methods; from->ml_name; from++) *to++ = *from;
+    PyMethodDef *const parts[] = {call_methods, sweep_methods, python_load_methods, held_methods, life_methods}, *to = all_methods;
+    for (size_t i = 0; i < sizeof parts / sizeof *parts; i++)
+        for (PyMethodDef *from = parts[i]; from->ml_name; from++) *to++ = *from;
     *to = (PyMethodDef){NULL, NULL, 0, NULL};
 }

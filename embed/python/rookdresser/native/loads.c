@@ -180,14 +180,14 @@ static PyObject *loaded(PyObject *key, const Loader *loader) {
 static PyObject *made(Table *self, PyObject *key, Load *load, const Loader *loader) {
     if (!PyCallable_Check(loader->function)) {
         if (abandon(self, load, "its caller had nothing to call") == 0)
-            PyErr_SetString(PyExc_TypeError, "load has to be callable; for a default use look(key, default)");
+            PyErr_SetString(PyExc_TypeError, "load has to be callable; for a default call get(key, default)");
         return NULL;
     }
     PyObject *loop = PyObject_CallMethod((PyObject *)self->waits, "running_loop", NULL);
     load->is_below_loop = loop == Py_None;
     PyObject *value = loop ? loaded(key, loader) : NULL;
     Py_XDECREF(loop);
-    const char *why = loader->args ? "the function returned a coroutine, and isn't an async function" : "load returned a coroutine: use aget";
+    const char *why = loader->args ? "the function returned a coroutine, and isn't an async function" : "load returned a coroutine: use aget_or_load";
     if (value && (refuse_coroutine(self, value, why) < 0 || land(self, load, value) < 0)) Py_CLEAR(value);
     return value ? value : failed(self, load);
 }

@@ -6,11 +6,12 @@
  * handlers out, and a fork finds whole tables. Wake-ups, on_leave and the last references come after the step. On a build without that
  * lock a step is a critical section of its object. tools/gate/check_native_steps checks what is called within a step.
  *
- *     table.c   the keys in use, by their numbers         loads.c     how a load begins and ends
- *     keys.c    the number that is made of a key          waits.c     who waits for which load
- *     ask.c     what runs code of the caller's            calls.c     the calls
- *     held.c    what a table holds                        life.c      how a table is opened, and its end
- *     advice.c  how the windows follow the look-ups       function.c  a cached function */
+ *     table.c   the keys in use, by their numbers         loads.c         how a load begins and ends
+ *     keys.c    the number that is made of a key          waits.c         who waits for which load
+ *     ask.c     what runs code of the caller's            python_loads.c  loads that are made in Python
+ *     held.c    what a table holds                        calls.c         the calls by key
+ *     advice.c  how the windows follow the look-ups       sweeps.c        what takes entries out of the whole table
+ *     life.c    how a table is opened, and its end        function.c      a cached function */
 #include "native.h"
 
 void join_methods(void);

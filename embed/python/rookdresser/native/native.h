@@ -101,6 +101,7 @@ typedef struct {
     uint64_t mask;             /* how many buckets there are, less one */
     uint64_t displaced, reach; /* how many uses have another number than their hash, and how far that is at most */
     uint64_t serial;           /* of the use that was linked last */
+    uint64_t at_bucket;        /* where popitem goes on */
     Py_ssize_t entries, loads; /* how many uses of each kind there are */
     Load *spare;               /* for the next load, so that no memory is asked for after its seek */
     uint64_t seed[2], mark;
@@ -145,6 +146,7 @@ long long nanoseconds(void);
 int weight_of(Table *self, PyObject *key, PyObject *value, uint64_t *weight);
 void refuse(Table *self, uint64_t fault);
 int tell(Table *self, Use *left);
+PyObject *truth_of(int is_true);
 int refuse_coroutine(Table *self, PyObject *value, const char *why);
 
 /* keys.c: the number that is made of a key. */
@@ -168,7 +170,7 @@ int wait_for(Table *self, Load *load, PyObject *timeout);
 /* The methods and types, for module.c. */
 PyObject *load_new(PyTypeObject *type, PyObject *args, PyObject *names);
 PyObject *table_new(PyTypeObject *type, PyObject *args, PyObject *names);
-extern PyMethodDef call_methods[], held_methods[], waits_methods[];
+extern PyMethodDef call_methods[], sweep_methods[], python_load_methods[], held_methods[], waits_methods[];
 extern PyType_Spec table_spec, load_spec, waits_spec, task_wait_spec, function_spec;
 PyObject *table_item(Table *self, PyObject *key);
 int table_set_item(Table *self, PyObject *key, PyObject *value);

@@ -75,10 +75,19 @@ int ring(Load *load) {
     return type ? -1 : 0;
 }
 
+/* The seconds that a timedelta or a number stands for; -1 with an exception. */
+static double seconds_of(PyObject *timeout) {
+    if (PyNumber_Check(timeout) || !PyObject_HasAttrString(timeout, "total_seconds")) return PyFloat_AsDouble(timeout);
+    PyObject *told = PyObject_CallMethod(timeout, "total_seconds", NULL);
+    double seconds = told ? PyFloat_AsDouble(told) : -1;
+    Py_XDECREF(told);
+    return seconds;
+}
+
 /* The moment, in nanoseconds, at which a wait of so many seconds ends; -1 for none. -2 with an exception. */
 static long long end_of(PyObject *timeout) {
     if (!timeout || timeout == Py_None) return -1;
-    double seconds = PyFloat_AsDouble(timeout);
+    double seconds = seconds_of(timeout);
     if (seconds == -1 && PyErr_Occurred()) return -2;
     if (seconds != seconds) {
         PyErr_SetString(PyExc_ValueError, "timeout is no number");
@@ -128,7 +137,7 @@ static int wait_linked(Table *self, Load *load, Wait *wait, PyObject *timeout) {
         int woken = sleep_on(wait->lock, rest < 0 ? 0 : rest < pause ? rest : pause);
         if (woken) return woken < 0 ? -1 : 0;
         if (end >= 0 && nanoseconds() >= end && !load->is_over) {
-            PyErr_Format(PyExc_TimeoutError, "the load of the key took longer than %S s", timeout);
+            PyErr_Format(PyExc_TimeoutError, "the load of the key took longer than %S%s", timeout, PyNumber_Check(timeout) ? " s" : "");
             return -1;
         }
         if (pause < 60000000) pause *= 2;
