@@ -13,8 +13,9 @@ NATIVE = re.compile(r'\{"(\w+)",[^"{}]*?((?:"(?:[^"\\]|\\.)*"\s*)+)\}')
 def calls():
     names = exported()
     groups, functions = [], []
-    for path in files(PACKAGE, "_*.py"):
-        tree = ast.parse(path.read_text())
+    trees = [(path, ast.parse(path.read_text())) for path in files(PACKAGE, "_*.py")]
+    classes = {node.name: (node, path) for path, tree in trees for node in tree.body if isinstance(node, ast.ClassDef)}
+    for path, tree in trees:
         for node in tree.body:
             if getattr(node, "name", None) == "_Info":
                 # What a function gets that is cached.
@@ -23,6 +24,10 @@ def calls():
                 continue
             if isinstance(node, ast.ClassDef):
                 groups.append(of_class(node, path))
+                # With the calls of a base that the package doesn't export.
+                for base in (ast.unparse(base).partition("[")[0] for base in node.bases):
+                    if base in classes and base not in names:
+                        groups[-1].calls += of_class(*classes[base], node.name).calls
             elif isinstance(node, (ast.FunctionDef, ast.AsyncFunctionDef)):
                 functions.append(Call(node.name, signature(node), docs_of(node), path, node.lineno - 1))
     cache = next(group for group in groups if group.name == "Cache")
@@ -37,13 +42,13 @@ def exported():
     return ast.literal_eval(found.group(1))
 
 
-def of_class(node, path):
-    """A class with its public calls and fields."""
+def of_class(node, path, name=None):
+    """A class with its public calls and fields. The calls may be named for a class below it."""
     made = next((part for part in node.body if isinstance(part, ast.FunctionDef) and part.name == "__init__"), None)
     fields = "\n".join("    " + ast.unparse(part) for part in node.body if isinstance(part, ast.AnnAssign))
     bases = ", ".join(ast.unparse(base) for base in node.bases)
     declared = "class %s(%s)" % (node.name, arguments(made) if made and node.name == "Cache" else bases) + (":\n" + fields if fields else "")
-    mine = [Call("%s.%s" % (node.name, part.name), signature(part), docs_of(part), path, part.lineno - 1) for part in node.body
+    mine = [Call("%s.%s" % (name or node.name, part.name), signature(part), docs_of(part), path, part.lineno - 1) for part in node.body
             if isinstance(part, (ast.FunctionDef, ast.AsyncFunctionDef)) and not part.name.startswith("_")]
     return Group(node.name, Call(node.name, declared, docs_of(node), path, node.lineno - 1), mine)
 
