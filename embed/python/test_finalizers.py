@@ -112,18 +112,24 @@ class Finalizers(CacheTest):
         used = collections.Counter()
 
         def call(rng):
-            key, what = rng.randrange(40), rng.randrange(8)
+            key, what = rng.randrange(40), rng.randrange(12)
             calls = (lambda: cache.put(key, ("v", key)), lambda: cache.drop(key), lambda: cache.forget(key), lambda: cache.look(key),
-                     lambda: cache.get_or_load(key, lambda key: ("v", key)), cache.clean, cache.stats, lambda: key in cache)
+                     lambda: cache.get_or_load(key, lambda key: ("v", key)), cache.clean, cache.stats, lambda: key in cache,
+                     lambda: cache.setdefault(key, ("v", key)), lambda: cache.peek(key), lambda: cache and cache.popitem(), lambda: dict(cache.items()))
             used[what] += 1
             try:
                 value = calls[what]()
             except WaitsForItself:
                 return  # it runs in a thread that loads the key
+            except KeyError as error:
+                self.assertEqual((what, error.args), (10, ("the cache is empty",)))
+                return
             except BaseException as error:
                 wrong.append(error)
                 return
-            if what in (3, 4) and value not in (None, ("v", key)):
+            if what in (3, 4, 8, 9) and value not in (None, ("v", key)):
+                wrong.append(value)
+            if what == 11 and any(value != ("v", key) for key, value in value.items()):
                 wrong.append(value)
 
         class Bomb:
@@ -151,7 +157,7 @@ class Finalizers(CacheTest):
         finally:
             gc.set_threshold(*before)
         gc.collect()
-        self.assertEqual((wrong, set(used)), ([], set(range(8))))
+        self.assertEqual((wrong, set(used)), ([], set(range(12))))
         self.holds_exactly(cache)
 
     def test_a_coroutine_that_gc_closes_in_a_call_s_callback_leaves_its_load_to_the_others(self):

@@ -107,6 +107,10 @@ class Signals(CacheTest):
                 wrong.append(key)
             cache.get_many([key, key + 1, "a", (key, 2 ** 70)], lambda keys: {key: key for key in keys})
             cache.look(key), cache.pop(key, None), cache.forget(key + 1), cache.drop(key + 2)
+            cache.setdefault(key, key), cache.update({key + 3: key + 3}), key in cache, cache.peek(key)
+            if i % 10 == 0:
+                cache.popitem()
+                wrong.extend(item for item in cache.items() if type(item[0]) is int and item[0] != item[1])
             if i % 500 == 0:
                 cache.clear()
 
