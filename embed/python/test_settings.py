@@ -148,10 +148,16 @@ class Faults(CacheTest):
         self.assertEqual([issubclass(of, base) for of, base in ((TooHeavy, ValueError), (BadSetup, ValueError), (OutOfMemory, MemoryError), (Closed, ValueError))],
                          [True, True, True, False])
 
+        # As a class that is raised by itself.
+        for fault, of in CLASSES.items():
+            with self.assertRaises(of) as caught:
+                raise of
+            self.assertEqual((caught.exception.fault, str(caught.exception), of.fault), (fault, rookdresser._faults.FAULTS[fault], fault))
+
         class Mine(Refused):
             pass
 
-        self.assertEqual((type(Mine(3)), Mine(3).fault), (Mine, 3))
+        self.assertEqual((type(Mine(3)), Mine(3).fault, type(Refused()), Refused().fault), (Mine, 3, Refused, 0))
 
     def test_exceptions_are_pickled_and_copied_whole(self):
         def same(error):
@@ -160,7 +166,7 @@ class Faults(CacheTest):
             self.assertEqual([(one.args, vars(one), str(one), type(one)) for one in copies], [told] * len(copies))
 
         for fault in (*CLASSES, 77):
-            for error in (Refused(fault), Refused(fault, "a sentence of its own")):
+            for error in (Refused(fault), Refused(fault, "a sentence of its own"), CLASSES.get(fault, Refused)()):
                 same(error)
                 error.of = "what the caller noted"
                 same(error)

@@ -247,7 +247,7 @@ class Rules(WindowTest):
             "aget_many": (lambda key: loop.run_until_complete(cache.aget_many([key, key + 1], lambda keys: {key: key for key in keys})),
                           lambda key: rule.get_many([key, key + 1])),
         }
-        names = list(calls) + ["look", "get_or_load", "get_or_load"] * 4
+        names = list(calls) + ["look", "get_or_load", "get_or_load"] * 6
         windows = set()
         for keys in (zipf(50_000, 6000, 3), shift(450, 1500, 9000)):
             for key in keys:

@@ -12,7 +12,7 @@ class Refused(Exception):
     """A call was refused, and nothing has changed. `fault` is its number in rookdresser.h.
 
     Each fault has a class of its own, by which it is raised: OutOfMemory, BadSetup, TooHeavy, TooManyFlights, StepsSpent, Closed.
-    Refused(number) makes one of that class. A number that has none is of Refused itself.
+    Refused(number) makes one of that class, and of Refused itself for any other number.
 
     >>> try:
     ...     Cache(entries=0)
@@ -21,13 +21,15 @@ class Refused(Exception):
     BadSetup 2 entries is 0, and has to be from 1 to 268435456
     """
 
-    def __new__(cls, fault: int, why: Optional[str] = None) -> Refused:
-        """Returns an exception of the fault's class."""
-        return Exception.__new__(_CLASSES.get(fault, cls) if cls is Refused else cls, fault, why)  # type: ignore[call-arg]
+    fault: int = 0
 
-    def __init__(self, fault: int, why: Optional[str] = None) -> None:
-        super().__init__(why or FAULTS.get(fault) or "fault %s" % fault)
-        self.fault = fault
+    def __new__(cls, fault: Optional[int] = None, why: Optional[str] = None) -> Refused:
+        """Returns an exception of the fault's class."""
+        return Exception.__new__(_CLASSES.get(fault or 0, cls) if cls is Refused else cls, fault, why)  # type: ignore[call-arg]
+
+    def __init__(self, fault: Optional[int] = None, why: Optional[str] = None) -> None:
+        self.fault = self.fault if fault is None else fault
+        super().__init__(why or FAULTS.get(self.fault) or "fault %s" % self.fault)
 
     def __reduce__(self) -> Tuple[Any, ...]:
         """Returns what pickle and copy make it of: the fault and the sentence, and what was set on it."""
@@ -41,6 +43,8 @@ class OutOfMemory(Refused, MemoryError):
     (OutOfMemory('out of memory'), True)
     """
 
+    fault: int = 1
+
 
 class BadSetup(Refused, ValueError):
     """A setting is out of its range. The sentence has its name, its value and the range.
@@ -52,6 +56,8 @@ class BadSetup(Refused, ValueError):
     window is 11, and has to be from 1 to 10, the entries
     """
 
+    fault: int = BAD_SETUP
+
 
 class TooHeavy(Refused, ValueError):
     """The value weighs more than its shard's part of `bound`. Only what stores raises it: a load returns such a value.
@@ -62,6 +68,8 @@ class TooHeavy(Refused, ValueError):
     ...     print(refused)
     the value is heavier than bound
     """
+
+    fault: int = 3
 
 
 class TooManyFlights(Refused):
@@ -75,6 +83,8 @@ class TooManyFlights(Refused):
     too many loads are open
     """
 
+    fault: int = 4
+
 
 class StepsSpent(Refused):
     """The shard has made 2^60 calls, after which it makes no more. At a thousand million a second that takes 36 years.
@@ -82,6 +92,8 @@ class StepsSpent(Refused):
     >>> Refused(5)
     StepsSpent('2^60 calls were made')
     """
+
+    fault: int = 5
 
 
 class Closed(Refused):
@@ -95,5 +107,7 @@ class Closed(Refused):
     the cache is closed
     """
 
+    fault: int = 100
 
-_CLASSES: Dict[int, Type[Refused]] = {1: OutOfMemory, BAD_SETUP: BadSetup, 3: TooHeavy, 4: TooManyFlights, 5: StepsSpent, 100: Closed}
+
+_CLASSES: Dict[int, Type[Refused]] = {of.fault: of for of in (OutOfMemory, BadSetup, TooHeavy, TooManyFlights, StepsSpent, Closed)}
