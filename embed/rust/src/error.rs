@@ -22,8 +22,8 @@ pub enum GetError<E> {
     Load(Arc<E>),
     /// The cache refused the call.
     Refused(Fault),
-    /// A load asked for a key whose load waits for it: its own key, or one that another thread loads and that in turn waits for
-    /// this thread. Nobody would ever wake.
+    /// A load asked for a key whose load waits for it: its own key, or one that another thread or task loads and that in turn waits
+    /// for this load. Nobody would ever wake.
     WaitsForItself,
 }
 

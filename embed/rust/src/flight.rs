@@ -1,23 +1,19 @@
-//! A load under way, and who waits for it.
+//! A load under way, and who waits for it: threads, and tasks by their wakers.
 use crate::lock::locked;
+use crate::panics::Panics;
+use crate::slab::Slab;
+use crate::waits::{Waiting, WaitsForItself};
+use std::future::Future;
+use std::pin::Pin;
 use std::sync::atomic::{AtomicBool, Ordering};
 use std::sync::{Arc, Condvar, Mutex, PoisonError};
-use std::thread::{self, ThreadId};
-
-thread_local! {
-    static OWN: ThreadId = thread::current().id();
-}
-
-/// The thread that calls. It may be asked for while the thread ends, when it has no such variable any more.
-pub(crate) fn own_thread() -> ThreadId {
-    OWN.try_with(|own| *own).unwrap_or_else(|_| thread::current().id())
-}
+use std::task::{Context, Poll, Waker};
 
 /// What became of a load.
 pub(crate) enum Outcome<V, E> {
     Value(Arc<V>),
     Failed(Arc<E>),
-    /// Its loader panicked, so those who joined ask again.
+    /// Its loader panicked, or the task that made it was dropped, so those who joined ask again.
     Again,
 }
 
@@ -31,77 +27,127 @@ impl<V, E> Clone for Outcome<V, E> {
     }
 }
 
-/// A load that one thread makes and others wait for.
+/// A load that one caller makes and others wait for.
 pub(crate) struct Flight<V, E> {
-    told: Mutex<Option<Outcome<V, E>>>,
+    seats: Mutex<Seats<V, E>>,
     bell: Condvar,
-    leader: ThreadId,
-    // Set before the leader goes on.
+    load: u64,
+    // Set before those who wait are told.
     is_over: Arc<AtomicBool>,
 }
 
-/// The wait would never end: the load waits for this thread.
-pub(crate) struct WaitsForItself;
+struct Seats<V, E> {
+    told: Option<Outcome<V, E>>,
+    // The tasks that wait, until they are told.
+    wakers: Slab<Waker>,
+    // Whether a thread has waited.
+    has_threads: bool,
+}
 
 impl<V, E> Flight<V, E> {
-    /// A load that the leader makes.
-    pub(crate) fn of(leader: ThreadId) -> Self {
-        Flight { told: Mutex::new(None), bell: Condvar::new(), leader, is_over: Arc::new(AtomicBool::new(false)) }
+    /// The load of this number.
+    pub(crate) fn of(load: u64) -> Self {
+        let seats = Mutex::new(Seats { told: None, wakers: Slab::of(0), has_threads: false });
+        Flight { seats, bell: Condvar::new(), load, is_over: Arc::new(AtomicBool::new(false)) }
     }
 
-    pub(crate) fn tell(&self, outcome: Outcome<V, E>) {
+    /// Tells all who wait. Wakers are code of the caller's, so no lock is held then.
+    pub(crate) fn tell(&self, outcome: Outcome<V, E>, panics: &mut Panics) {
         self.is_over.store(true, Ordering::SeqCst);
-        *locked(&self.told) = Some(outcome);
-        self.bell.notify_all();
+        let mut seats = locked(&self.seats);
+        seats.told = Some(outcome);
+        let (wakers, has_threads) = (std::mem::replace(&mut seats.wakers, Slab::of(0)), seats.has_threads);
+        drop(seats);
+        if has_threads {
+            self.bell.notify_all();
+        }
+        for waker in wakers.into_iter() {
+            panics.of(|| waker.wake());
+        }
     }
 
+    /// Waits in this thread.
     pub(crate) fn wait(&self) -> Result<Outcome<V, E>, WaitsForItself> {
-        let _waiting = Waiting::begin(self.leader, &self.is_over)?;
-        let mut told = locked(&self.told);
+        let mut waiting = Waiting::default();
+        waiting.go_on(self.load, &self.is_over)?;
+        let mut seats = locked(&self.seats);
+        seats.has_threads = true;
         loop {
-            if let Some(outcome) = &*told {
+            if let Some(outcome) = &seats.told {
                 return Ok(outcome.clone());
             }
-            told = self.bell.wait(told).unwrap_or_else(PoisonError::into_inner);
+            seats = self.bell.wait(seats).unwrap_or_else(PoisonError::into_inner);
+        }
+    }
+
+    // What was told. If nothing was, the seat has a waker for this task from now on. Wakers are cloned and dropped with no lock held.
+    fn told(&self, seat: &mut Option<u32>, waker: &Waker) -> Option<Outcome<V, E>> {
+        let seats = locked(&self.seats);
+        if seats.told.is_some() || seat.is_some_and(|at| seats.wakers[at].will_wake(waker)) {
+            return seats.told.clone();
+        }
+        drop(seats);
+        let own = waker.clone();
+        let mut seats = locked(&self.seats);
+        let told = seats.told.clone();
+        let useless = match *seat {
+            _ if told.is_some() => Some(own),
+            Some(at) => Some(std::mem::replace(&mut seats.wakers[at], own)),
+            None => {
+                *seat = Some(seats.wakers.insert(own));
+                None
+            }
+        };
+        drop(seats);
+        let mut panics = Panics::default();
+        panics.of(|| drop(useless));
+        panics.checked(told)
+    }
+
+    // Gives a seat back, with its waker if that still waits.
+    fn left(&self, seat: u32) -> Option<Waker> {
+        let mut seats = locked(&self.seats);
+        seats.told.is_none().then(|| seats.wakers.remove(seat))
+    }
+}
+
+/// A task's wait for a load. It may be dropped at any time.
+pub(crate) struct Joined<V, E> {
+    flight: Option<Arc<Flight<V, E>>>,
+    seat: Option<u32>,
+    waiting: Waiting,
+}
+
+impl<V, E> Joined<V, E> {
+    pub(crate) fn of(flight: Arc<Flight<V, E>>) -> Self {
+        Joined { flight: Some(flight), seat: None, waiting: Waiting::default() }
+    }
+}
+
+impl<V, E> Future for Joined<V, E> {
+    type Output = Result<Outcome<V, E>, WaitsForItself>;
+
+    fn poll(mut self: Pin<&mut Self>, context: &mut Context<'_>) -> Poll<Self::Output> {
+        let Joined { flight, seat, waiting } = &mut *self;
+        let flight = flight.as_ref().expect("it is there until the wait is dropped");
+        if let Some(outcome) = flight.told(seat, context.waker()) {
+            return Poll::Ready(Ok(outcome));
+        }
+        match waiting.go_on(flight.load, &flight.is_over) {
+            Ok(()) => Poll::Pending,
+            Err(fault) => Poll::Ready(Err(fault)),
         }
     }
 }
 
-// The threads that wait, each with the thread that makes the load and whether that load is over. A hit never takes this lock.
-static WAITING: Mutex<Vec<Edge>> = Mutex::new(Vec::new());
-
-struct Edge {
-    waits: ThreadId,
-    leader: ThreadId,
-    is_over: Arc<AtomicBool>,
-}
-
-// This thread waits, as long as this lives.
-struct Waiting;
-
-impl Waiting {
-    // Follows who waits for whom. A circle of loads that aren't over would stay one for good.
-    fn begin(leader: ThreadId, is_over: &Arc<AtomicBool>) -> Result<Waiting, WaitsForItself> {
-        let waits = own_thread();
-        let mut waiting = locked(&WAITING);
-        let mut at = leader;
-        while !is_over.load(Ordering::SeqCst) {
-            if at == waits {
-                return Err(WaitsForItself);
-            }
-            match waiting.iter().find(|edge| edge.waits == at && !edge.is_over.load(Ordering::SeqCst)) {
-                Some(edge) => at = edge.leader,
-                None => break,
-            }
-        }
-        waiting.push(Edge { waits, leader, is_over: is_over.clone() });
-        Ok(Waiting)
-    }
-}
-
-impl Drop for Waiting {
+impl<V, E> Drop for Joined<V, E> {
     fn drop(&mut self) {
-        let waits = own_thread();
-        locked(&WAITING).retain(|edge| edge.waits != waits);
+        let Some(flight) = self.flight.take() else { return };
+        let mut panics = Panics::default();
+        let waker = self.seat.take().and_then(|seat| flight.left(seat));
+        panics.of(|| drop(waker));
+        // It may have the last share of what was told.
+        panics.of(|| drop(flight));
+        panics.pass_on();
     }
 }

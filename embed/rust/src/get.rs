@@ -1,11 +1,12 @@
 //! A look-up that loads what isn't there.
-use crate::flight::{own_thread, Flight, Outcome};
+use crate::flight::{Flight, Outcome};
 use crate::lead::Lead;
 use crate::loading::Loading;
 use crate::panics::{Guarded, Panics};
 use crate::plain::are_plain;
 use crate::shared::Locked;
 use crate::table::Place;
+use crate::waits::{new_number, Making, WaitsForItself};
 use crate::{Fault, Found, GetError};
 use std::borrow::Borrow;
 use std::hash::{BuildHasher, Hash};
@@ -13,10 +14,20 @@ use std::sync::Arc;
 use std::time::Instant;
 
 // What a seek found.
-enum Sought<'a, K, V, E> {
+pub(crate) enum Sought<'a, K, V, E> {
     Value(Arc<V>),
     Join(Arc<Flight<V, E>>),
     Lead(Lead<'a, K, V, E>),
+}
+
+/// What a caller gets of another's load; nothing if it asks again.
+pub(crate) fn shared<V, E>(told: Result<Outcome<V, E>, WaitsForItself>) -> Option<Result<Arc<V>, GetError<E>>> {
+    match told {
+        Ok(Outcome::Value(value)) => Some(Ok(value)),
+        Ok(Outcome::Failed(error)) => Some(Err(GetError::Load(error))),
+        Ok(Outcome::Again) => None,
+        Err(WaitsForItself) => Some(Err(GetError::WaitsForItself)),
+    }
 }
 
 impl<K: Hash + Eq, V, E, S: BuildHasher> Loading<K, V, E, S> {
@@ -101,13 +112,12 @@ impl<K: Hash + Eq, V, E, S: BuildHasher> Loading<K, V, E, S> {
         let got = loop {
             match self.seek(hash, key, now) {
                 Ok(Sought::Value(value)) => break Ok(value),
-                Ok(Sought::Lead(lead)) => return lead.make(load.take()),
-                Ok(Sought::Join(flight)) => match flight.wait() {
-                    Ok(Outcome::Value(value)) => break Ok(value),
-                    Ok(Outcome::Failed(error)) => break Err(GetError::Load(error)),
-                    Ok(Outcome::Again) => {}
-                    Err(_) => break Err(GetError::WaitsForItself),
-                },
+                Ok(Sought::Lead(lead)) => return lead.close((load.take())()),
+                Ok(Sought::Join(flight)) => {
+                    if let Some(got) = shared(flight.wait()) {
+                        break got;
+                    }
+                }
                 Err(fault) => break Err(GetError::Refused(fault)),
             }
         };
@@ -117,7 +127,7 @@ impl<K: Hash + Eq, V, E, S: BuildHasher> Loading<K, V, E, S> {
     }
 
     #[inline(always)]
-    fn seek<Q>(&self, hash: u64, key: &Q, now: u64) -> Result<Sought<'_, K, V, E>, Fault>
+    pub(crate) fn seek<Q>(&self, hash: u64, key: &Q, now: u64) -> Result<Sought<'_, K, V, E>, Fault>
     where
         K: Borrow<Q>,
         Q: Hash + Eq + ToOwned<Owned = K> + ?Sized,
@@ -206,10 +216,11 @@ impl<K: Hash + Eq, V, E, S: BuildHasher> Loading<K, V, E, S> {
             }
         };
         let at = shard.store.table.open(place);
-        let load = shard.led(at, own_thread());
+        let number = new_number();
+        let load = shard.led(at, number);
         let left = if shard.store.has_left() { Some(Box::new(shard.store.left())) } else { None };
         drop(shard);
         let (listener, shard, begun) = (&self.listener, self.shard(hash), Instant::now());
-        Sought::Lead(Lead { listener, shard, id, load, at, now, old, left, begun })
+        Sought::Lead(Lead { listener, shard, id, making: Making::begin(number), load, at, now, old, left, begun })
     }
 }

@@ -1,19 +1,22 @@
-//! A load that this thread makes.
+//! A load that this caller makes.
 use crate::flight::Outcome;
 use crate::listener::Listener;
 use crate::panics::Panics;
 use crate::shard::AllGone;
 use crate::shared::Shared;
 use crate::store::Ended;
+use crate::waits::Making;
 use crate::{GetError, Landed};
 use std::sync::Arc;
 use std::time::Instant;
 
-/// A load that this thread makes. If it is dropped before it lands, it lands as failed and those who joined ask again.
+/// A load that this caller makes. If it is dropped before it lands, it lands as failed and those who joined ask again.
 pub(crate) struct Lead<'a, K, V, E> {
     pub(crate) listener: &'a Listener<K, V>,
     pub(crate) shard: &'a Shared<K, V, E>,
     pub(crate) id: u64,
+    /// Its loader may be asked for now.
+    pub(crate) making: Making,
     /// The place of the load among those of the shard.
     pub(crate) load: u32,
     /// The row of the key.
@@ -29,8 +32,9 @@ pub(crate) struct Lead<'a, K, V, E> {
 }
 
 impl<K, V, E> Lead<'_, K, V, E> {
-    pub(crate) fn make(mut self, load: impl FnOnce() -> Result<(V, u32), E>) -> Result<Arc<V>, GetError<E>> {
-        match load() {
+    /// Closes the load with what the loader returned, and returns what its caller gets.
+    pub(crate) fn close(mut self, made: Result<(V, u32), E>) -> Result<Arc<V>, GetError<E>> {
+        match made {
             Ok((value, weight)) => {
                 let (value, old) = (Arc::new(value), self.old.take());
                 let panics = self.land(Some((value.clone(), weight)), old, || Outcome::Value(value.clone()));
@@ -56,6 +60,7 @@ impl<K, V, E> Lead<'_, K, V, E> {
         old: Option<Arc<V>>,
         outcome: impl FnOnce() -> Outcome<V, E>,
     ) -> Panics {
+        self.making.end();
         let took = self.begun.elapsed();
         let has_value = value.is_some();
         let mut shard = self.shard.take();
@@ -71,10 +76,11 @@ impl<K, V, E> Lead<'_, K, V, E> {
         shard.stats.failed += u64::from(!has_value);
         shard.stats.loose += u64::from(has_value && !matches!(landed, Landed::Kept(_)));
         drop(shard);
-        if let Some(flight) = load.flight {
-            flight.tell(outcome());
-        }
         let mut panics = Panics::default();
+        if let Some(flight) = load.flight {
+            flight.tell(outcome(), &mut panics);
+            panics.of(|| drop(flight));
+        }
         self.listener.release_into(left, &mut panics);
         panics.of(|| drop(value));
         panics.of(|| drop(key));
@@ -83,7 +89,7 @@ impl<K, V, E> Lead<'_, K, V, E> {
     }
 }
 
-// The loader panicked, or the load was opened for another key.
+// The loader panicked, its future was dropped, or the load was opened for another key.
 impl<K, V, E> Drop for Lead<'_, K, V, E> {
     fn drop(&mut self) {
         let old = self.old.take();

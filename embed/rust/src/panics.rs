@@ -68,7 +68,10 @@ impl<T> Guarded<T> {
 
     #[inline]
     pub(crate) fn take(mut self) -> T {
-        self.0.take().expect("it is taken once")
+        let thing = self.0.take().expect("it is taken once");
+        // It owns nothing more.
+        std::mem::forget(self);
+        thing
     }
 }
 

@@ -8,7 +8,6 @@ use crate::table::{Place, Row};
 use crate::window::Share;
 use crate::{Fault, Left, Numbers, OpenError, Setup, Stats};
 use std::sync::Arc;
-use std::thread::ThreadId;
 
 /// What left a [`Loading`](crate::Loading).
 pub type Gone<K, V> = Left<Arc<K>, Arc<V>>;
@@ -18,7 +17,7 @@ pub(crate) type AllGone<K, V> = AllLeft<K, Arc<V>>;
 
 /// A load that is open.
 pub(crate) struct Load<V, E> {
-    leader: ThreadId,
+    number: u64,
     /// Made by the first who joins.
     pub(crate) flight: Option<Arc<Flight<V, E>>>,
 }
@@ -54,7 +53,7 @@ impl<K, V, E> Shard<K, V, E> {
     }
 
     /// A hit of the row beside others, if it is sure to be one.
-    #[inline]
+    #[inline(always)]
     pub(crate) fn hit(&self, row: &Row<K, Arc<V>>, now: u64, hits: &mut Hits) -> Option<Arc<V>> {
         let value = row.value.as_ref()?;
         let now = self.store.library.hit_at(now, row.until)?;
@@ -63,10 +62,10 @@ impl<K, V, E> Shard<K, V, E> {
         Some(value)
     }
 
-    /// Notes the newest load of the row, which the thread makes. Returns its place.
+    /// Notes the newest load of the row. Returns its place.
     #[inline]
-    pub(crate) fn led(&mut self, at: u32, leader: ThreadId) -> u32 {
-        let load = self.loads.insert(Load { leader, flight: None });
+    pub(crate) fn led(&mut self, at: u32, number: u64) -> u32 {
+        let load = self.loads.insert(Load { number, flight: None });
         self.store.table.row_mut(at).newest = load;
         load
     }
@@ -75,7 +74,7 @@ impl<K, V, E> Shard<K, V, E> {
     pub(crate) fn joined(&mut self, place: &Place<K>) -> Arc<Flight<V, E>> {
         let Place::At(at) = place else { unreachable!("a key that is loaded has a row") };
         let load = &mut self.loads[self.store.table.row(*at).newest];
-        load.flight.get_or_insert_with(|| Arc::new(Flight::of(load.leader))).clone()
+        load.flight.get_or_insert_with(|| Arc::new(Flight::of(load.number))).clone()
     }
 
     /// Counts a call that was refused.

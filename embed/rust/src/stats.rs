@@ -17,7 +17,7 @@ pub struct Stats {
     pub joins: u64,
     /// Loads that returned a value.
     pub loads: u64,
-    /// Loads that returned an error or panicked.
+    /// Loads that returned an error or panicked, or whose task was dropped.
     pub failed: u64,
     /// Loads, of both kinds, of a key that was there but due.
     pub refreshes: u64,

@@ -7,7 +7,9 @@ fn without_example(source: &str) -> Vec<String> {
     for line in source.lines().map(|line| line.strip_prefix("    ").unwrap_or(line)) {
         if line.starts_with("///") {
             has_example |= line == "/// ```";
-        } else if let Some(call) = line.strip_prefix("pub fn ").or(line.strip_prefix("pub const fn ")) {
+        } else if let Some(call) =
+            line.strip_prefix("pub fn ").or(line.strip_prefix("pub const fn ")).or(line.strip_prefix("pub async fn "))
+        {
             let name = call.split(['(', '<']).next().expect("a call has a name");
             if !has_example && !name.starts_with("rd_") {
                 found.push(name.to_string());

@@ -1,4 +1,5 @@
 //! A small setup, an error, and what has to hold of a cache in which nothing goes on.
+#![allow(dead_code)] // not every test needs all of them
 use rookdresser::{Loading, Setup};
 use std::panic::{catch_unwind, AssertUnwindSafe};
 

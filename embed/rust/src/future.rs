@@ -1,0 +1,244 @@
+//! The same cache for tasks: a `get` waits by `await`, on any runtime.
+use crate::flight::Joined;
+use crate::get::{shared, Sought};
+use crate::panics::Panics;
+use crate::{GetError, OpenError, Setup};
+use std::borrow::Borrow;
+use std::collections::hash_map::RandomState;
+use std::fmt::{Debug, Formatter};
+use std::future::{poll_fn, Future};
+use std::hash::{BuildHasher, Hash};
+use std::ops::Deref;
+use std::pin::{pin, Pin};
+use std::sync::Arc;
+
+/// A handle of a [`rookdresser::Loading`](crate::Loading) whose `get` waits by `await`. To clone it is cheap.
+///
+/// All other calls are those of [`rookdresser::Loading`](crate::Loading), since none of them waits for a load: `look`, `store`,
+/// `drop_key` and so on. [`blocking`](Loading::blocking) returns it for threads. A load is shared by tasks and threads alike.
+///
+/// No lock is held while a task waits, nor while a waker is called, cloned or dropped. The futures are `Send` if keys, values, errors
+/// and the loader's future are `Send` and `Sync` as far as they are shared.
+///
+/// ```
+/// # use rookdresser::{future::Loading, Setup};
+/// # include!(concat!(env!("CARGO_MANIFEST_DIR"), "/tests/common/block_on.rs"));
+/// # block_on(async {
+/// let cache = Loading::<String, String, std::io::Error>::open(&Setup::of(1000))?;
+/// let page = cache.get_with("a page", async { "its text".into() }).await?;
+/// assert_eq!(cache.look("a page")?, Some(page));
+/// # Ok::<(), Box<dyn std::error::Error>>(())
+/// # }).unwrap();
+/// ```
+pub struct Loading<K, V, E, S = RandomState>(Arc<crate::Loading<K, V, E, S>>);
+
+impl<K, V, E> Loading<K, V, E> {
+    /// As [`rookdresser::Loading::open`](crate::Loading::open).
+    ///
+    /// If the cache is to have a listener, shards or a hasher of yours, open it as a [`rookdresser::Loading`](crate::Loading), and make
+    /// a handle by `from`. `BadSetup`, then `OutOfMemory`.
+    ///
+    /// ```
+    /// use rookdresser::{future, Loading, Setup};
+    ///
+    /// let cache = future::Loading::<u64, u64, ()>::open(&Setup::of(1000))?;
+    /// let listened = Loading::<u64, u64, ()>::open(&Setup::of(1000))?.with_listener(|left| println!("{left:?}"));
+    /// let listened = future::Loading::from(listened);
+    /// # Ok::<(), rookdresser::OpenError>(())
+    /// ```
+    pub fn open(setup: &Setup) -> Result<Self, OpenError> {
+        crate::Loading::open(setup).map(Self::from)
+    }
+}
+
+impl<K, V, E, S> Loading<K, V, E, S> {
+    /// The same cache for threads. There a `get` blocks its thread while a load runs, so no task should call it.
+    ///
+    /// ```
+    /// # use rookdresser::{future::Loading, Setup};
+    /// let cache = Loading::<u64, u64, ()>::open(&Setup::of(100))?;
+    /// let threads = cache.blocking().clone();
+    /// std::thread::spawn(move || threads.get_with(&1, || 7).unwrap()).join().unwrap();
+    /// assert_eq!(cache.look(&1)?.as_deref(), Some(&7));
+    /// # Ok::<(), Box<dyn std::error::Error>>(())
+    /// ```
+    pub fn blocking(&self) -> &Arc<crate::Loading<K, V, E, S>> {
+        &self.0
+    }
+}
+
+impl<K: Hash + Eq, V, E, S: BuildHasher> Loading<K, V, E, S> {
+    /// The key's value; if there is none, that of one load, which all who ask meanwhile share.
+    ///
+    /// `load` returns the value and its weight. It is polled by the task that asked first alone; the futures of the others are dropped.
+    /// The value's age counts from the first poll of the call. A due entry is loaded again by the task that asks first, which gets the
+    /// new value, or the old one if that load fails; the others get the old value meanwhile.
+    ///
+    /// If the task that loads drops its call, or its loader panics, the load has failed without an error. Those who share it ask again:
+    /// one of them runs its own `load`, and the others share that. Each call may be dropped at any time.
+    ///
+    /// Errors, in this order: `Refused` if the cache refuses the look-up, `WaitsForItself` if this call is polled by a loader for which
+    /// the key's load waits, and `Load` if the load failed, for all who shared it. A cache can't know a circle of loads if a loader
+    /// waits for a task that it has spawned. What a loader has polled counts as awaited by it until that is done or dropped.
+    ///
+    /// Not promised: that the call ends if the task that loads is neither polled nor dropped.
+    ///
+    /// ```
+    /// # use rookdresser::{future::Loading, Setup};
+    /// # include!(concat!(env!("CARGO_MANIFEST_DIR"), "/tests/common/block_on.rs"));
+    /// # block_on(async {
+    /// # let cache = Loading::<String, u64, std::io::Error>::open(&Setup::of(100))?;
+    /// let length = cache.get("a", async { Ok((7, 2)) }).await?; // weighs 2
+    /// assert_eq!((*length, cache.numbers().weight), (7, 2));
+    /// # Ok::<(), Box<dyn std::error::Error>>(())
+    /// # }).unwrap();
+    /// ```
+    pub async fn get<Q>(&self, key: &Q, load: impl Future<Output = Result<(V, u32), E>>) -> Result<Arc<V>, GetError<E>>
+    where
+        K: Borrow<Q>,
+        Q: Hash + Eq + ToOwned<Owned = K> + ?Sized,
+    {
+        self.get_at(key, self.0.clock.now(), load).await
+    }
+
+    /// As `get`, with a loader that returns the value alone, which then weighs 1.
+    ///
+    /// ```
+    /// # use rookdresser::{future::Loading, Setup};
+    /// # include!(concat!(env!("CARGO_MANIFEST_DIR"), "/tests/common/block_on.rs"));
+    /// # block_on(async {
+    /// # let cache = Loading::<String, u64, std::io::Error>::open(&Setup::of(100))?;
+    /// let length = cache.try_get_with("Cargo.toml", async { Ok(std::fs::read("Cargo.toml")?.len() as u64) }).await?;
+    /// assert_eq!(cache.look("Cargo.toml")?, Some(length));
+    /// # Ok::<(), Box<dyn std::error::Error>>(())
+    /// # }).unwrap();
+    /// ```
+    pub async fn try_get_with<Q>(
+        &self,
+        key: &Q,
+        load: impl Future<Output = Result<V, E>>,
+    ) -> Result<Arc<V>, GetError<E>>
+    where
+        K: Borrow<Q>,
+        Q: Hash + Eq + ToOwned<Owned = K> + ?Sized,
+    {
+        self.get(key, async { Ok((load.await?, 1)) }).await
+    }
+
+    /// As `try_get_with`, with a loader that doesn't fail. A load by another call, which this one joins, may fail all the same.
+    ///
+    /// ```
+    /// # use rookdresser::{future::Loading, Setup};
+    /// # include!(concat!(env!("CARGO_MANIFEST_DIR"), "/tests/common/block_on.rs"));
+    /// # block_on(async {
+    /// # let cache = Loading::<String, u64, std::io::Error>::open(&Setup::of(100))?;
+    /// assert_eq!(*cache.get_with("a", async { 7 }).await?, 7);
+    /// assert_eq!(*cache.get_with("a", async { unreachable!("it is there") }).await?, 7);
+    /// # Ok::<(), Box<dyn std::error::Error>>(())
+    /// # }).unwrap();
+    /// ```
+    pub async fn get_with<Q>(&self, key: &Q, load: impl Future<Output = V>) -> Result<Arc<V>, GetError<E>>
+    where
+        K: Borrow<Q>,
+        Q: Hash + Eq + ToOwned<Owned = K> + ?Sized,
+    {
+        self.get(key, async { Ok((load.await, 1)) }).await
+    }
+
+    /// As `get`, at a moment of the caller's clock, in milliseconds.
+    ///
+    /// ```
+    /// # use rookdresser::{future::Loading, Setup};
+    /// # include!(concat!(env!("CARGO_MANIFEST_DIR"), "/tests/common/block_on.rs"));
+    /// # block_on(async {
+    /// # let cache = Loading::<String, u64, std::io::Error>::open(&Setup { after_write: 10, ..Setup::of(100) })?;
+    /// // Entries expire after 10 milliseconds here.
+    /// assert_eq!(*cache.get_at("a", 1000, async { Ok((7, 1)) }).await?, 7);
+    /// assert_eq!(*cache.get_at("a", 1010, async { Ok((8, 1)) }).await?, 8);
+    /// # Ok::<(), Box<dyn std::error::Error>>(())
+    /// # }).unwrap();
+    /// ```
+    pub async fn get_at<Q>(
+        &self,
+        key: &Q,
+        now: u64,
+        load: impl Future<Output = Result<(V, u32), E>>,
+    ) -> Result<Arc<V>, GetError<E>>
+    where
+        K: Borrow<Q>,
+        Q: Hash + Eq + ToOwned<Owned = K> + ?Sized,
+    {
+        let mut load = Loader(pin!(Some(load)));
+        let hash = self.0.hash(key);
+        let got = loop {
+            match self.0.seek(hash, key, now) {
+                Ok(Sought::Value(value)) => break Ok(value),
+                Ok(Sought::Lead(mut lead)) => {
+                    lead.making.pause();
+                    let made = poll_fn(|context| lead.making.during(|| load.get().poll(context))).await;
+                    break lead.close(made);
+                }
+                Ok(Sought::Join(flight)) => {
+                    let told = Joined::of(flight).await;
+                    if let Some(got) = shared(told) {
+                        break got;
+                    }
+                }
+                Err(fault) => break Err(GetError::Refused(fault)),
+            }
+        };
+        let mut panics = Panics::default();
+        panics.of(|| load.0.set(None));
+        panics.checked(got)
+    }
+}
+
+// A loader's future, in its place. If a panic drops it, a panic of its own drop is lost.
+struct Loader<'a, F>(Pin<&'a mut Option<F>>);
+
+impl<F> Loader<'_, F> {
+    fn get(&mut self) -> Pin<&mut F> {
+        self.0.as_mut().as_pin_mut().expect("it is dropped at the end")
+    }
+}
+
+impl<F> Drop for Loader<'_, F> {
+    fn drop(&mut self) {
+        let mut panics = Panics::default();
+        panics.of(|| self.0.set(None));
+        panics.pass_on();
+    }
+}
+
+impl<K, V, E, S> Deref for Loading<K, V, E, S> {
+    type Target = crate::Loading<K, V, E, S>;
+
+    fn deref(&self) -> &Self::Target {
+        &self.0
+    }
+}
+
+// Not derived, since keys, values and errors need not be `Clone`.
+impl<K, V, E, S> Clone for Loading<K, V, E, S> {
+    fn clone(&self) -> Self {
+        Loading(self.0.clone())
+    }
+}
+
+impl<K, V, E, S> Debug for Loading<K, V, E, S> {
+    fn fmt(&self, f: &mut Formatter<'_>) -> std::fmt::Result {
+        self.0.fmt(f)
+    }
+}
+
+impl<K, V, E, S> From<crate::Loading<K, V, E, S>> for Loading<K, V, E, S> {
+    fn from(cache: crate::Loading<K, V, E, S>) -> Self {
+        Loading(Arc::new(cache))
+    }
+}
+
+impl<K, V, E, S> From<Arc<crate::Loading<K, V, E, S>>> for Loading<K, V, E, S> {
+    fn from(cache: Arc<crate::Loading<K, V, E, S>>) -> Self {
+        Loading(cache)
+    }
+}
