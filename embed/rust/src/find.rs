@@ -53,18 +53,21 @@ impl<K, V, E, S> Loading<K, V, E, S> {
         K: Borrow<Q>,
         Q: Eq + ?Sized,
     {
+        // No closure around the hit: the compiler might not inline it.
+        let mut stripe = self.shard(hash).beside_others()?;
+        let (shard, hits) = stripe.parts()?;
         if are_plain::<K, Q>() {
-            return self.shard(hash).beside_others(|shard, hits| {
-                let (_, row) = shard.store.table.rows(hash).find(|(_, row)| (*row.key).borrow() == key)?;
-                shard.hit(row, now, hits)
-            });
+            let Some((_, row)) = shard.store.table.rows(hash).find(|(_, row)| (*row.key).borrow() == key) else {
+                return Some(None);
+            };
+            return Some(shard.hit(row, now, hits));
         }
-        let found = self.shard(hash).beside_others(|shard, hits| {
-            let row = shard.store.table.row(shard.store.table.only(hash)?);
-            let value = shard.hit(row, now, hits)?;
-            Some((Guarded::of(row.key.clone()), value))
-        })?;
-        Some(found.and_then(|(row, value)| self.is_of(row, key, value)))
+        let Some(at) = shard.store.table.only(hash) else { return Some(None) };
+        let row = shard.store.table.row(at);
+        let Some(value) = shard.hit(row, now, hits) else { return Some(None) };
+        let row = Guarded::of(row.key.clone());
+        drop(stripe);
+        Some(self.is_of(row, key, value))
     }
 
     /// The row that is alone of its hash. It is nearly always the key's: a call uses it at once, and has the key compared by

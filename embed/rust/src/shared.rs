@@ -68,9 +68,24 @@ impl Hits {
     }
 }
 
-struct Stripe<K, V, E> {
+pub(crate) struct Stripe<K, V, E> {
     share: Option<Arc<Shard<K, V, E>>>,
     hits: Hits,
+}
+
+/// A stripe that was taken.
+pub(crate) struct Beside<'a, K, V, E>(Taken<'a, Stripe<K, V, E>>);
+
+impl<K, V, E> Beside<'_, K, V, E> {
+    /// The shard beside others, with the stripe's hits. Nothing if the shard is closed.
+    #[inline(always)]
+    pub(crate) fn parts(&mut self) -> Option<(&Shard<K, V, E>, &mut Hits)> {
+        let Stripe { share, hits } = &mut *self.0;
+        match share {
+            Some(shard) => Some((shard, hits)),
+            None => None,
+        }
+    }
 }
 
 // A box around the shard would cost each call that has it alone a jump.
@@ -168,15 +183,13 @@ impl<K, V, E> Shared<K, V, E> {
         Some(Locked(base))
     }
 
-    /// Makes a call on the shard beside others, if it is open.
+    /// Takes the stripe of this thread, for a hit beside others. Nothing if the shard seems closed.
     #[inline(always)]
-    pub(crate) fn beside_others<T>(&self, call: impl FnOnce(&Shard<K, V, E>, &mut Hits) -> T) -> Option<T> {
+    pub(crate) fn beside_others(&self) -> Option<Beside<'_, K, V, E>> {
         if !self.is_open() {
             return None;
         }
-        let mut stripe = self.stripes[own_stripe() % STRIPES].take();
-        let Stripe { share, hits } = &mut *stripe;
-        share.as_ref().map(|shard| call(shard, hits))
+        Some(Beside(self.stripes[own_stripe() % STRIPES].take()))
     }
 
     #[inline]
