@@ -45,10 +45,10 @@ def fenced(code, language=""):
 
 
 def by_name(calls):
-    """Calls named `Type::call` in groups by their types, those with the most calls first."""
-    groups = {call.name: Group(call.name, call, []) for call in calls if "::" not in call.name}
+    """Calls named `Type::call` in groups by their types, those with the most calls first. A module's name begins with a small letter."""
+    groups = {call.name: Group(call.name, call, []) for call in calls if re.fullmatch(r"(?:[a-z_]+::)*\w+", call.name)}
     for call in calls:
-        owner, _, name = call.name.partition("::")
+        owner, _, name = call.name.rpartition("::")
         if name and owner in groups:
             groups[owner].calls.append(call)
     return sorted(groups.values(), key=lambda group: -len(group.calls))

@@ -7,14 +7,18 @@ from ..texts import declaration as without_private_fields
 from . import EMBED, Call, by_name, dedented, fenced, line_at
 
 SOURCES = EMBED / "rust" / "src"
-ITEM = re.compile(r"((?:^ *(?:///[^\n]*|#\[[^\n]*)\n)*)^( *)pub (?:const )?(?:unsafe )?(struct|enum|trait|type|fn) (\w+)", re.M)
+ITEM = re.compile(r"((?:^ *(?:///[^\n]*|#\[[^\n]*)\n)*)^( *)pub (?:const )?(?:async )?(?:unsafe )?(struct|enum|trait|type|fn) (\w+)", re.M)
 IMPL = re.compile(r"^impl\b[^{]*?(?<= )(?:(\w+::)*)(\w+)(?:<[^{]*>)?(?:\s*where[^{]*)?\s*\{$", re.M)
 
 
 def exported():
-    """The names that the crate exports."""
+    """The names that the crate exports, its modules' too."""
     names = re.findall(r"^pub use \w+::(?:(\w+)|\{([^}]*)\});", (SOURCES / "lib.rs").read_text(), re.M)
-    return {name.strip() for one, several in names for name in (one or several).split(",")}
+    return {name.strip() for one, several in names for name in (one or several).split(",")} | modules()
+
+
+def modules():
+    return set(re.findall(r"^pub mod (\w+);", (SOURCES / "lib.rs").read_text(), re.M))
 
 
 def calls():
@@ -24,8 +28,9 @@ def calls():
 
 
 def calls_in(path):
-    """The public items of a file, those of an `impl` by the type's name."""
+    """The public items of a file, those of an `impl` by the type's name, and those of a public module by that too."""
     text = path.read_text()
+    module = "%s::" % path.stem if path.stem in modules() else ""
     owners = [(found.start(), text.index("\n}", found.start()), found.group(2)) for found in IMPL.finditer(text) if " for " not in found.group()]
     for found in ITEM.finditer(text):
         comment, indent, kind, name = found.groups()
@@ -34,7 +39,7 @@ def calls_in(path):
             continue
         start = found.end(1)
         docs = [line for line in comment.split("\n") if line.strip().startswith("///")]
-        yield Call("%s::%s" % (owner, name) if owner else name, declaration(text, start, kind), markdown("\n".join(dedented(docs, "///"))),
+        yield Call(module + ("%s::%s" % (owner, name) if owner else name), declaration(text, start, kind), markdown("\n".join(dedented(docs, "///"))),
                    path, line_at(text, start))
 
 
