@@ -1,11 +1,15 @@
 //! main CACHE KEYS ROUNDS THREADS [WORK]: hits, puts and read-through of the keys in a file, or the one of them that is named: a line
 //! for each, with the least nanoseconds an operation of some rounds, all threads together, and the misses of the read-through. Each
-//! thread goes through all keys; in the work `stream`, a read-through too, each takes the next one.
-use rookdresser::{Cache, Found, Loading, Reads, Setup, Token, Tokens};
+//! thread goes through all keys; in the work `stream`, a read-through too, each takes the next one. The work `get` is a read-through of
+//! keys that are held.
+use rookdresser::{future, Cache, Found, Loading, Reads, Setup, Token, Tokens};
 use std::cell::RefCell;
+use std::future::Future;
 use std::hash::{BuildHasher, Hasher, RandomState};
+use std::pin::pin;
 use std::sync::atomic::{AtomicUsize, Ordering::Relaxed};
-use std::sync::Mutex;
+use std::sync::{Arc, Mutex};
+use std::task::{Context, Poll, Wake, Waker};
 use std::time::Instant;
 
 const HELD: u64 = 2048;
@@ -149,6 +153,41 @@ impl<S: BuildHasher> Work for Loading<u64, u64, (), S> {
     }
 }
 
+// The cache of tasks. A load is ready at once, so that each future is ready when it is polled first. Its error is of a type of its own,
+// so that the compiler inlines the calls of the others as if this one weren't there.
+struct Tasks {
+    cache: future::Loading<u64, u64, u64>,
+    waker: Waker,
+}
+
+struct Nobody;
+
+impl Wake for Nobody {
+    fn wake(self: Arc<Self>) {}
+}
+
+impl Work for Tasks {
+    fn look(&self, key: u64, now: u64) -> bool {
+        self.cache.look_at(&key, now).expect("memory is there").is_some()
+    }
+    fn put(&self, key: u64, now: u64) {
+        self.cache.store_at(&key, key.into(), 1, now).expect("memory is there");
+    }
+    fn read_through(&self, key: u64, now: u64) -> bool {
+        let mut there = true;
+        let load = async {
+            there = false;
+            Ok((key, 1))
+        };
+        let Poll::Ready(got) = pin!(self.cache.get_at(&key, now, load)).poll(&mut Context::from_waker(&self.waker))
+        else {
+            unreachable!("loads land at once")
+        };
+        got.expect("loads land at once");
+        there
+    }
+}
+
 #[cfg(feature = "lru")]
 impl Work for Mutex<lru::LruCache<u64, u64>> {
     fn look(&self, key: u64, _: u64) -> bool {
@@ -190,11 +229,18 @@ fn made(cache: &str) -> Box<dyn Work + Sync> {
         "follows-cache" => owned(FOLLOWING),
         "loading" => Box::new(one_lock(SETUP)),
         "follows-loading" => Box::new(one_lock(FOLLOWING)),
+        "tasks" => {
+            let cache = Loading::sharded(1, &SETUP).expect("the setup is within its ranges").into();
+            Box::new(Tasks { cache, waker: Arc::new(Nobody).into() })
+        }
         "exact" => Box::new(one_lock(SETUP).with_reads(Reads::Exact)),
         "follows-exact" => Box::new(one_lock(FOLLOWING).with_reads(Reads::Exact)),
         "loading-folded" => {
             let seed = Folded(RandomState::new().hash_one(0));
-            Box::new(Loading::<u64, u64, (), _>::sharded_with_hasher(1, &SETUP, seed).expect("the setup is within its ranges"))
+            Box::new(
+                Loading::<u64, u64, (), _>::sharded_with_hasher(1, &SETUP, seed)
+                    .expect("the setup is within its ranges"),
+            )
         }
         "loading-sharded" => {
             Box::new(Loading::<u64, u64, ()>::sharded(8, &EIGHTH).expect("the setup is within its ranges"))
@@ -256,7 +302,7 @@ fn main() {
     let bytes = std::fs::read(&given[2]).expect("the file of keys");
     let keys: Vec<u64> = bytes.chunks_exact(8).map(|b| u64::from_le_bytes(b.try_into().expect("8 bytes"))).collect();
     type Call = fn(&dyn Work, u64, u64) -> bool;
-    let works: [(&str, Call); 4] = [
+    let works: [(&str, Call); 5] = [
         ("hit", |cache, key, now| cache.look(key % HELD, now)),
         ("put", |cache, key, now| {
             cache.put(key % HELD, now);
@@ -264,12 +310,14 @@ fn main() {
         }),
         ("read-through", |cache, key, now| cache.read_through(key, now)),
         ("stream", |cache, key, now| cache.read_through(key, now)),
+        ("get", |cache, key, now| cache.read_through(key % HELD, now)),
     ];
-    for (name, work) in works.into_iter().filter(|work| given.get(5).map_or(work.0 != "stream", |only| only == work.0)) {
+    let is_asked = |name| given.get(5).map_or(!["stream", "get"].contains(&name), |only| only == name);
+    for (name, work) in works.into_iter().filter(|work| is_asked(work.0)) {
         let mut least = (f64::MAX, 0);
         for _ in 0..rounds {
             let cache = made(&given[1]);
-            let is_held = name == "hit" || name == "put";
+            let is_held = ["hit", "get", "put"].contains(&name);
             if is_held {
                 (0..HELD).for_each(|key| cache.put(key, 0));
             }
