@@ -22,8 +22,8 @@ use std::sync::Arc;
 ///
 /// ```
 /// # use rookdresser::{future::Loading, Setup};
-/// # include!(concat!(env!("CARGO_MANIFEST_DIR"), "/tests/common/block_on.rs"));
-/// # block_on(async {
+/// # mod runtime { include!(concat!(env!("CARGO_MANIFEST_DIR"), "/tests/common/block_on.rs")); }
+/// # runtime::block_on(async {
 /// let cache = Loading::<String, String, std::io::Error>::open(&Setup::of(1000))?;
 /// let page = cache.get_with("a page", async { "its text".into() }).await?;
 /// assert_eq!(cache.look("a page")?, Some(page));
@@ -85,8 +85,8 @@ impl<K: Hash + Eq, V, E, S: BuildHasher> Loading<K, V, E, S> {
     ///
     /// ```
     /// # use rookdresser::{future::Loading, Setup};
-    /// # include!(concat!(env!("CARGO_MANIFEST_DIR"), "/tests/common/block_on.rs"));
-    /// # block_on(async {
+    /// # mod runtime { include!(concat!(env!("CARGO_MANIFEST_DIR"), "/tests/common/block_on.rs")); }
+    /// # runtime::block_on(async {
     /// # let cache = Loading::<String, u64, std::io::Error>::open(&Setup::of(100))?;
     /// let length = cache.get("a", async { Ok((7, 2)) }).await?; // weighs 2
     /// assert_eq!((*length, cache.numbers().weight), (7, 2));
@@ -105,8 +105,8 @@ impl<K: Hash + Eq, V, E, S: BuildHasher> Loading<K, V, E, S> {
     ///
     /// ```
     /// # use rookdresser::{future::Loading, Setup};
-    /// # include!(concat!(env!("CARGO_MANIFEST_DIR"), "/tests/common/block_on.rs"));
-    /// # block_on(async {
+    /// # mod runtime { include!(concat!(env!("CARGO_MANIFEST_DIR"), "/tests/common/block_on.rs")); }
+    /// # runtime::block_on(async {
     /// # let cache = Loading::<String, u64, std::io::Error>::open(&Setup::of(100))?;
     /// let length = cache.try_get_with("Cargo.toml", async { Ok(std::fs::read("Cargo.toml")?.len() as u64) }).await?;
     /// assert_eq!(cache.look("Cargo.toml")?, Some(length));
@@ -129,8 +129,8 @@ impl<K: Hash + Eq, V, E, S: BuildHasher> Loading<K, V, E, S> {
     ///
     /// ```
     /// # use rookdresser::{future::Loading, Setup};
-    /// # include!(concat!(env!("CARGO_MANIFEST_DIR"), "/tests/common/block_on.rs"));
-    /// # block_on(async {
+    /// # mod runtime { include!(concat!(env!("CARGO_MANIFEST_DIR"), "/tests/common/block_on.rs")); }
+    /// # runtime::block_on(async {
     /// # let cache = Loading::<String, u64, std::io::Error>::open(&Setup::of(100))?;
     /// assert_eq!(*cache.get_with("a", async { 7 }).await?, 7);
     /// assert_eq!(*cache.get_with("a", async { unreachable!("it is there") }).await?, 7);
@@ -149,8 +149,8 @@ impl<K: Hash + Eq, V, E, S: BuildHasher> Loading<K, V, E, S> {
     ///
     /// ```
     /// # use rookdresser::{future::Loading, Setup};
-    /// # include!(concat!(env!("CARGO_MANIFEST_DIR"), "/tests/common/block_on.rs"));
-    /// # block_on(async {
+    /// # mod runtime { include!(concat!(env!("CARGO_MANIFEST_DIR"), "/tests/common/block_on.rs")); }
+    /// # runtime::block_on(async {
     /// # let cache = Loading::<String, u64, std::io::Error>::open(&Setup { after_write: 10, ..Setup::of(100) })?;
     /// // Entries expire after 10 milliseconds here.
     /// assert_eq!(*cache.get_at("a", 1000, async { Ok((7, 1)) }).await?, 7);

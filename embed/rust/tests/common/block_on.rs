@@ -1,5 +1,4 @@
 // Runs a future in this thread, which sleeps while nothing is to be done.
-#[allow(dead_code)]
 pub fn block_on<T>(future: impl std::future::Future<Output = T>) -> T {
     struct Unpark(std::thread::Thread);
     impl std::task::Wake for Unpark {
