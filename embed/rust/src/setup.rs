@@ -6,7 +6,8 @@ use crate::Fault;
 use std::error::Error;
 use std::fmt::{Display, Formatter, Result as Written};
 
-/// What a cache is opened for. Durations are milliseconds; 0 stands for never.
+/// What a cache is opened for. In the fields durations are milliseconds, and 0 stands for never; the calls of the same names take a
+/// [`Duration`](std::time::Duration).
 #[derive(Clone, Copy, Debug, PartialEq, Eq)]
 pub struct Setup {
     /// How many entries the cache may hold: 1 to 65,536, and more if [`Loading::open`](crate::Loading::open) divides them.
@@ -34,8 +35,9 @@ impl Setup {
     ///
     /// ```
     /// use rookdresser::Setup;
+    /// use std::time::Duration;
     ///
-    /// let setup = Setup { after_write: 60_000, ..Setup::of(5000) };
+    /// let setup = Setup::of(5000).after_write(Duration::from_secs(60));
     /// assert_eq!((setup.entries, setup.window, setup.adaptive, setup.flights), (5000, None, None, 1024));
     /// ```
     pub const fn of(entries: u32) -> Setup {

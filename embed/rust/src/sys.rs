@@ -1,7 +1,10 @@
-//! The declarations of `rookdresser.h`, written by hand. `tools/gate/check_bindings` compares the two.
+//! The declarations of `rookdresser.h`, written by hand. `tools/gate/check_bindings` compares the two, and below the compiler compares
+//! sizes and places with those of the header's structs.
+use std::mem::offset_of;
 
 /// What the library keeps a cache or an adviser behind.
 #[repr(C)]
+#[derive(Debug)]
 pub struct Handle {
     pub at: *mut u8,
     pub is_open: bool,
@@ -26,6 +29,21 @@ fn is_v2() -> bool {
     return true;
 }
 
+// By the header, on a machine of 64 bits.
+const _: () = {
+    assert!(size_of::<Handle>() == 16 && offset_of!(Handle, is_open) == 8);
+    assert!(size_of::<Token>() == 16 && offset_of!(Token, weight) == 8);
+    assert!(size_of::<Settings>() == 48 && offset_of!(Settings, flights) == 8);
+    assert!(offset_of!(Settings, bound) == 16 && offset_of!(Settings, refresh) == 40);
+    assert!(size_of::<Answer>() == 32 && offset_of!(Answer, weight) == 4);
+    assert!(offset_of!(Answer, token) == 8 && offset_of!(Answer, notices) == 24);
+    assert!(size_of::<Looked>() == 48 && offset_of!(Looked, now) == 8 && offset_of!(Looked, answer) == 16);
+    assert!(size_of::<Name>() == 32 && offset_of!(Name, length) == 24);
+    assert!(size_of::<Notice<u64>>() == 24 && offset_of!(Notice<u64>, cause) == 20);
+    assert!(size_of::<Notice<Name>>() == 48 && offset_of!(Notice<Name>, token) == 32);
+    assert!(size_of::<Numbers>() == 88 && offset_of!(Numbers, step) == 64);
+};
+
 /// A number that stands for a value of the caller's, with its weight.
 #[repr(C)]
 #[derive(Clone, Copy, Debug, Default, PartialEq, Eq)]
@@ -38,6 +56,7 @@ pub struct Token {
 
 /// What the library opens a cache for: a [`Setup`](crate::Setup) whose window is chosen.
 #[repr(C)]
+#[derive(Debug)]
 pub struct Settings {
     pub entries: u32,
     pub window: u32,

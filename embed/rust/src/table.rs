@@ -80,6 +80,11 @@ impl<K, V> Table<K, V> {
         rows.next().is_none().then_some(at)
     }
 
+    /// All rows.
+    pub(crate) fn all(&self) -> impl Iterator<Item = &Row<K, V>> {
+        self.rows.iter().map(|(_, row)| row)
+    }
+
     /// The row at a place that is in use.
     #[inline]
     pub(crate) fn row(&self, at: u32) -> &Row<K, V> {

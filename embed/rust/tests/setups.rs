@@ -1,6 +1,7 @@
 //! Which setups open a cache, and what is said of one that doesn't.
 use rookdresser::{BadSetting, Cache, Loading, Name, OpenError, Setting, Setup, Tokens};
 use std::sync::Arc;
+use std::time::Duration;
 
 const SETUP: Setup = Setup::of(10);
 
@@ -112,4 +113,21 @@ fn caches_have_a_debug_form_whatever_their_keys_and_values_are() {
         format!("{loading:?} {cache:?} {tokens:?}"),
         "Loading { shards: 2, .. } Cache { keys: 1, .. } Tokens { .. }"
     );
+}
+
+#[test]
+fn a_setup_by_calls_is_the_one_by_fields_and_its_durations_are_rounded_up() {
+    let by_calls = Setup::of(600).window(6).adaptive(false).flights(7).bound(8);
+    let by_fields = Setup { window: Some(6), adaptive: Some(false), flights: 7, bound: 8, ..Setup::of(600) };
+    assert_eq!(by_calls, by_fields);
+    let durations = |duration| {
+        let setup = SETUP.after_write(duration).after_access(duration).refresh(duration);
+        assert_eq!(setup, Setup { after_write: setup.refresh, after_access: setup.refresh, ..setup });
+        setup.refresh
+    };
+    let of = [Duration::ZERO, Duration::from_nanos(1), Duration::from_micros(1500), Duration::from_secs(60)];
+    assert_eq!(of.map(durations), [0, 1, 2, 60_000]);
+    // 2^64 - 1 milliseconds are the longest.
+    assert_eq!([Duration::from_millis(u64::MAX), Duration::MAX].map(durations), [u64::MAX, u64::MAX]);
+    assert_eq!(Setup { refresh: 9, ..SETUP }.after_write(Duration::from_millis(10)).check(), Ok(()));
 }
