@@ -4,7 +4,7 @@
 
 static rd_loading l = RD_LOADING_INIT;
 static const struct timespec past = {0, 1}, none = {0, -1}, more = {0, 1000000000};
-static struct timespec future, soon;
+static struct timespec future;
 static atomic_long woken;
 
 int __real_pthread_cond_wait(pthread_cond_t *condition, pthread_mutex_t *lock);
@@ -17,6 +17,15 @@ int __wrap_pthread_cond_wait(pthread_cond_t *condition, pthread_mutex_t *lock) {
 static void whole(void) {
     rd_numbers n;
     CHECK(rd_loading_numbers(&l, &n, NULL) == RD_OK && n.flights == 0 && n.entries == (uint64_t)live && !l.loads);
+}
+
+/* A moment that is a millisecond away, or has passed once it is used: a wait for a load that goes on ends in both cases. */
+static struct timespec soon(void) {
+    struct timespec t;
+    CHECK(!clock_gettime(CLOCK_MONOTONIC, &t));
+    t.tv_nsec += 1000000;
+    if (t.tv_nsec >= 1000000000) t.tv_sec++, t.tv_nsec -= 1000000000;
+    return t;
 }
 
 static request asking(uint64_t key, int number, const struct timespec *deadline) {
@@ -35,7 +44,8 @@ static void test_no_deadline_ends_a_hit_or_a_load(void) {
 
 /* One load; of those that wait for it, some have a deadline that passes, and the others get the value once it is there. */
 static void test_a_deadline_passes_while_the_load_goes_on(void) {
-    const struct timespec *passing[] = {&past, &none, &more, &soon};
+    struct timespec near;
+    const struct timespec *passing[] = {&past, &none, &more, &near};
     atomic_bool may_end = false;
     request lead = asking(3, 7, NULL), waits = asking(3, 0, NULL), far = asking(3, 0, &future);
     rd_stats before;
@@ -49,6 +59,7 @@ static void test_a_deadline_passes_while_the_load_goes_on(void) {
     for (int round = 0; round < 2; round++)
         for (int i = 0; i < 4; i++) {
             request late = asking(3, 0, passing[i]);
+            near = soon();
             get(&late);
             CHECK(late.fault == RD_TIMED_OUT && late.got == 0);
         }
@@ -128,11 +139,8 @@ static void test_a_wait_is_woken_by_its_own_load_alone(void) {
 
 int main(void) {
     const rd_setup setup = {.entries = 8, .window = 1, .flights = 4, .bound = 100};
-    CHECK(!clock_gettime(CLOCK_MONOTONIC, &soon));
-    future = soon;
+    future = soon();
     future.tv_sec += 1000000;
-    soon.tv_nsec += 1000000;
-    if (soon.tv_nsec >= 1000000000) soon.tv_sec++, soon.tv_nsec -= 1000000000;
     CHECK(rd_loading_open(&l, &setup, destroy) == RD_OK);
     test_no_deadline_ends_a_hit_or_a_load();
     test_a_deadline_passes_while_the_load_goes_on();

@@ -12,7 +12,7 @@ CHECKS = {"check_facts": 1, "check_bindings": 1, "check_layout": 2, "check_prose
 # Those of the program, which stands where a proved one would.
 OF_PROGRAM = {"check_program": ((), 40), "check_facts --built": ((), 1), "refuse_memory --program": (("cc",), 5), "check_tools": ((), 60),
               "check_page": (("chromium",), 60)}
-LANGUAGES = {"c": (("gcc", "g++", "nm", "objdump", "pkg-config"), 90), "rust": (("cargo", "cargo-clippy"), 300),
+LANGUAGES = {"c": (("gcc", "g++", "nm", "objdump", "pkg-config"), 120), "rust": (("cargo", "cargo-clippy"), 300),
              "python": (("mypy", "python3-dbg"), 300), "go": (("go",), 200)}
 # The slowest crates' tests, in seconds of a core.
 SLOW = {"wt_turns_tests": 60, "wt_shards_tests": 120, "wt_cache_tests": 120, "wt_callers_tests": 120, "wt_core_tests": 90, "wt_trace_tests": 120,
