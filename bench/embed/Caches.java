@@ -15,7 +15,7 @@ class Caches {
     }
 
     interface Call {
-        boolean make(Work cache, long key) throws Exception;
+        boolean make(Work cache, long key, int place) throws Exception;
     }
 
     static final int ENTRIES = 4096, HELD = 2048;
@@ -55,7 +55,7 @@ class Caches {
                 long mine = 0;
                 try {
                     for (int i = 0; i < keys.length; i++) {
-                        if (!call.make(cache, keys[(from + i) % keys.length])) mine++;
+                        if (!call.make(cache, keys[(from + i) % keys.length], i)) mine++;
                     }
                 } catch (Exception fault) {
                     throw new RuntimeException(fault);
@@ -73,20 +73,25 @@ class Caches {
         long[] keys = new long[bytes.remaining() / 8];
         bytes.asLongBuffer().get(keys);
         int rounds = Integer.parseInt(given[2]), threads = Integer.parseInt(given[3]);
-        String[] names = {"hit", "put", "read-through"};
+        String[] names = {"hit", "put", "mixed", "read-through"};
         Call[] calls = {
-            (cache, key) -> cache.look(key % HELD),
-            (cache, key) -> { cache.put(key % HELD); return true; },
-            (cache, key) -> cache.readThrough(key)};
-        for (int w = 0; w < 3; w++) {
+            (cache, key, i) -> cache.look(key % HELD),
+            (cache, key, i) -> { cache.put(key % HELD); return true; },
+            (cache, key, i) -> {
+                if (i % 32 != 31) return cache.look(key % HELD);
+                cache.put(key % HELD);
+                return true;
+            },
+            (cache, key, i) -> cache.readThrough(key)};
+        for (int w = 0; w < 4; w++) {
             double least = Double.MAX_VALUE;
             long missed = 0;
             for (int round = -10; round < rounds; round++) {
                 Work cache = given[0].equals("caffeine") ? caffeine() : guava();
-                for (long key = 0; w < 2 && key < HELD; key++) cache.put(key);
+                for (long key = 0; w < 3 && key < HELD; key++) cache.put(key);
                 LongAdder told = new LongAdder();
                 double each = timed(cache, keys, threads, calls[w], told);
-                if (w < 2 && told.sum() > 0) throw new AssertionError("all of them are held");
+                if (w < 3 && told.sum() > 0) throw new AssertionError("all of them are held");
                 if (round >= 0 && each < least) {
                     least = each;
                     missed = told.sum();

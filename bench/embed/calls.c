@@ -8,7 +8,7 @@
 
 enum { ENTRIES = 4096, HELD = 2048, MOST = 64 };
 enum form { ALONE, MUTEX, SHARED };
-enum work { HIT, PUT, READ_THROUGH };
+enum work { HIT, PUT, MIXED, READ_THROUGH };
 static enum form form;
 static enum work work;
 static uint64_t *keys;
@@ -70,9 +70,9 @@ static void *pass(void *given) {
     uint64_t misses = 0;
     for (size_t i = 0; i < count; i++) {
         uint64_t key = keys[(i + t * count / threads) % count];
-        if (work == HIT) misses += hit(caller, key % HELD, i);
-        else if (work == PUT) put(caller, key % HELD, i);
-        else misses += read_through(caller, key, i);
+        if (work == READ_THROUGH) misses += read_through(caller, key, i);
+        else if (work == PUT || (work == MIXED && i % 32 == 31)) put(caller, key % HELD, i);
+        else misses += hit(caller, key % HELD, i);
     }
     missed[t] = misses;
     return 0;
@@ -113,7 +113,7 @@ static void read_keys(const char *path) {
 }
 
 int main(int argc, char **argv) {
-    static const char *const forms[] = {"alone", "mutex", "shared"}, *const works[] = {"hit", "put", "read-through"};
+    static const char *const forms[] = {"alone", "mutex", "shared"}, *const works[] = {"hit", "put", "mixed", "read-through"};
     if (argc < 5) return 2;
     while (strcmp(argv[1], forms[form]))
         if (form++ == SHARED) return 2;

@@ -245,6 +245,10 @@ fn made(cache: &str) -> Box<dyn Work + Sync> {
         "loading-sharded" => {
             Box::new(Loading::<u64, u64, ()>::sharded(8, &EIGHTH).expect("the setup is within its ranges"))
         }
+        "exact-sharded" => {
+            let cache = Loading::<u64, u64, ()>::sharded(8, &EIGHTH).expect("the setup is within its ranges");
+            Box::new(cache.with_reads(Reads::Exact))
+        }
         #[cfg(feature = "lru")]
         "lru" => Box::new(Mutex::new(lru::LruCache::<u64, u64>::new(4096))),
         // A kind of cache, and its size.
@@ -302,11 +306,18 @@ fn main() {
     let bytes = std::fs::read(&given[2]).expect("the file of keys");
     let keys: Vec<u64> = bytes.chunks_exact(8).map(|b| u64::from_le_bytes(b.try_into().expect("8 bytes"))).collect();
     type Call = fn(&dyn Work, u64, u64) -> bool;
-    let works: [(&str, Call); 5] = [
+    let works: [(&str, Call); 6] = [
         ("hit", |cache, key, now| cache.look(key % HELD, now)),
         ("put", |cache, key, now| {
             cache.put(key % HELD, now);
             true
+        }),
+        ("mixed", |cache, key, now| {
+            let is_put = now % 32 == 31;
+            if is_put {
+                cache.put(key % HELD, now);
+            }
+            is_put || cache.look(key % HELD, now)
         }),
         ("read-through", |cache, key, now| cache.read_through(key, now)),
         ("stream", |cache, key, now| cache.read_through(key, now)),
@@ -317,7 +328,7 @@ fn main() {
         let mut least = (f64::MAX, 0);
         for _ in 0..rounds {
             let cache = made(&given[1]);
-            let is_held = ["hit", "get", "put"].contains(&name);
+            let is_held = ["hit", "get", "put", "mixed"].contains(&name);
             if is_held {
                 (0..HELD).for_each(|key| cache.put(key, 0));
             }
