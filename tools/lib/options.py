@@ -81,7 +81,7 @@ def settings(given, options=OPTIONS):
         fits = number is None or option.allows(number, full)
         if option.name == "turn" and full["threads"] or option.name == "workers" and not full["turn"]:
             fits = number == 0
-        if option.name == "adaptive" and (full["entries"] < 512 or fixed or full["turn"]):
+        if option.name == "adaptive" and (full["entries"] < 512 or fixed):
             fits = number == 0
         if not fits:
             return full, option.name

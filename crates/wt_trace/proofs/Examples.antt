@@ -242,7 +242,7 @@ pub faults_of_options : map option_fault
     field.AfterAccess ∷ Some field.Refresh ∷ Some field.FailMod
     ∷ Some field.Flights ∷ Some field.Flights ∷ Some field.Ring ∷ Some field.Ring ∷ Some field.Ring ∷ Some
     field.Threads ∷ None ∷ None ∷ Some field.Turn ∷ Some field.Turn ∷ Some field.Workers ∷ Some
-    field.Workers ∷ None ∷ Some field.Adaptive ∷ Some field.Adaptive ∷ Some field.Adaptive ∷ Some field.Adaptive ∷ []
+    field.Workers ∷ None ∷ Some field.Adaptive ∷ Some field.Adaptive ∷ None ∷ Some field.Adaptive ∷ []
 faults_of_options = refl
 
 pub fault_lines : map fault_line

@@ -26,9 +26,9 @@ is_outside low high n = nat_lt n low || nat_lt high n
 abbrev pub is_shard_count : ℕ → Bool
 is_shard_count n = n == 1 || (n == 2 || n == 4)
 
--- whether the window may follow the stream: an adviser has enough entries, no window is given, and the run isn't by turn
+-- whether the window may follow the stream: an adviser has enough entries, and no window is given
 abbrev pub can_adapt : Options → Bool
-can_adapt o = nat_le 512 o.entries && (is_none o.window && not (nat_lt 0 o.turn))
+can_adapt o = nat_le 512 o.entries && is_none o.window
 
 -- the first of the options from flights on that is out of its range: a run is by shard or by turn, and only turns have workers
 abbrev pub later_fault : Options → Option Field

@@ -50,7 +50,7 @@ pub struct Options {
     /// where `turn` is.
     pub workers: u64,
     /// 1 if the window of each shard follows the stream of its look-ups, else 0. 1 only from 512
-    /// entries on, and not with `window` or with `turn` above 0.
+    /// entries on, and not with `window`.
     pub adaptive: u64,
 }
 
@@ -121,7 +121,7 @@ impl Options {
     fn can_adapt(&self) -> bool
         ensures { result ≡ can_adapt self.now }
     {
-        512 <= self.entries && (self.window.is_none() && !(0 < self.turn))
+        512 <= self.entries && self.window.is_none()
     }
 
     // The ring, its default if none was given.

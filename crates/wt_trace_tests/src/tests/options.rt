@@ -53,6 +53,20 @@ const ROWS: [(Field, u64, bool); 43] = [
 ];
 
 #[test]
+fn a_window_may_follow_a_replay_of_any_kind(rt: HostRuntime) {
+    for (threads, turn) in [(0, 0), (2, 0), (0, 2)] {
+        let options = Options {
+            entries: 512,
+            threads,
+            turn,
+            adaptive: 1,
+            ..Options::default()
+        };
+        same(&rt, "in its range", options.check(), Ok(()));
+    }
+}
+
+#[test]
 fn an_option_out_of_its_range_is_named_and_nothing_is_read(rt: HostRuntime) {
     same(
         &rt,
