@@ -1,5 +1,6 @@
 -- What a line does, by the call that was made for it.
-use Rattle.std.proofs.Common.{◌≡◌, ℕ, Result, Ok, Err, OnOk, sym, subst}
+use Rattle.std.proofs.Common.{◌≡◌, ℕ, Bool, true, Option, Some, Result, Ok, Err, OnOk, sym, subst}
+use Rattle.std.specs.Prelude.{nat_lt}
 use Rattle.wt_keys.specs.declared.fault.Fault.{Fault}
 use Rattle.wt_regions.specs.Notices.{NoticeList}
 use Rattle.wt_core.specs.declared.calls.Call.{Call}
@@ -9,8 +10,9 @@ use Rattle.wt_shards.specs.Passes.{Seen}
 use Rattle.wt_shards.specs.Place.{home_at}
 use Rattle.wt_shards.specs.declared.done.Done.{Done}
 use Rattle.wt_cache.specs.Cached.{Cached}
-use Rattle.wt_turns.specs.Turns.{HasActed, HasDone, HasMade, HasSwept, members}
+use Rattle.wt_turns.specs.Turns.{HasActed, HasDone, HasFollowed, HasMade, HasSlid, HasSwept, IsFollowing, members}
 use Rattle.wt_trace.specs.Keys.{Keys}
+use Rattle.wt_trace.specs.Line.{looked_up}
 use Rattle.wt_trace.specs.declared.trace.line.Act.{Act}
 use Rattle.wt_trace.specs.declared.trace.line.Line.{Line}
 use Rattle.wt_trace.specs.declared.options.Options.{Options}
@@ -43,3 +45,10 @@ module _ {K : Type 0} (keys : Keys K) (o : Options) (c : Cached) (old new : Seen
       → OnOk r (HasSwept keys o c old new call)
   swept call before after (Ok x) made = record { before = before; after = after; steps = made.steps; moved = made.moved }
   swept call before after (Err f) made = tt
+
+  -- a look-up that the window follows
+  pub followed : (l : Line K) (k : K) → nat_lt 0 o.adaptive ≡ true → looked_up l.act ≡ Some k
+      → IsFollowing keys o c old new k l.moment → HasFollowed keys o c l old new
+  followed l k follows looks slid =
+      subst (λ (b : Bool). HasSlid keys b (looked_up l.act) o c l.moment old new) (sym follows)
+      (subst (λ (j : Option K). HasSlid keys true j o c l.moment old new) (sym looks) slid)

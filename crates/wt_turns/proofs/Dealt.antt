@@ -2,7 +2,7 @@
 use Rattle.std.proofs.Common.{◌≡◌, ℕ, ◌+◌, ◌-◌, ◌<◌, ◌≤◌, ◌%◌, Bool, true, false, List, [], ◌∷◌, length, get_or, Ok, Err, Result, IsOk, refl, sym, subst, arith}
 use Rattle.std.proofs.lemmas.Bool.Decides.{nat_tests}
 use Rattle.wt_cache.specs.Cached.{Cached}
-use Rattle.wt_turns.specs.Turns.{AreDone, AreTurns, HasActed, IsDone, IsTurn, is_turn, unmade}
+use Rattle.wt_turns.specs.Turns.{AreDone, AreTurns, HasHandled, IsDone, IsTurn, is_turn, unmade}
 use Rattle.wt_turns.specs.declared.by_turn.turns.RunFault.{RunFault}
 use Rattle.wt_trace.specs.Stops.{AreAsked}
 use Rattle.wt_trace.specs.Keys.{Keys}
@@ -64,7 +64,7 @@ module _ {K P : Type 0} (threads : ℕ) (passed : ℕ → Type 0) (acted : ℕ �
 ok_done : {K : Type 0} (keys : Keys K) (o : Options) (c : Cached) (answers : ℕ → Bool → Type 0) (first : ℕ)
     (lines : List (Line K)) (threads t : ℕ) (r : Result (Seen K (Version K)) RunFault)
     → IsOk r → IsDone keys o c answers first lines threads t r
-    → HasTurns (is_turn threads t) (λ n. answers n true) (HasActed keys o c) first lines
+    → HasTurns (is_turn threads t) (λ n. answers n true) (HasHandled keys o c) first lines
 ok_done keys o c answers first lines threads t (Ok pass) ok done = (_, pass, done.turns)
 ok_done keys o c answers first lines threads t (Err fault) ok done = absurd (cc)
 
@@ -75,5 +75,5 @@ pub done_asked : {K : Type 0} (keys : Keys K) (o : Options) (c : Cached) (answer
     → ((t : ℕ) → t < threads → IsOk (get_or ran t unmade))
     → AreAsked (λ _. true) (λ n. answers n true) first lines
 done_asked keys o c answers first lines threads ran from some done ok =
-    all_asked threads (λ n. answers n true) (HasActed keys o c) some first lines from
+    all_asked threads (λ n. answers n true) (HasHandled keys o c) some first lines from
     (λ t within. ok_done keys o c answers first lines threads t (get_or ran t unmade) (ok t within) (done t within))

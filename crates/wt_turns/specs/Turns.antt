@@ -1,5 +1,5 @@
 -- What one thread does of a replay turn by turn.
-use Rattle.std.specs.Prelude.{◌≡◌, ◌⊎◌, ℕ, ◌+◌, ◌-◌, ◌<◌, ◌%◌, ◌==◌, Bool, true, false, if◌then◌else◌, List, [], ◌∷◌, All, Result, Ok, Err, IfOk, IfErr, get_or}
+use Rattle.std.specs.Prelude.{◌≡◌, ◌⊎◌, ℕ, ◌+◌, ◌-◌, ◌<◌, ◌%◌, ◌==◌, nat_lt, Bool, true, false, if◌then◌else◌, List, [], ◌∷◌, All, Option, Some, None, Result, Ok, Err, IfOk, IfErr, get_or}
 use Rattle.std.specs.Option.{option_map_or}
 use Rattle.wt_keys.specs.declared.fault.Fault.{Fault}
 use Rattle.wt_keys.specs.declared.fault.Fault.TheVariants.{NoMemory, LoadFailed, TooHeavy, TooManyFlights}
@@ -15,10 +15,12 @@ use Rattle.wt_shards.specs.Place.{Place, home_of, home_at}
 use Rattle.wt_shards.specs.Sweeps.{AreSwept}
 use Rattle.wt_cache.specs.Cached.{Cached}
 use Rattle.wt_cache.specs.Gets.{HasTriedIn, IsSought}
+use Rattle.wt_cache.specs.Follows.{IsFollowed}
 use Rattle.wt_cache.specs.Moves.{HasGotIn}
 use Rattle.wt_cache.specs.declared.got.Got.{Got}
 use Rattle.wt_trace.specs.Answers.{version}
 use Rattle.wt_trace.specs.Keys.{Keys}
+use Rattle.wt_trace.specs.Line.{looked_up}
 use Rattle.wt_trace.specs.Replayed.{is_config_fault}
 use Rattle.wt_trace.specs.declared.fault.ReplayFault.TheVariants.{Cache}
 use Rattle.wt_trace.specs.declared.trace.line.Act.{Act}
@@ -99,6 +101,13 @@ module _ {K : Type 0} (keys : Keys K) where
       pub after : NoticeList K (Version K)
       pub tried : HasTriedIn members k now c old new before after fault
 
+    -- the window of the key's shard followed a look-up of the key: the pass made up to four slides there, and nothing else
+    pub record IsFollowing (k : K) (now : ℕ) : Type 0 where
+      pub slides : ℕ
+      pub before : NoticeList K (Version K)
+      pub after : NoticeList K (Version K)
+      pub followed : IsFollowed members (place k) now old new before after (Ok slides)
+
     -- a value is stored, unless it is too heavy
     abbrev pub HasPut : K → Version K → ℕ → Type 0
     HasPut k v now = HasMade k (call.Put k v now) ⊎ ((c.layout.config.bound < v.weight) × (new.counted ≡ old.counted) × SeenAt (home k) old new)
@@ -118,6 +127,22 @@ module _ {K : Type 0} (keys : Keys K) where
   -- what line n does
   abbrev pub HasActed : Options → Cached → ℕ → Line K → Seen K (Version K) → Seen K (Version K) → Type 0
   HasActed o c n l old new = HasDone o c old new n l.moment l.act
+
+  -- by whether the windows follow, and by the key that a line looks up: the slides behind the look-up, or nothing
+  abbrev pub HasSlid : Bool → Option K → Options → Cached → ℕ → Seen K (Version K) → Seen K (Version K) → Type 0
+  HasSlid true (Some k) o c now old new = IsFollowing o c old new k now
+  HasSlid true None o c now old new = new ≡ old
+  HasSlid false k o c now old new = new ≡ old
+
+  -- what the windows do behind a line: with the option they follow its look-up, and without it nothing happens
+  abbrev pub HasFollowed : Options → Cached → Line K → Seen K (Version K) → Seen K (Version K) → Type 0
+  HasFollowed o c l old new = HasSlid (nat_lt 0 o.adaptive) (looked_up l.act) o c l.moment old new
+
+  -- what line n does, and behind it the windows
+  pub record HasHandled (o : Options) (c : Cached) (n : ℕ) (l : Line K) (old new : Seen K (Version K)) : Type 0 where
+    pub between : Seen K (Version K)
+    pub acted : HasActed o c n l old between
+    pub followed : HasFollowed o c l between new
 
 -- a line of the thread's own was let through and done, once; another thread's line is left alone
 abbrev pub IsTurn : {P : Type 0} → Bool → Type 0 → (P → P → Type 0) → P → P → Type 0
@@ -146,7 +171,7 @@ unmade = Err (run.Cache NoMemory)
 pub record IsDone {K : Type 0} (keys : Keys K) (o : Options) (c : Cached) (answers : ℕ → Bool → Type 0) (first : ℕ) (lines : List (Line K)) (threads t : ℕ)
     (share : Result (Seen K (Version K)) RunFault) : Type 0 where
   -- the pass with which it did its turns
-  pub turns : IfOk share (AreTurns (is_turn threads t) (λ n. answers n true) (HasActed keys o c) first lines (new_pass c.layout.shards))
+  pub turns : IfOk share (AreTurns (is_turn threads t) (λ n. answers n true) (HasHandled keys o c) first lines (new_pass c.layout.shards))
   -- or why it stopped
   pub err : IfErr share (IsRunStop (λ n. answers n false))
 

@@ -18,10 +18,12 @@ ghost use Rattle.wt_turns.specs.Turns.{IsRunStop};
 ghost use Rattle.wt_trace.specs.Replayed.{is_config_fault};
 ghost use Rattle.wt_trace.specs.declared.fault.ReplayFault.TheVariants as fault;
 
+mod aids;
 mod crew;
 mod loader;
 mod turns;
 
+use crate::by_turn::aids::Aids;
 use crate::by_turn::crew::{gather, stop_of, work_all};
 use crate::by_turn::loader::TraceLoader;
 use crate::by_turn::turns::{Deal, RunFault};
@@ -222,9 +224,11 @@ fn sums_of_trace<K: TraceKey, G: Gate, R: Threads + Wait + Sync>(
         return Err(ReplayFault::BadLine { n });
     }
     read.verdict?;
-    let loader = TraceLoader::of(options);
+    let Ok(aids) = Aids::new(alloc, options) else {
+        return Err(ReplayFault::Cache(Fault::NoMemory));
+    };
     let deal = Deal {
-        loader: &loader,
+        aids: &aids,
         first,
         lines: &read.lines,
         threads,

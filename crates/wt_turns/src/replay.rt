@@ -23,6 +23,9 @@ use wt_trace::{
 /// without a place are passed over. With `options.workers` above 0, that many threads run the
 /// loads, which wait in a line of 64.
 ///
+/// With `options.adaptive`, the window of a key's shard follows each `G` and `L`, by up to four
+/// slides. If one is refused, its fault ends the run at that line.
+///
 /// Faults come in this order. An option out of its range: nothing was read or written. `ReadFault`,
 /// exactly if the reader failed, and `NoMemory`. The fault of the first faulty line; a line of
 /// letter S or E is faulty. `GateShut` of a line before which the gate was shut. The fault of the

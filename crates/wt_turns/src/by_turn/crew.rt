@@ -56,12 +56,12 @@ fn handle_all<K: TraceKey, N: Names + Send + Sync, G: Gate, R: Threads + Wait + 
     manned: &AtomicBool,
 ) -> Result<Ran<K, Of<N>>, AllocError>
     requires { cache.now.layout.shards ≤ 4 }
-    ensures { HaveRan (keys_by K.eq K.word K.read K.shown) deal.now.loader.now.options cache.now
+    ensures { HaveRan (keys_by K.eq K.word K.read K.shown) deal.now.aids.now.loader.options cache.now
         (G.answers gate.now) deal.now.first deal.now.lines.now deal.now.threads result }
 {
     // Taken apart: the prover finds no proof for a thread's closure that captures the deal whole.
     let Deal {
-        loader,
+        aids,
         first,
         lines,
         threads,
@@ -74,11 +74,11 @@ fn handle_all<K: TraceKey, N: Names + Send + Sync, G: Gate, R: Threads + Wait + 
         &|t: usize| -> Result<Pass<K, Version<K>, Of<N>>, RunFault>
             requires { IsManned cache.now.layout.shards first (length lines.now) threads
                 × (t < threads) }
-            ensures { IsDone (keys_by K.eq K.word K.read K.shown) loader.entry.now.options
+            ensures { IsDone (keys_by K.eq K.word K.read K.shown) aids.entry.now.loader.options
                 cache.entry.now (G.answers gate.entry.now) first lines.entry.now threads t result }
         {
             let deal = Deal {
-                loader,
+                aids,
                 first,
                 lines,
                 threads,
@@ -126,7 +126,7 @@ pub(crate) fn work_all<K: TraceKey, N: Names + Send + Sync, G: Gate, R: Threads 
     Result<Worked<K, Of<N>>, AllocError>,
 )
     requires { cache.now.layout.shards ≤ 4 }
-    ensures each { HaveRan (keys_by K.eq K.word K.read K.shown) deal.now.loader.now.options
+    ensures each { HaveRan (keys_by K.eq K.word K.read K.shown) deal.now.aids.now.loader.options
         cache.now (G.answers gate.now) deal.now.first deal.now.lines.now deal.now.threads result.0 }
     ensures len { IfOk result.1 (λ worked. vec_len worked ≡ workers) }
     ensures faults { IfOk result.1 (λ worked. AreWorked worked.items) }
@@ -134,7 +134,7 @@ pub(crate) fn work_all<K: TraceKey, N: Names + Send + Sync, G: Gate, R: Threads 
     let manned = AtomicBool::new(false);
     // Taken apart, as in `handle_all`.
     let Deal {
-        loader,
+        aids,
         first,
         lines,
         threads,
@@ -144,12 +144,12 @@ pub(crate) fn work_all<K: TraceKey, N: Names + Send + Sync, G: Gate, R: Threads 
         || -> Result<Ran<K, Of<N>>, AllocError>
             requires { IsManned cache.now.layout.shards first (length lines.now) threads }
             ensures { IfOk result (λ ran. (vec_len ran ≡ threads)
-                × AreDone (keys_by K.eq K.word K.read K.shown) loader.entry.now.options
+                × AreDone (keys_by K.eq K.word K.read K.shown) aids.entry.now.loader.options
                 cache.entry.now (G.answers gate.entry.now) first lines.entry.now threads
                 ran.items) }
         {
             let deal = Deal {
-                loader,
+                aids,
                 first,
                 lines,
                 threads,

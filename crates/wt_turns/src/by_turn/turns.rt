@@ -1,11 +1,12 @@
 // One thread of a replay turn by turn: it does its lines, each when its turn comes.
 ghost use Rattle.std.specs.Prelude.{◌≡◌, ◌*◌, ◌+◌, ◌≤◌, false, true, length, OnOk, IfErr};
 ghost use Rattle.wt_turns.specs.ByTurn.{IsReady};
-ghost use Rattle.wt_turns.specs.Turns.{HasActed, AreTurns, IsDone, IsTurn, IsRunStop, is_passed_over, is_turn};
+ghost use Rattle.wt_turns.specs.Turns.{HasActed, HasFollowed, HasHandled, AreTurns, IsDone, IsTurn, IsRunStop, is_passed_over, is_turn};
 ghost use Rattle.wt_trace.specs.Keys.{keys_by};
 ghost use Rattle.wt_trace.specs.Replayed.{is_config_fault};
 ghost use Rattle.wt_trace.specs.declared.fault.ReplayFault.TheVariants as fault;
 
+use crate::by_turn::aids::Aids;
 use crate::by_turn::loader::TraceLoader;
 use std::alloc::Global;
 use std::sync::Wait;
@@ -27,9 +28,9 @@ pub(crate) enum RunFault {
 
 /// The lines of a trace that threads do in turn.
 #[derive(Drop)]
-pub(crate) struct Deal<'a, K> {
-    /// Makes the values that lines put, as it makes those that are loaded.
-    pub loader: &'a TraceLoader,
+pub(crate) struct Deal<'a, K: TraceKey> {
+    /// What all threads use beside the cache.
+    pub aids: &'a Aids<K>,
     /// The number of the first line: 2 behind a header, else 1.
     pub first: u64,
     /// The lines, at most 1,000,000.
@@ -109,6 +110,33 @@ fn act<K: TraceKey, B: Books, R: Wait>(
     }
 }
 
+// Lets the window of the key's shard follow a line's look-up, if the windows follow.
+fn follow<K: TraceKey, B: Books, R: Wait>(
+    rt: &R,
+    cache: &LoadingCache<K, Version<K>, TraceLoader, B>,
+    aids: &Aids<K>,
+    pass: &mut Pass<K, Version<K>, B>,
+    line: &Line<K>,
+    notices: &mut Notices<K, Version<K>>,
+) -> Result<(), Fault>
+    requires room { cache.now.layout.config.entries ≤ notices.old.room }
+    ensures step { OnOk result (HasFollowed (keys_by K.eq K.word K.read K.shown)
+        aids.now.loader.options cache.now line.now pass.old pass.new) }
+    ensures faults { IfErr result (λ f. is_config_fault (fault.Cache f) ≡ false) }
+    ensures same { notices.new ≡ notices.old }
+{
+    let Some(followers) = &aids.followers else {
+        return Ok(());
+    };
+    let Some(key) = line.act.looked_up() else {
+        return Ok(());
+    };
+    match followers.follow(rt, cache, pass, key, line.moment, notices) {
+        Ok(_) => Ok(()),
+        Err(fault) => Err(fault),
+    }
+}
+
 // Whether line n is thread t's: lines are dealt out in turn.
 fn is_turn(n: u64, t: u64, threads: u64) -> bool
     requires { (1 ≤ n) × (1 ≤ threads) }
@@ -118,6 +146,39 @@ fn is_turn(n: u64, t: u64, threads: u64) -> bool
 }
 
 impl<'a, K: TraceKey, B: Books> Turns<'a, K, B> {
+    // Makes the call of line n, drops the entries that left, and lets the window follow the line's
+    // look-up.
+    fn handle<R: Wait>(
+        &self,
+        rt: &R,
+        pass: &mut Pass<K, Version<K>, B>,
+        n: u64,
+        line: &Line<K>,
+        notices: &mut Notices<K, Version<K>>,
+    ) -> Result<(), Fault>
+        requires room { 4 * self.now.cache.now.layout.config.entries ≤ notices.old.room }
+        ensures step { OnOk result (HasHandled (keys_by K.eq K.word K.read K.shown)
+            self.now.deal.now.aids.now.loader.options self.now.cache.now n line.now pass.old
+            pass.new) }
+        ensures faults { IfErr result (λ f. is_config_fault (fault.Cache f) ≡ false) }
+        ensures room { 4 * self.now.cache.now.layout.config.entries ≤ notices.new.room }
+    {
+        let done = act(
+            rt,
+            self.cache,
+            &self.deal.aids.loader,
+            pass,
+            n,
+            line,
+            notices,
+        );
+        notices.empty();
+        match done {
+            Ok(()) => follow(rt, self.cache, self.deal.aids, pass, line, notices),
+            Err(fault) => Err(fault),
+        }
+    }
+
     // Does line n if it is this thread's and the gate lets it through, and drops the entries that
     // left. Leaves another thread's line alone.
     #[tactic(auto, using(crate::proofs::Dealt::own_turn, crate::proofs::Dealt::other_turn))]
@@ -134,7 +195,7 @@ impl<'a, K: TraceKey, B: Books> Turns<'a, K, B> {
         requires n { 1 ≤ n }
         ensures turn { OnOk result (IsTurn (is_turn self.now.deal.now.threads self.now.t n)
             (G.answers gate.now n true)
-            (HasActed (keys_by K.eq K.word K.read K.shown) self.now.deal.now.loader.now.options
+            (HasHandled (keys_by K.eq K.word K.read K.shown) self.now.deal.now.aids.now.loader.options
             self.now.cache.now n line.now) pass.old pass.new) }
         ensures err { IfErr result (IsRunStop (λ m. G.answers gate.now m false)) }
         ensures room { 4 * self.now.cache.now.layout.config.entries ≤ notices.new.room }
@@ -145,9 +206,7 @@ impl<'a, K: TraceKey, B: Books> Turns<'a, K, B> {
         if !gate.pass(n) {
             return Err(RunFault::GateShut { n });
         }
-        let done = act(rt, self.cache, self.deal.loader, pass, n, line, notices);
-        notices.empty();
-        match done {
+        match self.handle(rt, pass, n, line, notices) {
             Ok(()) => Ok(()),
             Err(fault) => Err(RunFault::Cache(fault)),
         }
@@ -164,7 +223,7 @@ impl<'a, K: TraceKey, B: Books> Turns<'a, K, B> {
         requires room { 4 * self.now.cache.now.layout.config.entries ≤ notices.old.room }
         ensures turns { OnOk result (AreTurns (is_turn self.now.deal.now.threads self.now.t)
             (λ n. G.answers gate.now n true)
-            (HasActed (keys_by K.eq K.word K.read K.shown) self.now.deal.now.loader.now.options
+            (HasHandled (keys_by K.eq K.word K.read K.shown) self.now.deal.now.aids.now.loader.options
             self.now.cache.now) self.now.deal.now.first self.now.deal.now.lines.now pass.old pass.new) }
         ensures err { IfErr result (IsRunStop (λ n. G.answers gate.now n false)) }
     {
@@ -188,7 +247,7 @@ impl<'a, K: TraceKey, B: Books> Turns<'a, K, B> {
     ) -> Result<(), RunFault>
         ensures turns { OnOk result (AreTurns (is_turn self.now.deal.now.threads self.now.t)
             (λ n. G.answers gate.now n true)
-            (HasActed (keys_by K.eq K.word K.read K.shown) self.now.deal.now.loader.now.options
+            (HasHandled (keys_by K.eq K.word K.read K.shown) self.now.deal.now.aids.now.loader.options
             self.now.cache.now) self.now.deal.now.first self.now.deal.now.lines.now pass.old pass.new) }
         ensures err { IfErr result (IsRunStop (λ n. G.answers gate.now n false)) }
     {
@@ -209,7 +268,7 @@ pub(crate) fn run_thread<K: TraceKey, B: Books, G: Gate, R: Wait>(
     gate: &G,
 ) -> Result<Pass<K, Version<K>, B>, RunFault>
     requires few { cache.now.layout.shards ≤ 4 }
-    ensures made { IsDone (keys_by K.eq K.word K.read K.shown) deal.now.loader.now.options cache.now
+    ensures made { IsDone (keys_by K.eq K.word K.read K.shown) deal.now.aids.now.loader.options cache.now
         (G.answers gate.now) deal.now.first deal.now.lines.now deal.now.threads t result }
 {
     let mut pass = match cache.pass(rt, alloc) {

@@ -45,6 +45,27 @@ fn threads_in_turn_look_each_key_up_once_a_line(rt: HostRuntime) {
     }
 }
 
+// A slide is no look-up.
+#[test]
+fn threads_in_turn_look_each_key_up_once_where_windows_follow(rt: HostRuntime) {
+    let options = Options {
+        shards: 4,
+        entries: 512,
+        turn: 8,
+        workers: 2,
+        adaptive: 1,
+        ..Options::default()
+    };
+    let (text, outcome) = by_turn(&rt, GETS, &options, 8, &Open);
+    same(&rt, "how the run ends", outcome, Ok(()));
+    same(
+        &rt,
+        "how the summary begins",
+        text.as_slice().get(..10),
+        Some(b"lookups 8 ".as_slice()),
+    );
+}
+
 #[test]
 fn a_shut_gate_ends_the_turns(rt: HostRuntime) {
     let (text, outcome) = by_turn(&rt, GETS, &of_four(1), 1, &Before(3));

@@ -8,7 +8,7 @@ use Rattle.wt_turns.proofs.by_turn.passes_of.Goals as goal
 pub returns-in-Ok-clause-asked : goal.returns-in-Ok-clause-asked
 returns-in-Ok-clause-asked g c =
     let keys = keys_by g.K.PartialEq.eq g.K.CacheKey.word g.K.TraceKey.read g.K.TraceKey.shown in
-    let options = c.args.deal.now.loader.now.options in
+    let options = c.args.deal.now.aids.now.loader.options in
     let answers = g.G.Gate.answers c.args.gate.now in
     let deal = c.args.deal.now in
     let done : AreDone keys options c.args.cache.now answers deal.first deal.lines.now deal.threads c.in-Ok-Ok.ran.items = search rules in

@@ -1,5 +1,5 @@
 use Rattle.std.proofs.Common.{◌≡◌, ◌*◌, ◌+◌, ◌≤◌, ℕ, length, true}
-use Rattle.wt_turns.specs.Turns.{AreTurns, HasActed, is_turn}
+use Rattle.wt_turns.specs.Turns.{AreTurns, HasHandled, is_turn}
 use Rattle.wt_shards.specs.Passes.{Seen}
 use Rattle.wt_trace.specs.declared.shard.version.Version.{Version}
 use Rattle.wt_trace.specs.Keys.{keys_by}
@@ -9,8 +9,8 @@ abbrev pub invariant-loop-line : goal.invariant-loop-line
 invariant-loop-line g l =
     let own = is_turn l.self.deal.now.threads l.self.t in
     let passed : ℕ → Type 0 = λ m. g.G.Gate.answers l.gate m true in
-    let acted = HasActed (keys_by g.K.PartialEq.eq g.K.CacheKey.word g.K.TraceKey.read g.K.TraceKey.shown)
-    l.self.deal.now.loader.now.options l.self.cache.now in
+    let acted = HasHandled (keys_by g.K.PartialEq.eq g.K.CacheKey.word g.K.TraceKey.read g.K.TraceKey.shown)
+    l.self.deal.now.aids.now.loader.options l.self.cache.now in
     record {
       turns : (end : Seen g.row.K.Denot (Version g.row.K.Denot))
           → AreTurns own passed acted l.n l.rest l.pass end
