@@ -104,7 +104,8 @@ def adaptive_case(rng):
         else:
             key = at % (entries * 3 // 2)
         lines.append(b"%d %s %d" % (at // 7, rng.choice(letters).encode(), key))
-    return dict(items), b"\n".join(lines) + b"\n"
+    options, trace = dict(items), b"\n".join(lines) + b"\n"
+    return in_turn(rng, options, trace) if rng.random() < 0.3 else (options, trace)
 
 
 def short_case(rng):

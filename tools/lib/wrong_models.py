@@ -124,6 +124,12 @@ class PutsAreLookups(Shard):
         return words
 
 
+class TurnsAreNotFollowed(Shard):
+    def follow(self, moment, key):
+        if not self.s.get("turn"):
+            super().follow(moment, key)
+
+
 class OtherAdviser:
     def __init__(self, s):
         super().__init__(s)
@@ -252,7 +258,7 @@ def with_shard(shard_type):
 
 
 # What is of a letter, or of what a trace makes of a key.
-OF_TRACES = ("NewestLoadIsLanded", "WeightOfTheKey", "KeyZeroDoesNotFail", "PutsAreLookups")
+OF_TRACES = ("NewestLoadIsLanded", "WeightOfTheKey", "KeyZeroDoesNotFail", "PutsAreLookups", "TurnsAreNotFollowed")
 
 
 def wrong_shards():
