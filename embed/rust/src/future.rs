@@ -70,18 +70,21 @@ impl<K, V, E, S> Loading<K, V, E, S> {
 impl<K: Hash + Eq, V, E, S: BuildHasher> Loading<K, V, E, S> {
     /// The key's value; if there is none, that of one load, which all who ask meanwhile share.
     ///
-    /// `load` returns the value and its weight. It is polled by the task that asked first alone; the futures of the others are dropped.
-    /// The value's age counts from the first poll of the call. A due entry is loaded again by the task that asks first, which gets the
-    /// new value, or the old one if that load fails; the others get the old value meanwhile.
+    /// `load` returns the value and its weight. Only the `load` of the task that asked first is polled; those of the others are dropped.
+    /// A hit is ready at the first poll. The value's age counts from that poll. A due entry is loaded again by the task that asks first,
+    /// which gets the new value, or the old one if that load fails; the others get the old value meanwhile.
     ///
-    /// If the task that loads drops its call, or its loader panics, the load has failed without an error. Those who share it ask again:
-    /// one of them runs its own `load`, and the others share that. Each call may be dropped at any time.
+    /// The call may be dropped at any time. If that ends a load, or its loader panics, the load has failed without an error, and those
+    /// who share it ask again: one of them runs its own `load`, and the others share that. The loader's own task gets the panic.
     ///
-    /// Errors, in this order: `Refused` if the cache refuses the look-up, `WaitsForItself` if this call is polled by a loader for which
-    /// the key's load waits, and `Load` if the load failed, for all who shared it. A cache can't know a circle of loads if a loader
-    /// waits for a task that it has spawned. What a loader has polled counts as awaited by it until that is done or dropped.
+    /// Errors, in this order: `Refused` if the cache refuses the look-up; `WaitsForItself` if a loader polls this call, and the key's load
+    /// waits for the load of that loader; `Load` if the load failed, for all who shared it. If a loader waits for a task that it has
+    /// spawned, the cache can't know that. What a loader has polled counts as awaited by it until that is done or dropped.
     ///
-    /// Not promised: that the call ends if the task that loads is neither polled nor dropped.
+    /// Takes the lock of the key's shard, or of a part of it, and holds none while it waits. Expected O(1), and for a load that was shared
+    /// O(tasks that share it).
+    ///
+    /// Not promised: that the call ends if the call that loads is neither polled nor dropped.
     ///
     /// ```
     /// # use rookdresser::{future::Loading, Setup};

@@ -66,13 +66,12 @@ pub(crate) struct Waiting {
 }
 
 impl Waiting {
-    /// Waits for the load from now on, by this thread's own load. Whoever closes a circle is refused.
+    /// Waits for the load from now on, by this thread's own load. Whoever closes a circle is refused, or sees one that was closed since.
     pub(crate) fn go_on(&mut self, load: u64, is_over: &Arc<AtomicBool>) -> Result<(), WaitsForItself> {
         let own = OWN.get();
-        if own == self.by {
-            return Ok(());
+        if own != self.by {
+            self.end();
         }
-        self.end();
         if own == 0 {
             return Ok(());
         }
@@ -80,8 +79,10 @@ impl Waiting {
         if !is_over.load(Ordering::SeqCst) && waits_for(&waiting, load, own) {
             return Err(WaitsForItself);
         }
-        *self = Waiting { number: new_number(), by: own };
-        waiting.insert((own, self.number), Awaited { load, is_over: Some(is_over.clone()) });
+        if self.by == 0 {
+            *self = Waiting { number: new_number(), by: own };
+            waiting.insert((own, self.number), Awaited { load, is_over: Some(is_over.clone()) });
+        }
         Ok(())
     }
 

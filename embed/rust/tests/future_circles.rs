@@ -9,6 +9,7 @@ mod whole;
 use block_on::block_on;
 use common::within_a_minute;
 use rookdresser::{future, GetError, Setup};
+use std::cell::RefCell;
 use std::future::{poll_fn, Future};
 use std::pin::{pin, Pin};
 use std::sync::{Arc, Barrier};
@@ -169,6 +170,28 @@ fn a_wait_that_a_loader_has_given_up_closes_no_circle() {
     assert_eq!((first.ready(), first.ready()), (None, None));
     // The second one waits for the first one now, which waits for it no longer.
     assert_eq!((second.ready(), first.ready(), second.ready()), (None, Some(Ok(Arc::new(7))), Some(Ok(Arc::new(8)))));
+    holds_exactly(&cache);
+}
+
+#[test]
+fn a_circle_that_closes_as_a_call_is_handed_to_another_loader_is_told() {
+    let (cache, gate) = (Cache::open(&SETUP).unwrap(), Gate::default());
+    let handed = RefCell::new(None);
+    let mut first = Task::of(cache.get_with(&1, async {
+        gate.is_open().await;
+        let call: Pin<Box<dyn Future<Output = Got> + '_>> = handed.take().expect("it was handed over");
+        *call.await.unwrap() + 1
+    }));
+    assert_eq!(first.ready(), None);
+    // The second one's loader waits for the first one, which then waits for it.
+    let mut second = Task::of(cache.get_with(&2, async {
+        assert_eq!(cache.get_with(&1, async { 0 }).await, CIRCLE);
+        5
+    }));
+    assert_eq!(second.ready(), None);
+    handed.replace(Some(second.handed_over()));
+    gate.open();
+    assert_eq!(first.ready(), Some(Ok(Arc::new(6))));
     holds_exactly(&cache);
 }
 

@@ -53,6 +53,10 @@ impl<'a, T> Task<'a, T> {
         }
     }
 
+    pub fn handed_over(self) -> Pin<Box<dyn Future<Output = T> + 'a>> {
+        self.future
+    }
+
     pub fn wakes(&self) -> u64 {
         self.wakes.count()
     }
