@@ -52,6 +52,13 @@ impl<K, V, E> Shard<K, V, E> {
         }
     }
 
+    /// Whether a look of the row would find this very value.
+    pub(crate) fn holds(&mut self, at: u32, value: &Arc<V>, now: u64) -> bool {
+        let row = self.store.table.row(at);
+        let is_it = row.value.as_ref().is_some_and(|there| Arc::ptr_eq(there, value));
+        is_it && self.store.library.peek(row.number, now).is_some()
+    }
+
     /// A hit of the row beside others, if it is sure to be one.
     #[inline(always)]
     pub(crate) fn hit(&self, row: &Row<K, Arc<V>>, now: u64, hits: &mut Hits) -> Option<Arc<V>> {
