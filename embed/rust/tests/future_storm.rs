@@ -7,7 +7,7 @@ mod random;
 mod tasks;
 #[path = "common/whole.rs"]
 mod whole;
-use common::within_a_minute;
+use common::within;
 use random::Random;
 use rookdresser::{future, Fault, GetError, Setup};
 use std::future::{poll_fn, Future};
@@ -15,6 +15,7 @@ use std::panic::{catch_unwind, resume_unwind, AssertUnwindSafe};
 use std::pin::{pin, Pin};
 use std::sync::atomic::{AtomicU64, Ordering::SeqCst};
 use std::task::Poll;
+use std::time::Duration;
 use tasks::{run, yields, Spawned};
 use whole::holds_exactly;
 
@@ -151,7 +152,7 @@ async fn calls(cache: &Cache, source: &Source, task: u64) {
 
 #[test]
 fn no_answer_of_a_million_calls_is_stale_and_nothing_is_kept_for_good() {
-    within_a_minute(|| {
+    within(Duration::from_secs(600), || {
         let setup = Setup { flights: 24, bound: 2000, after_write: 300, refresh: 60, ..Setup::of(300) };
         let cache = Cache::from(rookdresser::Loading::sharded(2, &setup).unwrap());
         let source = Source::new();
