@@ -66,7 +66,7 @@ class TooHeavy(Refused, ValueError):
     ...     Cache(entries=10, bound=5, weigh=lambda key, value: value).put("a", 6)
     ... except TooHeavy as refused:
     ...     print(refused)
-    the value is heavier than bound
+    the value is heavier than the bound
     """
 
     fault: int = 3
@@ -90,7 +90,7 @@ class StepsSpent(Refused):
     """The shard has made 2^60 calls, after which it makes no more. At a thousand million a second that takes 36 years.
 
     >>> Refused(5)
-    StepsSpent('2^60 calls were made')
+    StepsSpent('2^60 steps were made')
     """
 
     fault: int = 5
