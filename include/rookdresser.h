@@ -289,6 +289,18 @@ uint64_t rd_land_keep_name_with_notice(rd_cache *cache, uint64_t id, const rd_na
 uint64_t rd_drop_name_with_notice(rd_cache *cache, const rd_name *key, uint64_t now, rd_answer *answer,
                                   rd_name_notice *first);
 
+/* Stores with a life: the entry expires `life` ms after it was written, or earlier by the setup's durations; a life of 0 is
+ * none. The next store of the key gives its entry another life, or none. A load's life begins as it lands. Each writes the
+ * first notice as the calls above do. The longest life is 49 days. */
+uint64_t rd_put_for(rd_cache *cache, uint64_t key, rd_token value, uint32_t life, uint64_t now, rd_answer *answer,
+                    rd_notice *first);
+uint64_t rd_land_for(rd_cache *cache, uint64_t id, uint64_t key, rd_token value, uint32_t life, uint64_t now,
+                     rd_answer *answer, rd_notice *first);
+uint64_t rd_put_name_for(rd_cache *cache, const rd_name *key, rd_token value, uint32_t life, uint64_t now,
+                         rd_answer *answer, rd_name_notice *first);
+uint64_t rd_land_name_for(rd_cache *cache, uint64_t id, const rd_name *key, rd_token value, uint32_t life, uint64_t now,
+                          rd_answer *answer, rd_name_notice *first);
+
 /* Makes n look-ups, one after another, as rd_look does. It stops after a look-up that is refused, and returns its fault. It
  * also stops after a look-up that has a notice, since rd_get_notice reads those of the latest look-up alone. made is set to
  * how many it made, the latest one included; it doesn't write the answers of the others. looks isn't null even if n is 0.

@@ -78,7 +78,12 @@ uint64_t rd_shared_clear(rd_caller *caller, uint64_t now, rd_answer *answer);
 uint64_t rd_shared_clean(rd_caller *caller, uint64_t now, rd_answer *answer);
 uint64_t rd_shared_slide(rd_caller *caller, bool wider, uint64_t now, rd_answer *answer);
 
-/* The eight calls with a key, for a cache of names. Each does the same as its namesake for numbers, or writes nothing and
+/* Stores with a life, as rd_put_for and rd_land_for have it: the entry expires `life` ms after it was written; 0 is none. */
+uint64_t rd_shared_put_for(rd_caller *caller, uint64_t key, rd_token value, uint32_t life, uint64_t now, rd_answer *answer);
+uint64_t rd_shared_land_for(rd_caller *caller, uint64_t id, uint64_t key, rd_token value, uint32_t life, uint64_t now,
+                            rd_answer *answer);
+
+/* The ten calls with a key, for a cache of names. Each does the same as its namesake for numbers, or writes nothing and
  * returns RD_NAME_TOO_LONG, RD_CLOSED, or RD_OTHER_KEYS, in this order. */
 uint64_t rd_shared_look_name(rd_caller *caller, const rd_name *key, uint64_t now, rd_answer *answer);
 uint64_t rd_shared_seek_name(rd_caller *caller, const rd_name *key, uint64_t now, rd_answer *answer);
@@ -89,6 +94,10 @@ uint64_t rd_shared_land_failed_name(rd_caller *caller, uint64_t id, const rd_nam
 uint64_t rd_shared_put_name(rd_caller *caller, const rd_name *key, rd_token value, uint64_t now, rd_answer *answer);
 uint64_t rd_shared_drop_name(rd_caller *caller, const rd_name *key, uint64_t now, rd_answer *answer);
 uint64_t rd_shared_forget_name(rd_caller *caller, const rd_name *key, uint64_t now, rd_answer *answer);
+uint64_t rd_shared_put_name_for(rd_caller *caller, const rd_name *key, rd_token value, uint32_t life, uint64_t now,
+                                rd_answer *answer);
+uint64_t rd_shared_land_name_for(rd_caller *caller, uint64_t id, const rd_name *key, rd_token value, uint32_t life,
+                                 uint64_t now, rd_answer *answer);
 
 /* Writes notice i, from 0, of this caller's latest call that wasn't busy. RD_NO_SUCH_NOTICE if there is none. */
 uint64_t rd_shared_get_notice(rd_caller *caller, uint64_t i, rd_notice *notice);
@@ -122,6 +131,8 @@ static inline uint64_t rd_leave(rd_caller *caller, uint64_t fault) {
 #define rd_shared_land_loose(c, id, key, now, a) RD_CHECKED(c, rd_shared_land_loose(c, id, key, now, a))
 #define rd_shared_land_failed(c, id, key, now, a) RD_CHECKED(c, rd_shared_land_failed(c, id, key, now, a))
 #define rd_shared_put(c, key, value, now, a) RD_CHECKED(c, rd_shared_put(c, key, value, now, a))
+#define rd_shared_put_for(c, key, value, life, now, a) RD_CHECKED(c, rd_shared_put_for(c, key, value, life, now, a))
+#define rd_shared_land_for(c, id, key, value, life, now, a) RD_CHECKED(c, rd_shared_land_for(c, id, key, value, life, now, a))
 #define rd_shared_drop_key(c, key, now, a) RD_CHECKED(c, rd_shared_drop_key(c, key, now, a))
 #define rd_shared_forget(c, key, now, a) RD_CHECKED(c, rd_shared_forget(c, key, now, a))
 #define rd_shared_look_name(c, key, now, a) RD_CHECKED(c, rd_shared_look_name(c, key, now, a))
@@ -130,6 +141,10 @@ static inline uint64_t rd_leave(rd_caller *caller, uint64_t fault) {
 #define rd_shared_land_loose_name(c, id, key, now, a) RD_CHECKED(c, rd_shared_land_loose_name(c, id, key, now, a))
 #define rd_shared_land_failed_name(c, id, key, now, a) RD_CHECKED(c, rd_shared_land_failed_name(c, id, key, now, a))
 #define rd_shared_put_name(c, key, value, now, a) RD_CHECKED(c, rd_shared_put_name(c, key, value, now, a))
+#define rd_shared_put_name_for(c, key, value, life, now, a) \
+    RD_CHECKED(c, rd_shared_put_name_for(c, key, value, life, now, a))
+#define rd_shared_land_name_for(c, id, key, value, life, now, a) \
+    RD_CHECKED(c, rd_shared_land_name_for(c, id, key, value, life, now, a))
 #define rd_shared_drop_name(c, key, now, a) RD_CHECKED(c, rd_shared_drop_name(c, key, now, a))
 #define rd_shared_forget_name(c, key, now, a) RD_CHECKED(c, rd_shared_forget_name(c, key, now, a))
 #define rd_shared_clear(c, now, a) RD_CHECKED(c, rd_shared_clear(c, now, a))

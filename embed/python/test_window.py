@@ -84,7 +84,7 @@ class Ruled:
         return int(words[1]) if words[0] == "lead" else None
 
     def land(self, number, load):
-        self.follow(number).call_land(self.moment, as_key(number), load, "keep", (0, 1))
+        self.follow(number).call_land(self.moment, as_key(number), load, "keep", (0, 1, 0))
 
     def get(self, number):
         load = self.seek(number)
@@ -99,7 +99,7 @@ class Ruled:
                 self.land(number, load)
 
     def put(self, number):
-        self.follow(number).call_put(self.moment, as_key(number), (0, 1))
+        self.follow(number).call_put(self.moment, as_key(number), (0, 1, 0))
 
     def drop(self, number):
         return self.shard_of(number).call_drop(self.moment, as_key(number)) == "dropped"

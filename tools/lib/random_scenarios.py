@@ -40,15 +40,17 @@ class Maker:
         return self.moment
 
     def stored(self):
-        """A new value and its weight, mostly one that fits."""
+        """A new value and its weight, mostly one that fits, and now and then its life, as words."""
         self.version += 1
         most = min(self.settings["weight"], MOST_WEIGHT)
-        return self.version, self.rng.choice((0, 1, 1, self.rng.randint(0, min(most, 12)), self.rng.randint(0, most), most + 1))
+        weight = self.rng.choice((0, 1, 1, self.rng.randint(0, min(most, 12)), self.rng.randint(0, most), most + 1))
+        life = " %d" % self.rng.randint(0, 30) if self.rng.random() < 0.3 else ""
+        return "%d %d%s" % (self.version, weight, life)
 
     def landing(self):
         """The load that is landed, of those that were ever opened, most often the newest, and how."""
         number, key = self.opened[-1] if self.rng.random() < 0.6 else self.rng.choice(self.opened)
-        how = self.rng.choice(("keep %d %d" % self.stored(), "keep %d %d" % self.stored(), "loose", "failed"))
+        how = self.rng.choice(("keep " + self.stored(), "keep " + self.stored(), "loose", "failed"))
         return "land %d %d %s" % (key, number, how)
 
     def call(self):
@@ -61,10 +63,10 @@ class Maker:
         if word == "land":
             return self.landing() if self.opened else "seek %d" % key
         if word == "put":
-            return "put %d %d %d" % (key, *self.stored())
+            return "put %d %s" % (key, self.stored())
         if word == "get":
             failed = self.rng.random() < 0.2
-            return "get %d failed %d" % (key, self.rng.getrandbits(32)) if failed else "get %d %d %d" % (key, *self.stored())
+            return "get %d failed %d" % (key, self.rng.getrandbits(32)) if failed else "get %d %s" % (key, self.stored())
         return "%s %d" % (word, key)
 
     def line(self):

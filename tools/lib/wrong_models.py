@@ -109,6 +109,27 @@ class SlideGivesToTheEnd(Shard):
         return moved
 
 
+class LifeFromTheLastUse(Shard):
+    def is_expired(self, entry):
+        spans = (entry.written, self.s["write"]), (entry.used, self.s["access"]), (entry.used, entry.life)
+        return any(self.is_past(since, span) for since, span in spans)
+
+
+class LifeIsKeptOver(Shard):
+    def store(self, key, version, weight):
+        replaced = self.entries.get(key)
+        life = replaced and replaced.life
+        super().store(key, version, weight)
+        if replaced is not None:
+            replaced.life = life
+
+
+class LifeEndsALittleLater(Shard):
+    def is_expired(self, entry):
+        spans = (entry.written, self.s["write"]), (entry.used, self.s["access"]), (entry.written, entry.life and entry.life + 1)
+        return any(self.is_past(since, span) for since, span in spans)
+
+
 class SlideDropsAnEntry(Shard):
     def slide(self, wider):
         moved = super().slide(wider)
@@ -271,7 +292,8 @@ def of_calls():
 
 
 # No trace shows these.
-OF_SCENARIOS = ("TrimMayTakeTheStored", "SlideForgetsProtected", "SlideGivesToTheEnd", "SlideDropsAnEntry")
+OF_SCENARIOS = ("TrimMayTakeTheStored", "SlideForgetsProtected", "SlideGivesToTheEnd", "SlideDropsAnEntry", "LifeFromTheLastUse",
+                "LifeIsKeptOver", "LifeEndsALittleLater")
 
 
 def all_wrong():

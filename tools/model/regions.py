@@ -6,8 +6,8 @@ REGIONS = ("window", "probation", "protected")
 
 
 class Entry:
-    def __init__(self, key, version, weight, moment):
-        self.key, self.version, self.weight = key, version, weight
+    def __init__(self, key, version, weight, life, moment):
+        self.key, self.version, self.weight, self.life = key, version, weight, life
         self.written = self.used = moment
 
 
@@ -73,12 +73,12 @@ class Regions:
         return duration is not None and self.latest - since >= duration
 
     def is_expired(self, entry):
-        return self.is_past(entry.written, self.s["write"]) or self.is_past(entry.used, self.s["access"])
+        return self.is_past(entry.written, self.s["write"]) or self.is_past(entry.used, self.s["access"]) or self.is_past(entry.written, entry.life)
 
     def expires_at(self, entry):
         """The moment from which the entry is expired, if nobody uses it; None is never."""
-        ends = [since + self.s[name] for since, name in ((entry.written, "write"), (entry.used, "access")) if self.s[name] is not None]
-        return min(ends, default=None)
+        spans = (entry.written, self.s["write"]), (entry.used, self.s["access"]), (entry.written, entry.life)
+        return min((since + span for since, span in spans if span is not None), default=None)
 
     def is_due(self, entry):
         return self.is_past(entry.written, self.s["refresh"])
@@ -150,17 +150,21 @@ class Regions:
             self.note("trimmed", region[-1].key, self.region_of(region[-1]), self.weight, self.s["weight"])
             self.tell(region.pop(), "size")
 
+    def life_of(self, _key):
+        """The own life of the value that is stored for the key, in milliseconds, or None. A trace gives none."""
+        return None
+
     def store(self, key, version, weight):
         entry = self.entries.get(key)
         if entry is not None:
             self.note("replaces", key, version)
             self.tell(entry, "replaced")
             self.weight += weight - entry.weight
-            entry.weight = weight
+            entry.weight, entry.life = weight, self.life_of(key)
             entry.version, entry.written, entry.used = version, self.latest, self.latest
             self.touch(entry)
         else:
-            entry = self.entries[key] = Entry(key, version, weight, self.latest)
+            entry = self.entries[key] = Entry(key, version, weight, self.life_of(key), self.latest)
             self.weight += weight
             self.window.insert(0, entry)
             self.note("enters", key, version)

@@ -21,7 +21,8 @@ def as_key(number):
 
 
 class Played(Shard):
-    """One cache whose calls are handed their values: `given` is what the present call stores, or None if the load fails."""
+    """One cache whose calls are handed their values: `given` is what the present call stores, as its number, weight and life, or None if the
+    load fails."""
 
     def __init__(self, s):
         super().__init__(s)
@@ -33,6 +34,9 @@ class Played(Shard):
 
     def weight_of(self, key):
         return self.given[1]
+
+    def life_of(self, key):
+        return self.given[2] or None
 
     def fails(self, key):
         return self.given is None
@@ -86,7 +90,7 @@ class Played(Shard):
         self.step(self.land(opened, key, self.given and self.given[0]))
         if words:
             return words.replace("hit", "refreshed"), at
-        return ("fault %d %d" % (FAILED, given[0]) if self.given is None else "loaded %d %d" % self.given), at
+        return ("fault %d %d" % (FAILED, given[0]) if self.given is None else "loaded %d %d" % self.given[:2]), at
 
     def call_land(self, moment, key, number, word, given):
         """`given` is kept, if `word` says so; a load that is landed loose brings what is too heavy to keep."""
@@ -95,7 +99,7 @@ class Played(Shard):
         if load is None:
             self.drop_own_expired(key)
             return self.step("gone")
-        self.given = {"keep": given, "loose": (0, self.s["weight"] + 1), "failed": None}[word]
+        self.given = {"keep": given, "loose": (0, self.s["weight"] + 1, 0), "failed": None}[word]
         landed = self.land(load, key, self.given and self.given[0]).split()[0]
         return self.step("%s %d" % ({"land": "kept", "loose": "loose", "fail": "failed"}[landed], load.sharers))
 
@@ -139,6 +143,11 @@ class Scenario:
                 self.lines.append(words)
 
 
+def value_of(words):
+    """A value's number, weight, and life, which is 0 for none."""
+    return int(words[0]), int(words[1]), int(words[2]) if words[2:] else 0
+
+
 def arguments(words):
     """What a call is handed beside its moment: the key, and what is stored or how a load ends."""
     if len(words) == 2:
@@ -148,11 +157,11 @@ def arguments(words):
         return key, words[3]
     if words[1] == "get":
         failed = words[3] == "failed"
-        return key, (int(words[4]), None if failed else (int(words[3]), int(words[4])))
+        return key, (int(words[4]), None if failed else value_of(words[3:]))
     if words[1] == "put":
-        return key, (int(words[3]), int(words[4]))
+        return key, value_of(words[3:])
     if words[1] == "land":
-        return key, int(words[3]), words[4], tuple(int(number) for number in words[5:])
+        return key, int(words[3]), words[4], value_of(words[5:]) if words[5:] else None
     return (key,)
 
 

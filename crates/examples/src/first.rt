@@ -1,7 +1,7 @@
 // A first cache: pages of a site are put, looked up, and some leave.
 use std::alloc::Global;
 use std::io::Print;
-use wt_core::{Config, Core, Notices, Reply, Weighs};
+use wt_core::{Config, Core, Measure, Notices, Reply, Weighs};
 use wt_keys::{NoMemory, Share};
 
 /// A page, by how often it was seen.
@@ -17,10 +17,10 @@ impl Share for Page {
 }
 
 impl Weighs for Page {
-    ghost weight = { λ _. 1 };
+    ghost measure = { λ _. record { weight = 1; life = 0 } };
 
-    fn weight(&self) -> u32 {
-        1
+    fn measure(&self) -> Measure {
+        Measure::lasting(1)
     }
 }
 

@@ -1,7 +1,7 @@
 // An entry that is due is served at once, and loaded again beside it.
 use std::alloc::Global;
 use std::io::Print;
-use wt_core::{Config, Core, Land, Notices, Reply, Weighs};
+use wt_core::{Config, Core, Land, Measure, Notices, Reply, Weighs};
 use wt_keys::{NoMemory, Share};
 
 /// A rate, and when it was asked for.
@@ -17,10 +17,10 @@ impl Share for Rate {
 }
 
 impl Weighs for Rate {
-    ghost weight = { λ _. 1 };
+    ghost measure = { λ _. record { weight = 1; life = 0 } };
 
-    fn weight(&self) -> u32 {
-        1
+    fn measure(&self) -> Measure {
+        Measure::lasting(1)
     }
 }
 

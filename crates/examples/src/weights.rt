@@ -1,7 +1,7 @@
 // Entries that weigh what they take, and what leaves for them.
 use std::alloc::Global;
 use std::io::Print;
-use wt_core::{Config, Core, Notices, Weighs};
+use wt_core::{Config, Core, Measure, Notices, Weighs};
 use wt_keys::{Fault, NoMemory, Share};
 
 /// A picture, by its size in kilobytes.
@@ -17,10 +17,10 @@ impl Share for Picture {
 }
 
 impl Weighs for Picture {
-    ghost weight = { λ p. p.kilobytes };
+    ghost measure = { λ p. record { weight = p.kilobytes; life = 0 } };
 
-    fn weight(&self) -> u32 {
-        self.kilobytes
+    fn measure(&self) -> Measure {
+        Measure::lasting(self.kilobytes)
     }
 }
 

@@ -4,7 +4,8 @@ use Rattle.wt_sketch.specs.Sketch.{Counters}
 use Rattle.wt_regions.specs.declared.caps.Caps.{Caps}
 use Rattle.wt_regions.specs.declared.touch.Found.{Found}
 use Rattle.wt_regions.specs.declared.touch.Found.TheVariants as found
-use Rattle.wt_regions.specs.Lists.{Lists, found_at}
+use Rattle.wt_regions.specs.declared.weighs.Measure.{Measure}
+use Rattle.wt_regions.specs.Lists.{Lists, found_at, lasting}
 use Rattle.wt_regions.specs.Touch.{looked_at}
 use Rattle.wt_regions.specs.Moves.{storing}
 use Rattle.wt_regions.specs.Notices.{NoticeList}
@@ -16,9 +17,9 @@ use Rattle.wt_adviser.specs.declared.share.Share.TheVariants.{Hundredth, Tenth, 
 abbrev pub mark : Mark
 mark = record {}
 
--- a mark weighs nothing
-abbrev pub mark_weight : Mark → ℕ
-mark_weight m = 0
+-- a mark weighs nothing, and has no life of its own
+abbrev pub mark_measure : Mark → Measure
+mark_measure m = lasting 0
 
 -- a share in hundredths
 abbrev pub hundredths : Share → ℕ
@@ -43,7 +44,7 @@ module _ {K : Type 0} (eq : K → K → Bool) (word : K → ℕ) (s : Counters) 
   -- a hit is used; what isn't there is stored
   abbrev pub looked_by : Found Mark → Lists K Mark → Lists K Mark
   looked_by (found.Hit m) r = looked_at eq k 0 r
-  looked_by f r = (storing word s k eq mark_weight mark 0 0 r).0
+  looked_by f r = (storing word s k eq mark_measure mark 0 0 r).0
 
   -- a small cache after a look-up of the key, which is stored if it isn't there
   abbrev pub looked : Lists K Mark → Lists K Mark

@@ -25,7 +25,7 @@ fn slide_towards<K: CacheKey, V: Share + Weighs>(
     wanted: u32,
     now: u64,
 ) -> Result<(), NoMemory>
-    ensures state { OnOk result (core.new ≡ slid_towards K.eq K.word V.weight wanted now core.old) }
+    ensures state { OnOk result (core.new ≡ slid_towards K.eq K.word V.measure wanted now core.old) }
     ensures same { KeepsAllButWindow core.old.regions.caps core.new.regions.caps }
     ensures err { OnErr result (core.new ≡ core.old) }
 {
@@ -55,11 +55,11 @@ pub fn follow<K: CacheKey, V: Share + Weighs>(
 ) -> Result<(), NoMemory>
     ensures advice { OnOk result (adviser.new ≡ saw K.eq K.word key adviser.old) }
     ensures state { OnOk result (core.new
-        ≡ slid_by K.eq K.word V.weight 4 (wanted adviser.new) now core.old) }
+        ≡ slid_by K.eq K.word V.measure 4 (wanted adviser.new) now core.old) }
     // Whatever was refused.
     ensures part_advice { (seen : Seen) × (adviser.new ≡ saw_by K.eq K.word seen key adviser.old) }
     ensures part_state { (slides : ℕ) × (slides ≤ 4) × (core.new
-        ≡ slid_by K.eq K.word V.weight slides (wanted adviser.new) now core.old) }
+        ≡ slid_by K.eq K.word V.measure slides (wanted adviser.new) now core.old) }
     ensures same { KeepsAllButWindow core.old.regions.caps core.new.regions.caps }
 {
     let seen = adviser.saw_by(key);

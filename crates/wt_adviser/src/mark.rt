@@ -2,7 +2,7 @@
 ghost use Rattle.std.specs.Prelude.{◌≡◌, IfOk, IsOk, true};
 
 use wt_keys::{NoMemory, Share};
-use wt_regions::Weighs;
+use wt_regions::{Measure, Weighs};
 
 /// The empty value of a small cache.
 #[derive(Clone, Copy, Debug, PartialEq, Eq)]
@@ -26,11 +26,11 @@ impl Share for Mark {
 
 /// A mark weighs nothing, so that a small cache is bounded by its entries alone.
 impl Weighs for Mark {
-    ghost use Rattle.wt_adviser.specs.Small.{mark_weight};
+    ghost use Rattle.wt_adviser.specs.Small.{mark_measure};
 
-    ghost weight = { mark_weight };
+    ghost measure = { mark_measure };
 
-    fn weight(&self) -> u32 {
-        0
+    fn measure(&self) -> Measure {
+        Measure::lasting(0)
     }
 }

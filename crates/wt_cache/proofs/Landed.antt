@@ -17,6 +17,7 @@ use Rattle.wt_shards.specs.declared.done.Done.{Done}
 use Rattle.wt_history.proofs.Fronts.{prefix_trans}
 use Rattle.wt_keys.specs.declared.fault.Fault.{Fault}
 use Rattle.wt_flights.specs.Outcomes.{Leading}
+use Rattle.wt_regions.specs.declared.weighs.Measure.{Measure}
 use Rattle.wt_regions.specs.Notices.{NoticeList}
 use Rattle.wt_core.specs.declared.calls.Call.{Call}
 use Rattle.wt_core.specs.declared.calls.Call.TheVariants.{Land}
@@ -27,15 +28,15 @@ use Rattle.wt_shards.proofs.SeenMore.{made-earlier, made-grows, refused-earlier,
 use Rattle.wt_cache.specs.Loads.{IsLandCall}
 
 -- a landing is no hit
-landing-no_hit : {K V : Type 0} (eq : K → K → Bool) (word : K → ℕ) (weight : V → ℕ)
-    (s : State K V) (id : ℕ) (k : K) (what : Landing V) (now : ℕ) → is_hit (step eq word weight s (Land id k what now)).reply ≡ false
-landing-no_hit {K} {V} eq word weight s id k what now = at_row (row_of eq k id s.flights)
+landing-no_hit : {K V : Type 0} (eq : K → K → Bool) (word : K → ℕ) (measure : V → Measure)
+    (s : State K V) (id : ℕ) (k : K) (what : Landing V) (now : ℕ) → is_hit (step eq word measure s (Land id k what now)).reply ≡ false
+landing-no_hit {K} {V} eq word measure s id k what now = at_row (row_of eq k id s.flights)
   where
-    at_kept : (what : Landing V) (row : Row K) → is_hit (landing eq word weight k row what
+    at_kept : (what : Landing V) (row : Row K) → is_hit (landing eq word measure k row what
         (with_flights (landed id s.flights) (stepped now s))).reply ≡ false
-    at_kept (land.Keep v) row = elim (is_kept weight row v (stepped now s)) as
+    at_kept (land.Keep v) row = elim (is_kept measure row v (stepped now s)) as
         (λ b. is_hit (cond b (made (with_load (with_flights (landed id s.flights) (stepped now s)))
-        (storing eq word weight k v (with_flights (landed id s.flights) (stepped now s))) (Kept row.sharers))
+        (storing eq word measure k v (with_flights (landed id s.flights) (stepped now s))) (Kept row.sharers))
         (made (with_load (with_flights (landed id s.flights) (stepped now s)))
         (own_expired eq k (with_flights (landed id s.flights) (stepped now s))) (Loose row.sharers))).reply ≡ false) [
           | true ↦ refl
@@ -44,7 +45,7 @@ landing-no_hit {K} {V} eq word weight s id k what now = at_row (row_of eq k id s
     at_kept land.Loose row = refl
     at_kept land.Failed row = refl
 
-    at_row : (o : Option (Row K)) → is_hit (option_map_or (λ row. landing eq word weight k row what
+    at_row : (o : Option (Row K)) → is_hit (option_map_or (λ row. landing eq word measure k row what
         (with_flights (landed id s.flights) (stepped now s))) o (made (stepped now s) (own_expired eq k (stepped now s)) Gone)).reply ≡
         false
     at_row None = refl
@@ -62,8 +63,8 @@ module _ {K V : Type 0} (members : Members K V)
       let h = subst (λ (n : ℕ). IsHomeCall members (home_at members.word lead.key l) (Land lead.id lead.key what n) (λ r. r) old new
       before list (Ok done)) at called in
       let calls : List (Call K V) = front_at home old ++ h.step.placed.between in
-      let miss : is_hit done.reply ≡ false = ap is_hit h.step.replied ∙ landing-no_hit members.eq members.word members.weight
-      (state_after members.eq members.word members.weight l.config calls) lead.id lead.key what lead.moment in
+      let miss : is_hit done.reply ≡ false = ap is_hit h.step.replied ∙ landing-no_hit members.eq members.word members.measure
+      (state_after members.eq members.word members.measure l.config calls) lead.id lead.key what lead.moment in
       subst (λ (x : Layout). IsLandCall members x lead what old new before list (Ok tt)) same (record {
         moved = h.moved ∙ ap (λ b. with_step home b old.counted) miss;
         step = record { reply = done.reply; number = done.step; made = h.step };

@@ -27,9 +27,9 @@ pub record IsPutCall {K V : Type 0} (members : Members K V) (l : Layout) (key : 
   -- the call at the key's shard
   pub made : IsHomeCall members (home_at members.word key l) (Put key value now) (λ _. Stored) old new before list result
   -- a value above the bound is refused, with its weight and the bound
-  pub heavy : l.config.bound < members.weight value → result ≡ Err (TooHeavy (members.weight value) l.config.bound)
+  pub heavy : l.config.bound < (members.measure value).weight → result ≡ Err (TooHeavy (members.measure value).weight l.config.bound)
   -- no other value is too heavy
-  pub light : members.weight value ≤ l.config.bound → IfErr result (λ f. is_step_fault f ≡ true)
+  pub light : (members.measure value).weight ≤ l.config.bound → IfErr result (λ f. is_step_fault f ≡ true)
 
 -- what a caller's call promises that goes to the shard of a key: that call, with its pass and with its list, which is emptied first
 pub record IsLentCall {K V R : Type 0} (members : Members K V) (key : K) (c : Call K V)

@@ -1,7 +1,7 @@
 // A value that knows its key.
 ghost use Rattle.std.specs.Prelude.{◌≡◌, IfOk, IsOk, true};
 
-use wt_core::Weighs;
+use wt_core::{Measure, Weighs};
 use wt_keys::{Answers, CacheKey, NoMemory, Share};
 
 /// A value beside the key that it stands for, so that it is returned for no other key. It weighs 1.
@@ -34,10 +34,12 @@ impl<K: CacheKey, V: Copy> Share for Keyed<K, V> {
 
 /// Each weighs 1, so a bound of weights is one of entries.
 impl<K, V> Weighs for Keyed<K, V> {
-    ghost weight = { λ kept. 1 };
+    ghost use Rattle.wt_regions.specs.Lists.{lasting};
 
-    fn weight(&self) -> u32 {
-        1
+    ghost measure = { λ kept. lasting 1 };
+
+    fn measure(&self) -> Measure {
+        Measure::lasting(1)
     }
 }
 

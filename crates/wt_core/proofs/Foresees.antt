@@ -3,6 +3,7 @@ use Rattle.std.proofs.Common.{ℕ, Bool, true, false, cond, Option, Some, None, 
 use Rattle.std.specs.Option.{option_map_or}
 use Rattle.wt_regions.specs.declared.touch.Found.{Found}
 use Rattle.wt_regions.specs.declared.touch.Found.TheVariants as found
+use Rattle.wt_regions.specs.declared.weighs.Measure.{Measure}
 use Rattle.wt_flights.specs.Rows.{current_of}
 use Rattle.wt_core.specs.declared.calls.Reply.{Reply}
 use Rattle.wt_core.specs.declared.calls.Reply.TheVariants.{Hit, HitLead, Join, Lead}
@@ -30,5 +31,5 @@ module _ {K V : Type 0} (eq : K → K → Bool) (k : K) (s : State K V) where
   seek-met found.Absent = miss-met (current_of eq k s.flights)
   seek-met found.Expired = miss-met (current_of eq k s.flights)
 
-pub foresees : {K V : Type 0} (eq : K → K → Bool) (word : K → ℕ) (weight : V → ℕ) (s : State K V) → ForeseesSeek eq word weight s
-foresees eq word weight s k now = seek-met eq k (stepped now s) (found_in eq k (stepped now s))
+pub foresees : {K V : Type 0} (eq : K → K → Bool) (word : K → ℕ) (measure : V → Measure) (s : State K V) → ForeseesSeek eq word measure s
+foresees eq word measure s k now = seek-met eq k (stepped now s) (found_in eq k (stepped now s))

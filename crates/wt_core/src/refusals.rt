@@ -60,8 +60,8 @@ impl<K: CacheKey, V: Share + Weighs> Core<K, V> {
     #[inline]
     pub fn open_met(&self, key: K, now: u64, met: &Foreseen) -> Result<usize, Fault>
         requires { met.now ≡ foreseen_at K.eq key now self.now }
-        ensures allowed { IfOk result (Allows K.eq K.word V.weight (Seek key now) self.now) }
-        ensures refusal { IfErr result (Forbids K.eq K.word V.weight (Seek key now) self.now) }
+        ensures allowed { IfOk result (Allows K.eq K.word V.measure (Seek key now) self.now) }
+        ensures refusal { IfErr result (Forbids K.eq K.word V.measure (Seek key now) self.now) }
         ensures faults { IfErr result (λ f. is_seek_fault f ≡ true) }
     {
         // For the prover: shows what holds of the cache, which bounds the open loads.
@@ -89,8 +89,8 @@ impl<K: CacheKey, V: Share + Weighs> Core<K, V> {
     /// unless an attacker chooses the keys (see `Seeded`).
     #[inline(always)]
     pub fn open_after(&self, call: &Call<K, V>) -> Result<usize, Fault>
-        ensures allowed { IfOk result (Allows K.eq K.word V.weight call.now self.now) }
-        ensures refusal { IfErr result (Forbids K.eq K.word V.weight call.now self.now) }
+        ensures allowed { IfOk result (Allows K.eq K.word V.measure call.now self.now) }
+        ensures refusal { IfErr result (Forbids K.eq K.word V.measure call.now self.now) }
         ensures faults { IfErr result (λ f. is_fault_of call.now f ≡ true) }
     {
         // For the prover: shows what holds of the cache, which bounds the open loads.
@@ -105,7 +105,7 @@ impl<K: CacheKey, V: Share + Weighs> Core<K, V> {
                 None => self.open_unless_spent(),
             },
             Call::Put(_, value, _) => {
-                within(value.weight(), self.bound)?;
+                within(value.measure().weight, self.bound)?;
                 self.open_unless_spent()
             }
             _ => self.open_unless_spent(),

@@ -43,17 +43,17 @@ impl<K: CacheKey, V: Share + Weighs> Core<K, V> {
     ) -> Result<Reply<V>, NoMemory>
         requires room { self.old.regions.caps.entries ≤ notices.old.room }
 
-        ensures state { OnOk result (self.new ≡ (taken K.eq K.word V.weight self.old call).state) }
-        ensures answer { IfOk result (λ r. r ≡ (taken K.eq K.word V.weight self.old call).reply) }
+        ensures state { OnOk result (self.new ≡ (taken K.eq K.word V.measure self.old call).state) }
+        ensures answer { IfOk result (λ r. r ≡ (taken K.eq K.word V.measure self.old call).reply) }
         ensures notices { OnOk result (notices.new
-            ≡ appended (taken K.eq K.word V.weight self.old call).notices notices.old) }
+            ≡ appended (taken K.eq K.word V.measure self.old call).notices notices.old) }
 
         ensures same { KeepsAllButWindow self.old.regions.caps self.new.regions.caps }
         ensures still { is_slide call ≡ false → self.new.regions.caps ≡ self.old.regions.caps }
         ensures whole { KeepsWhole notices.old notices.new }
         // The state's refusals don't depend on memory, and some calls take none.
-        ensures refusal { IsSome (refusal_of K.eq K.word V.weight self.old call) → IsOk result }
-        ensures memory { TakesNone V.Share.is_copied K.eq V.weight self.old call → IsOk result }
+        ensures refusal { IsSome (refusal_of K.eq K.word V.measure self.old call) → IsOk result }
+        ensures memory { TakesNone V.Share.is_copied K.eq V.measure self.old call → IsOk result }
         ensures err { OnErr result ((self.new ≡ self.old) × (notices.new ≡ notices.old)) }
     {
         match call {
@@ -96,17 +96,17 @@ pub fn run_calls<K: CacheKey, V: Share + Weighs>(
 ) -> Result<Vec<Reply<V>>, Fault>
     requires room { core.old.regions.caps.entries ≤ notices.old.room + length notices.old.list }
 
-    ensures state { OnOk result (core.new ≡ run K.eq K.word V.weight core.old calls.items) }
+    ensures state { OnOk result (core.new ≡ run K.eq K.word V.measure core.old calls.items) }
     ensures answer { IfOk result (λ made. made.items
-        ≡ replies K.eq K.word V.weight core.old calls.items) }
+        ≡ replies K.eq K.word V.measure core.old calls.items) }
     ensures notices { OnOk result (notices.new
-        ≡ last_notices K.eq K.word V.weight core.old calls.items notices.old) }
+        ≡ last_notices K.eq K.word V.measure core.old calls.items notices.old) }
 
     ensures memory { IfErr result (λ f. f ≡ fault.NoMemory) }
     // Whatever is answered.
     ensures same { KeepsAllButWindow core.old.regions.caps core.new.regions.caps }
     ensures whole { KeepsWhole notices.old notices.new }
-    ensures err { OnErr result (IsPartRun K.eq K.word V.weight calls.items core.old core.new) }
+    ensures err { OnErr result (IsPartRun K.eq K.word V.measure calls.items core.old core.new) }
 {
     let mut made = Vec::with_capacity(alloc, calls.len())?;
     for call in calls {

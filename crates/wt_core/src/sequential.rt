@@ -125,7 +125,7 @@ impl<K: CacheKey, V: Share + Weighs> Core<K, V> {
     pub fn stats(&self) -> Stats
         ensures numbers { result ≡ stats_of self.now }
         // What holds of the cache at all times.
-        ensures lawful { IsLawful K.eq V.weight self.now }
+        ensures lawful { IsLawful K.eq V.measure self.now }
         ensures small { AreSmall result }
     {
         // For the prover: shows `lawful` of the two parts.
@@ -163,7 +163,7 @@ impl<K: CacheKey, V: Share + Weighs> Core<K, V> {
     /// `now` is in milliseconds. Takes memory for that share alone, and none if a share is a copy.
     /// Expected O(1), unless an attacker chooses the keys (see `Seeded`).
     pub fn peek(&self, key: K, now: u64) -> Result<Option<V>, Fault>
-        ensures answer { RepliesBy K.eq K.word V.weight look_reply (Look key now) self.now result }
+        ensures answer { RepliesBy K.eq K.word V.measure look_reply (Look key now) self.now result }
         ensures memory { IfErr result (λ f. f ≡ fault.NoMemory) }
         ensures miss_succeeds { has_at K.eq key (max self.now.latest now) self.now.regions ≡ false
             → IsOk result }

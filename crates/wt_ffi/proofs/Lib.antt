@@ -4,5 +4,6 @@ pub mod AsAdviserBox
 pub mod AsCallerBox
 pub mod Refusals
 pub mod Told
+pub mod Asking
 pub mod LooksMade
 pub mod Outcomes

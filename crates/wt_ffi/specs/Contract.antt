@@ -10,7 +10,7 @@ use Rattle.wt_ffi.specs.declared.setup.Setup.{Setup}
 use Rattle.wt_ffi.specs.declared.steps.look_many.Looked.{Looked}
 use Rattle.wt_ffi.specs.declared.keyless.Keyless.{Keyless}
 use Rattle.wt_ffi.specs.declared.text.Text.{Text}
-use Rattle.wt_ffi.specs.declared.token.Token.{Token}
+use Rattle.wt_ffi.specs.declared.token.Timed.{Timed}
 use Rattle.wt_ffi.specs.Calls as calls
 use Rattle.wt_ffi.specs.Handle.{cache_of, Has, HasNumbers, HasNames, IfOpen, IfNumbers, IsIdleIfClosed, IsIdleIfNames}
 use Rattle.wt_ffi.specs.Looks.{looked_through, AreAnswered}
@@ -23,7 +23,7 @@ use Rattle.wt_ffi.specs.Shows.{Reads}
 use Rattle.wt_ffi.specs.Keyless as keyless
 
 -- a step of an open cache, whose keys are compared by eq and counted by their words
-pub record IsStepMade {K : Type 0} (eq : K → K → Bool) (word : K → ℕ) (call : Call K Token) (old new : Open K) (told : Answer) (result : ℕ) : Type 0 where
+pub record IsStepMade {K : Type 0} (eq : K → K → Bool) (word : K → ℕ) (call : Call K Timed) (old new : Open K) (told : Answer) (result : ℕ) : Type 0 where
   -- the cache after the step; kind 0 stands for a refusal of memory, which changes nothing but the notices
   pub state : new ≡ calls.after eq word told.kind call old
   -- the number that is returned: 0, or the fault's
@@ -36,7 +36,7 @@ pub record IsStepMade {K : Type 0} (eq : K → K → Bool) (word : K → ℕ) (c
   pub memory : calls.IsFree eq call old → 0 < told.kind
 
 -- a call by number: on an open cache of numbers the definition's step, and else nothing, which the number returned tells
-pub record IsCall (call : ℕ → ℕ → Call ℕ Token) (key now : ℕ) (old new : Handle) (before told : Answer) (result : ℕ) : Type 0 where
+pub record IsCall (call : ℕ → ℕ → Call ℕ Timed) (key now : ℕ) (old new : Handle) (before told : Answer) (result : ℕ) : Type 0 where
   -- the cache after the step; kind 0 stands for a refusal of memory, which changes nothing but the notices
   pub state : IfNumbers old (λ c. HasNumbers new (by_number.after told (call key now) c))
   -- the number that is returned: 0, or the fault's
@@ -53,7 +53,7 @@ pub record IsCall (call : ℕ → ℕ → Call ℕ Token) (key now : ℕ) (old n
   pub other : IsIdleIfNames old new before told result
 
 -- a call by name: on an open cache of names the definition's step, and else nothing, which the number returned tells
-pub record IsNameCall (call : List ℕ → ℕ → Call (List ℕ) Token) (key : Text) (now : ℕ) (old new : Handle) (before told : Answer) (result : ℕ) : Type 0 where
+pub record IsNameCall (call : List ℕ → ℕ → Call (List ℕ) Timed) (key : Text) (now : ℕ) (old new : Handle) (before told : Answer) (result : ℕ) : Type 0 where
   -- the cache after the step; kind 0 stands for a refusal of memory, which changes nothing but the notices
   pub state : IfAsked key old (λ a. HasNames new (by_name.after told (call a.name now) a.cache))
   -- the number that is returned: 0, or the fault's

@@ -2,7 +2,7 @@
 use Rattle.std.specs.Prelude.{ℕ}
 use Rattle.wt_core.specs.declared.calls.Call.{Call}
 use Rattle.wt_core.specs.declared.calls.Call.TheVariants as call
-use Rattle.wt_ffi.specs.declared.token.Token.{Token}
+use Rattle.wt_ffi.specs.declared.token.Timed.{Timed}
 use Rattle.wt_ffi.specs.declared.answer.Answer.{Answer}
 use Rattle.wt_ffi.specs.declared.opened.Opened.{Opened}
 use Rattle.wt_ffi.specs.declared.opened.Opened.TheVariants.{Numbers, Names}
@@ -12,7 +12,7 @@ use Rattle.wt_ffi.specs.Numbered as numbers
 use Rattle.wt_ffi.specs.Named as names
 
 -- the call, for keys of either kind
-abbrev pub keyless_call : {K : Type 0} → Keyless → ℕ → Call K Token
+abbrev pub keyless_call : {K : Type 0} → Keyless → ℕ → Call K Timed
 keyless_call Clear now = call.Clear now
 keyless_call Clean now = call.Clean now
 keyless_call (Slide wider) now = call.Slide wider now

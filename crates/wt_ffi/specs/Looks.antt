@@ -3,7 +3,7 @@ use Rattle.std.specs.Prelude.{◌≡◌, ◌<◌, ◌+◌, ℕ, nat_lt, Bool, �
 use Rattle.wt_core.specs.declared.calls.Call.{Call}
 use Rattle.wt_core.specs.declared.calls.Call.TheVariants.{Look}
 use Rattle.wt_ffi.specs.declared.steps.look_many.Looked.{Looked}
-use Rattle.wt_ffi.specs.declared.token.Token.{Token}
+use Rattle.wt_ffi.specs.declared.token.Timed.{Timed}
 use Rattle.wt_ffi.specs.Numbered.{after, number_after, answer_after, IsRefused, IsFree}
 use Rattle.wt_ffi.specs.Open.{Open}
 
@@ -14,7 +14,7 @@ pub record Through : Type 0 where
   pub number : ℕ
 
 -- one look-up of several
-abbrev pub look_of : Looked → Call ℕ Token
+abbrev pub look_of : Looked → Call ℕ Timed
 look_of l = Look l.key l.now
 
 -- whether a look-up with this answer is the last one: it was refused, or told a notice

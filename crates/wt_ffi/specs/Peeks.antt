@@ -2,6 +2,7 @@
 use Rattle.std.specs.Prelude.{◌≡◌, ℕ, nat_eq, Bool, IsNone, IsSome}
 use Rattle.std.specs.Cmp.Lexicographic.{pointwise}
 use Rattle.wt_keys.specs.Hash.{word_of_name}
+use Rattle.wt_ffi.specs.Tokens.{timed_measure}
 use Rattle.wt_core.specs.declared.calls.Call.TheVariants.{Look}
 use Rattle.wt_core.specs.Step.{step}
 use Rattle.wt_ffi.specs.declared.answer.Answer.{Answer}
@@ -15,7 +16,7 @@ use Rattle.wt_ffi.specs.Open.{Open}
 
 -- the answer that a look of the key would have, with no notice
 abbrev pub peek_of : {K : Type 0} → (K → K → Bool) → (K → ℕ) → K → ℕ → Open K → Answer
-peek_of eq word key now c = answer_of (step eq word (λ v. v.weight) c.core (Look key now)).reply 0
+peek_of eq word key now c = answer_of (step eq word timed_measure c.core (Look key now)).reply 0
 
 -- a peek by number: what a look would be answered on an open cache of numbers, and else nothing, which the number returned tells
 pub record IsPeek (key now : ℕ) (old new : Handle) (before told : Answer) (result : ℕ) : Type 0 where

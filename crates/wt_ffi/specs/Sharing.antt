@@ -5,6 +5,7 @@ use Rattle.std.specs.Cmp.Lexicographic.{pointwise}
 use Rattle.std.specs.Option.{option_map}
 use mathlib.Core.List.{IsPrefix}
 use Rattle.wt_keys.specs.Hash.{word_of_name}
+use Rattle.wt_ffi.specs.Tokens.{timed_measure}
 use Rattle.wt_core.specs.declared.calls.Call.{Call}
 use Rattle.wt_core.specs.declared.calls.Reply.{Reply}
 use Rattle.wt_core.specs.State.{config_fault}
@@ -20,7 +21,7 @@ use Rattle.wt_ffi.specs.declared.shared.sharing.Sharing.{Sharing}
 use Rattle.wt_ffi.specs.declared.shared.sharing.Sharing.TheVariants.{Numbers, Names}
 use Rattle.wt_ffi.specs.declared.shows.Left.{Left}
 use Rattle.wt_ffi.specs.declared.text.Text.{Text}
-use Rattle.wt_ffi.specs.declared.token.Token.{Token}
+use Rattle.wt_ffi.specs.declared.token.Timed.{Timed}
 use Rattle.wt_ffi.specs.Calls.{answer_of, number_of, plain}
 use Rattle.wt_ffi.specs.Keyless.{keyless_call}
 use Rattle.wt_ffi.specs.Names.{name_of}
@@ -32,46 +33,46 @@ abbrev pub sharing_of : SharedHandle → Option Sharing
 sharing_of h = h.pointer.sharing
 
 -- the caller of a cache of numbers
-abbrev pub by_number : Option Sharing → Option (View ℕ Token)
+abbrev pub by_number : Option Sharing → Option (View ℕ Timed)
 by_number (Some (Numbers c)) = Some c
 by_number (Some (Names c)) = None
 by_number None = None
 
 -- the caller of a cache of names
-abbrev pub by_name : Option Sharing → Option (View (List ℕ) Token)
+abbrev pub by_name : Option Sharing → Option (View (List ℕ) Timed)
 by_name (Some (Names c)) = Some c
 by_name (Some (Numbers c)) = None
 by_name None = None
 
 -- the caller behind a handle, if it is open and its keys are numbers
-abbrev pub numbers_in : SharedHandle → Option (View ℕ Token)
+abbrev pub numbers_in : SharedHandle → Option (View ℕ Timed)
 numbers_in h = by_number (sharing_of h)
 
 -- the caller behind a handle, if it is open and its keys are names
-abbrev pub names_in : SharedHandle → Option (View (List ℕ) Token)
+abbrev pub names_in : SharedHandle → Option (View (List ℕ) Timed)
 names_in h = by_name (sharing_of h)
 
 -- the answer of a call, by what became of it, and how many notices it left; a call that wasn't made writes none
-abbrev pub answer_told : Result (Reply Token) Unmade → ℕ → Answer → Answer
+abbrev pub answer_told : Result (Reply Timed) Unmade → ℕ → Answer → Answer
 answer_told (Ok reply) left before = answer_of reply left
 answer_told (Err NoMemory) left before = plain 0 1 0
 answer_told (Err Busy) left before = before
 answer_told (Err Lost) left before = before
 
 -- the number that a call returns, by what became of it: that of the reply's fault, or 0
-abbrev pub number_told : Result (Reply Token) Unmade → ℕ
+abbrev pub number_told : Result (Reply Timed) Unmade → ℕ
 number_told (Ok reply) = number_of reply
 number_told (Err NoMemory) = 1
 number_told (Err Busy) = 105
 number_told (Err Lost) = 106
 
 -- what became of a call, whose keys are compared by eq and counted by their words
-pub record HasOutcome {K : Type 0} (eq : K → K → Bool) (word : K → ℕ) (call : Call K Token) (old new : View K Token) (before told : Answer) (result : ℕ) : Type 0 where
+pub record HasOutcome {K : Type 0} (eq : K → K → Bool) (word : K → ℕ) (call : Call K Timed) (old new : View K Timed) (before told : Answer) (result : ℕ) : Type 0 where
   -- the sequential cache's reply, or why the call wasn't made
-  pub outcome : Result (Reply Token) Unmade
+  pub outcome : Result (Reply Timed) Unmade
   -- the call stands in the one history of all callers, behind all that this one had seen, and its reply and notices are those of the
   -- sequential cache there; a busy call changes nothing
-  pub state : Becomes eq word (λ v. v.weight) true outcome call old new
+  pub state : Becomes eq word timed_measure true outcome call old new
   pub answer : told ≡ answer_told outcome (length new.left) before
   pub number : result ≡ number_told outcome
 
@@ -81,7 +82,7 @@ pub record IsIdle (old new : SharedHandle) (before told : Answer) : Type 0 where
   pub answer : told ≡ before
 
 -- a call by number
-pub record IsSharedCall (call : Call ℕ Token) (old new : SharedHandle) (before told : Answer) (result : ℕ) : Type 0 where
+pub record IsSharedCall (call : Call ℕ Timed) (old new : SharedHandle) (before told : Answer) (result : ℕ) : Type 0 where
   pub state : IfSome (numbers_in old) (λ m. IfSome (numbers_in new) (λ n. HasOutcome nat_eq (λ k. k) call m n before told result))
   -- an open handle stays open
   pub still : IsSome (numbers_in old) → IsSome (numbers_in new)
@@ -93,7 +94,7 @@ pub record IsSharedCall (call : Call ℕ Token) (old new : SharedHandle) (before
 -- a name and the caller that is asked for it
 pub record SharedAsked : Type 0 where
   pub name : List ℕ
-  pub caller : View (List ℕ) Token
+  pub caller : View (List ℕ) Timed
 
 -- what a call by name goes to: there is such a name, and an open caller of a cache of names
 abbrev pub shared_asked_for : Option (List ℕ) → Option Sharing → Option SharedAsked
@@ -113,7 +114,7 @@ shared_number_for_none (Some name) None = 100
 shared_number_for_none (Some name) (Some sharing) = 103
 
 -- a call by name
-pub record IsSharedNameCall (call : List ℕ → Call (List ℕ) Token) (key : Text) (old new : SharedHandle) (before told : Answer) (result : ℕ) : Type 0 where
+pub record IsSharedNameCall (call : List ℕ → Call (List ℕ) Timed) (key : Text) (old new : SharedHandle) (before told : Answer) (result : ℕ) : Type 0 where
   pub state : IfSome (shared_asked key old) (λ a. IfSome (names_in new) (λ n. HasOutcome (pointwise nat_eq) word_of_name (call a.name) a.caller n before told result))
   -- an open handle stays open
   pub still : IsSome (names_in old) → IsSome (names_in new)
@@ -121,14 +122,14 @@ pub record IsSharedNameCall (call : List ℕ → Call (List ℕ) Token) (key : T
   pub unasked : IsNone (shared_asked key old) → (result ≡ shared_number_for_none (name_of key) (sharing_of old)) × IsIdle old new before told
 
 -- the first caller of an empty cache: it has seen no call
-pub record IsFirst {K : Type 0} (setup : Setup) (c : View K Token) : Type 0 where
+pub record IsFirst {K : Type 0} (setup : Setup) (c : View K Timed) : Type 0 where
   pub config : c.known.config ≡ config_of setup
   pub seen : c.known.seen.entries ≡ []
   pub number : c.number ≡ 0
   pub left : c.left ≡ []
 
 -- an opening, on a closed handle alone: `found` reads the caller of a cache of its kind of keys
-pub record IsSharedOpening {K : Type 0} (found : SharedHandle → Option (View K Token)) (setup : Setup) (old new : SharedHandle) (result : ℕ) : Type 0 where
+pub record IsSharedOpening {K : Type 0} (found : SharedHandle → Option (View K Timed)) (setup : Setup) (old new : SharedHandle) (result : ℕ) : Type 0 where
   -- if it succeeds the handle has the first caller of an empty cache
   pub state : result ≡ 0 → IfSome (found new) (λ c. IsFirst setup c)
   pub ok : result ≡ 0 → IsSome (found new)
@@ -168,7 +169,7 @@ AreOfOne (Some c) None = Unit {0}
 AreOfOne None theirs = Unit {0}
 
 -- what a caller has seen after it met another one begins with what both had seen
-pub record HasMet {K : Type 0} (mine theirs after : View K Token) : Type 0 where
+pub record HasMet {K : Type 0} (mine theirs after : View K Timed) : Type 0 where
   pub this : IsPrefix mine.known.seen.entries after.known.seen.entries
   pub that : IsPrefix theirs.known.seen.entries after.known.seen.entries
   pub config : after.known.config ≡ mine.known.config

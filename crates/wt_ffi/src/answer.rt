@@ -2,7 +2,7 @@
 ghost use Rattle.std.specs.Prelude.{◌≡◌};
 ghost use Rattle.wt_ffi.specs.Calls.{answer_of, number_of};
 
-use crate::token::Token;
+use crate::token::Timed;
 use wt_core::Reply;
 
 /// The answer of a call: `rd_answer` of the header.
@@ -23,7 +23,7 @@ pub struct Answer {
 
 // The answer that C gets for a reply of the cache.
 #[inline(always)]
-pub(crate) fn answer_of(reply: &Reply<Token>, notices: u64) -> Answer
+pub(crate) fn answer_of(reply: &Reply<Timed>, notices: u64) -> Answer
     ensures { result ≡ answer_of reply.now notices }
 {
     let mut answer = Answer {
@@ -92,7 +92,7 @@ pub(crate) fn answer_of(reply: &Reply<Token>, notices: u64) -> Answer
 
 // The number that a call returns: the fault's, or 0.
 #[inline(always)]
-pub(crate) fn number_of(reply: &Reply<Token>) -> u64
+pub(crate) fn number_of(reply: &Reply<Timed>) -> u64
     ensures { result ≡ number_of reply.now }
 {
     match reply {

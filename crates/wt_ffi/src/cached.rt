@@ -2,7 +2,7 @@
 ghost use Rattle.wt_ffi.specs.Contract.{IsStepMade};
 
 use crate::answer::Answer;
-use crate::token::Token;
+use crate::token::Timed;
 use std::marker::Model;
 use wt_core::{Call, Core};
 use wt_keys::CacheKey;
@@ -11,8 +11,8 @@ use wt_regions::Notices;
 /// A cache, with the notices of its latest call.
 #[derive(Drop)]
 pub struct Cached<K: CacheKey> {
-    pub core: Core<K, Token>,
-    pub notices: Notices<K, Token>,
+    pub core: Core<K, Timed>,
+    pub notices: Notices<K, Timed>,
 }
 
 impl<K: CacheKey> Model for Cached<K> {
@@ -34,7 +34,7 @@ impl<K: CacheKey> Cached<K> {
     // Each kind of call is a function in its own file of `steps`. Inlined, so that a caller that
     // knows the kind leads straight to its function.
     #[inline(always)]
-    pub(crate) fn call(&mut self, call: Call<K, Token>, answer: &mut Answer) -> u64
+    pub(crate) fn call(&mut self, call: Call<K, Timed>, answer: &mut Answer) -> u64
         ensures made { IsStepMade K.eq K.word call self.old self.new answer.new result }
     {
         match call {

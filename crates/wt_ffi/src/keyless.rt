@@ -6,7 +6,7 @@ ghost use Rattle.wt_ffi.specs.Handle.{Has, IfOpen, IsIdleIfClosed};
 use crate::answer::Answer;
 use crate::handle::{CLOSED, Handle};
 use crate::opened::Opened;
-use crate::token::Token;
+use crate::token::Timed;
 use std::alloc::Global;
 use wt_core::Call;
 
@@ -25,7 +25,7 @@ pub enum Keyless {
 }
 
 // The call, for keys of any kind.
-pub(crate) fn call_of<K>(keyless: Keyless, now: u64) -> Call<K, Token>
+pub(crate) fn call_of<K>(keyless: Keyless, now: u64) -> Call<K, Timed>
     ensures { result ≡ keyless_call keyless now }
 {
     match keyless {

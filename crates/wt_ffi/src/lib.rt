@@ -28,4 +28,4 @@ pub use shared::{SharedHandle, Sharing};
 pub use shows::{Left, Numbers};
 pub use steps::look_many::Looked;
 pub use text::Text;
-pub use token::Token;
+pub use token::{Timed, Token};

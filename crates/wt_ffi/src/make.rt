@@ -6,7 +6,7 @@ ghost use Rattle.wt_ffi.specs.Numbered.{after, number_after, answer_after, IsRef
 use crate::answer::Answer;
 use crate::handle::{CLOSED, Handle, OTHER_KEYS};
 use crate::opened::Opened;
-use crate::token::Token;
+use crate::token::Timed;
 use std::alloc::Global;
 use wt_core::Call;
 
@@ -16,7 +16,7 @@ use wt_core::Call;
 pub(crate) fn make(
     alloc: Global,
     handle: &mut Handle,
-    call: Call<u64, Token>,
+    call: Call<u64, Timed>,
     answer: &mut Answer,
 ) -> u64
     ensures state { IfNumbers handle.old (λ c. HasNumbers handle.new (after answer.new call c)) }

@@ -12,7 +12,7 @@ use crate::opened::Opened;
 use crate::setup::{Setup, cached, config_of, hold};
 use crate::shows::{cause_number, tell};
 use crate::text::{Text, text_of};
-use crate::token::Token;
+use crate::token::Timed;
 use std::alloc::Global;
 use wt_core::Call;
 use wt_keys::Name;
@@ -48,7 +48,7 @@ pub struct NameLeft {
     pub cause: u32,
 }
 
-pub(crate) fn name_left_of(notice: &Notice<Name, Token>) -> NameLeft
+pub(crate) fn name_left_of(notice: &Notice<Name, Timed>) -> NameLeft
     ensures { result ≡ name_left_of notice.now }
 {
     NameLeft {
@@ -89,7 +89,7 @@ pub extern "C" fn rd_get_notice_name(
 pub(crate) fn make_named(
     alloc: Global,
     handle: &mut Handle,
-    call: Call<Name, Token>,
+    call: Call<Name, Timed>,
     answer: &mut Answer,
 ) -> u64
     ensures state { IfNames handle.old (λ c. HasNames handle.new (after answer.new call c)) }

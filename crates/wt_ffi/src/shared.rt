@@ -2,6 +2,7 @@
 pub(crate) mod calls;
 mod handle;
 pub(crate) mod keyless;
+pub(crate) mod living;
 mod make;
 pub(crate) mod name_calls;
 pub(crate) mod names;

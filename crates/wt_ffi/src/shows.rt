@@ -8,7 +8,7 @@ ghost use Rattle.wt_ffi.specs.Shows.{cause_number, left_of, left_in, Reads};
 use crate::cached::Cached;
 use crate::handle::{CLOSED, Handle, NONE, OTHER_KEYS};
 use crate::opened::Opened;
-use crate::token::Token;
+use crate::token::Timed;
 use std::alloc::Global;
 use wt_keys::CacheKey;
 use wt_regions::{Cause, Notice};
@@ -67,7 +67,7 @@ pub(crate) fn cause_number(cause: Cause) -> u32
 }
 
 // The notice that C gets for one of the cache's.
-pub(crate) fn left_of(notice: &Notice<u64, Token>) -> Left
+pub(crate) fn left_of(notice: &Notice<u64, Timed>) -> Left
     ensures { result ≡ left_of notice.now }
 {
     Left {

@@ -8,6 +8,7 @@ use Rattle.wt_regions.specs.declared.notices.Notice.{Notice}
 use Rattle.wt_regions.proofs.Loop.{one_less}
 use Rattle.wt_regions.proofs.Sound.{one_placed, turned}
 use Rattle.wt_regions.specs.declared.notices.Cause.TheVariants.{Size}
+use Rattle.wt_regions.specs.declared.weighs.Measure.{Measure}
 use Rattle.wt_regions.specs.Lists.{Entry, Lists, all_entries, all_but_last, lists_of, weight_of}
 use Rattle.wt_regions.specs.Settle.{holds_other, last_told, trimmed_once, trimmed_within}
 use Rattle.wt_regions.specs.Moves.{IsPlaced}
@@ -117,23 +118,23 @@ module _ {K V : Type 0} (eq : K → K → Bool) (laws : IsEquivalence eq) (k : K
       (light-append (all_but_last r.window) (r.probation ++ r.protected) (light-take (length r.window - 1) r.window lw) lr)
   light-one_at r false false false one h l = cc
 
-  module _ (weigh : V → ℕ) where
+  module _ (measure : V → Measure) where
     trimmed-bound_at : (n : ℕ) (r : Lists K V) (c : Bool) (o : Option (Lists K V × List (Notice K V)))
         → nat_le (weight_of r) r.caps.bound ≡ c → trimmed_once eq k r ≡ o → r.caps.bound ≡ b
-        → IsPlaced eq weigh r → IsLight (all_entries r) → length (all_entries r) ≡ suc n
-        → ((s : Lists K V) → s.caps.bound ≡ b → IsPlaced eq weigh s → IsLight (all_entries s)
+        → IsPlaced eq measure r → IsLight (all_entries r) → length (all_entries r) ≡ suc n
+        → ((s : Lists K V) → s.caps.bound ≡ b → IsPlaced eq measure s → IsLight (all_entries s)
         → length (all_entries s) ≡ n → weight_of (trimmed_within eq k n s).0 ≤ b)
-        → weight_of (turned eq laws weigh k n r c o).0 ≤ b
+        → weight_of (turned eq laws measure k n r c o).0 ≤ b
     trimmed-bound_at n r true o hc ho hb law l len more = subst (λ m. weight_of r ≤ m) hb (within (weight_of r) r.caps.bound hc)
     trimmed-bound_at n r false None hc ho hb law l len more = light-lists r law.distinct ho l
     trimmed-bound_at n r false (Some one) hc ho hb law l len more =
         let less = one_less eq k r one ho in
-        more one.0 (rw less.2 hb) (one_placed eq laws weigh k r one ho law)
+        more one.0 (rw less.2 hb) (one_placed eq laws measure k r one ho law)
         (light-one_at r (holds_other eq k r.probation) (holds_other eq k r.protected) (holds_other eq k r.window) one ho l)
         (omega (arith, less.1))
 
     -- where the entry of k is within the bound, trim ends within it
-    pub trimmed-bound : (n : ℕ) (r : Lists K V) → r.caps.bound ≡ b → IsPlaced eq weigh r → IsLight (all_entries r)
+    pub trimmed-bound : (n : ℕ) (r : Lists K V) → r.caps.bound ≡ b → IsPlaced eq measure r → IsLight (all_entries r)
         → length (all_entries r) ≡ n → weight_of (trimmed_within eq k n r).0 ≤ b
     trimmed-bound zero r hb law l len = let e = empty_list (all_entries r) len in weightless r b e
     trimmed-bound (suc n) r hb law l len =

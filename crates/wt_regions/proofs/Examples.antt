@@ -7,7 +7,9 @@ use Rattle.wt_regions.specs.declared.caps.Caps.{Caps}
 use Rattle.wt_regions.specs.declared.notices.Cause.{Cause}
 use Rattle.wt_regions.specs.declared.notices.Cause.TheVariants.{Expired, Size}
 use Rattle.wt_regions.specs.declared.notices.Notice.{Notice}
-use Rattle.wt_regions.specs.Lists.{Lists, Told, no_entries}
+use Rattle.wt_regions.specs.declared.weighs.Measure.{Measure}
+use Rattle.wt_regions.specs.declared.touch.Found.TheVariants.{Hit, Expired as FoundExpired}
+use Rattle.wt_regions.specs.Lists.{Lists, Told, no_entries, lasting, found_at, living}
 use Rattle.wt_regions.specs.Touch.{looked_at}
 use Rattle.wt_regions.specs.Slide.{slid}
 use Rattle.wt_regions.specs.Steps.{stored, cleaned, new_entry}
@@ -44,14 +46,14 @@ abbrev after : Run → ℕ → Told ℕ ℕ → Run
 after s k t = record { regions = t.0; counted = k ∷ s.counted; told = seen t.1 }
 
 -- a value stored under k at the moment now, by step number version
-abbrev put : (ℕ → ℕ) → ℕ → ℕ → ℕ → Run → Run
-put weight k version now s = after s k (stored nat_eq (uses s.counted) now (new_entry weight k version now version) s.regions)
+abbrev put : (ℕ → Measure) → ℕ → ℕ → ℕ → Run → Run
+put measure k version now s = after s k (stored nat_eq (uses s.counted) now (new_entry measure k version now version) s.regions)
 
 abbrev look : ℕ → ℕ → Run → Run
 look k now s = after s k (looked_at nat_eq k now s.regions, [])
 
-abbrev one : ℕ → ℕ
-one v = 1
+abbrev one : ℕ → Measure
+one v = lasting 1
 
 abbrev puts : List ℕ → ℕ → Run → Run
 puts [] n s = s
@@ -88,7 +90,7 @@ pub a_tie_refuses_the_candidate : (puts (5 ∷ []) 6 five).told ∷ (puts (5 ∷
 a_tie_refuses_the_candidate = refl
 
 -- weights 4 and 3 are above the bound of 5: the older entry leaves
-pub the_weight_is_trimmed : (put (λ v. 3) 2 3 0 (put (λ v. 4) 3 2 0 (opened (caps 4 1 5 None)))).told ≡ (3, (2, Size)) ∷ []
+pub the_weight_is_trimmed : (put (λ v. lasting 3) 2 3 0 (put (λ v. lasting 4) 3 2 0 (opened (caps 4 1 5 None)))).told ≡ (3, (2, Size)) ∷ []
 the_weight_is_trimmed = refl
 
 -- an expired candidate leaves as such, and a clean goes from the last to the first
@@ -104,6 +106,29 @@ expired_entries_leave = refl
 pub an_own_expired_entry_leaves_as_expired : (put one 1 2 100 (put one 1 1 0 (opened (caps 4 1 1000 (Some 100))))).told
     ≡ (1, (1, Expired)) ∷ []
 an_own_expired_entry_leaves_as_expired = refl
+
+-- a value that lives 20, in a cache whose entries expire at 100
+abbrev short : Run
+short = put (λ v. living 1 20) 1 10 5 (opened (caps 4 1 1000 (Some 100)))
+
+-- it is there until 20 have gone by since it was stored at 5
+pub a_life_ends : found_at nat_eq 1 24 short.regions ∷ found_at nat_eq 1 25 short.regions ∷ [] ≡ Hit 10 ∷ FoundExpired ∷ []
+a_life_ends = refl
+
+-- a store gives its own life, or none
+pub a_store_gives_its_own_life : found_at nat_eq 1 89 (put (λ v. living 1 80) 1 11 10 short).regions
+    ∷ found_at nat_eq 1 90 (put (λ v. living 1 80) 1 11 10 short).regions ∷ found_at nat_eq 1 109 (put one 1 12 10 short).regions
+    ∷ found_at nat_eq 1 110 (put one 1 12 10 short).regions ∷ [] ≡ Hit 11 ∷ FoundExpired ∷ Hit 12 ∷ FoundExpired ∷ []
+a_store_gives_its_own_life = refl
+
+-- a use doesn't prolong it
+pub a_use_prolongs_no_life : found_at nat_eq 1 25 (look 1 20 short).regions ≡ FoundExpired
+a_use_prolongs_no_life = refl
+
+-- a victim that has outlived itself leaves without a duel
+pub an_outlived_victim_leaves : (put one 3 3 6 (looks (1 ∷ []) (put one 2 2 1 (put (λ v. living 1 5) 1 1 0 (opened (caps 2 1 1000 None)))))).told
+    ≡ (1, (1, Expired)) ∷ []
+an_outlived_victim_leaves = refl
 
 -- a slide of the border
 abbrev slide : Bool → Run → Run

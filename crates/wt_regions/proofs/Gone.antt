@@ -7,6 +7,7 @@ use Rattle.std.proofs.lemmas.List.Sorted.{IsPermutation-middle}
 use Rattle.wt_regions.specs.declared.held.Held.{Held}
 use Rattle.wt_regions.specs.declared.caps.Caps.{Caps}
 use Rattle.wt_regions.specs.declared.notices.Cause.TheVariants.{Expired, Explicit}
+use Rattle.wt_regions.specs.declared.weighs.Measure.{Measure}
 use Rattle.wt_regions.proofs.Moves.{lawful_of, placed_of}
 use Rattle.wt_regions.proofs.Weights.{weight-is, weights-moves, weights-cons}
 use Rattle.wt_regions.proofs.Settled.{IsSound, sound-loses}
@@ -17,11 +18,11 @@ use Rattle.wt_regions.specs.Notices.{NoticeList, appended}
 use Rattle.wt_regions.specs.Lawful.{IsLawful}
 use Rattle.wt_regions.specs.Moves.{IsPlaced}
 
-module _ {K V : Type 0} (eq : K → K → Bool) (laws : IsEquivalence eq) (weigh : V → ℕ) where
+module _ {K V : Type 0} (eq : K → K → Bool) (laws : IsEquivalence eq) (measure : V → Measure) where
   -- ---- one entry is taken out
-  module _ (k : K) (c : Caps) (ws ps qs : List (Entry K V)) (law : IsLawful eq weigh (lists_of c ws ps qs)) where
+  module _ (k : K) (c : Caps) (ws ps qs : List (Entry K V)) (law : IsLawful eq measure (lists_of c ws ps qs)) where
     pub taken-some : (h : Held V) → lookup (eq k) (ws ++ (ps ++ qs)) ≡ Some h
-        → IsLawful eq weigh (without eq k (lists_of c ws ps qs))
+        → IsLawful eq measure (without eq k (lists_of c ws ps qs))
         × (weight_of (without eq k (lists_of c ws ps qs)) + h.weight ≡ weight_of (lists_of c ws ps qs))
     taken-some h is =
         let at = where-is eq laws k ws ps qs h law.distinct is in
@@ -31,30 +32,30 @@ module _ {K V : Type 0} (eq : K → K → Bool) (laws : IsEquivalence eq) (weigh
         let s : at.0.1.weight ≡ h.weight = ap (λ (g : Held V). g.weight) at.1 in
         let a = weight-is (without eq k (lists_of c ws ps qs)) in
         let b = weight-is (lists_of c ws ps qs) in (
-          lawful_of eq weigh (without eq k (lists_of c ws ps qs))
-              (without-placed eq laws k weigh c ws ps qs at.0 at.2 (placed_of eq weigh (lists_of c ws ps qs) law))
+          lawful_of eq measure (without eq k (lists_of c ws ps qs))
+              (without-placed eq laws k measure c ws ps qs at.0 at.2 (placed_of eq measure (lists_of c ws ps qs) law))
               (omega (arith, m, w, s, a, b, law.bound)),
           omega (arith, m, w, s, a, b),
         )
 
     pub taken-none : lookup (eq k) (ws ++ (ps ++ qs)) ≡ None
-        → IsLawful eq weigh (without eq k (lists_of c ws ps qs))
+        → IsLawful eq measure (without eq k (lists_of c ws ps qs))
         × (weight_of (without eq k (lists_of c ws ps qs)) ≡ weight_of (lists_of c ws ps qs))
     taken-none n = let e = without-none eq laws k c ws ps qs n in
-        (subst (IsLawful eq weigh) (sym e) law, ap (λ (r : Lists K V). weight_of r) e)
+        (subst (IsLawful eq measure) (sym e) law, ap (λ (r : Lists K V). weight_of r) e)
 
   -- ---- the expired leave
-  sound-kept : (now : ℕ) (c : Caps) (xs es bs : List (Entry K V)) → IsSound eq laws weigh (xs ++ (es ++ bs))
-      → IsSound eq laws weigh (xs ++ (live_of now c es ++ bs))
+  sound-kept : (now : ℕ) (c : Caps) (xs es bs : List (Entry K V)) → IsSound eq laws measure (xs ++ (es ++ bs))
+      → IsSound eq laws measure (xs ++ (live_of now c es ++ bs))
   sound-kept now c xs [] bs s = s
   sound-kept now c xs (e ∷ es) bs s =
-      elim (is_expired c now e.1) as (λ b. IsSound eq laws weigh
+      elim (is_expired c now e.1) as (λ b. IsSound eq laws measure
       (xs ++ (cond b (live_of now c es) (e ∷ live_of now c es) ++ bs))) [
         | true ↦ sound-kept now c xs es bs
-            (sound-loses eq laws weigh e (xs ++ (e ∷ (es ++ bs))) (xs ++ (es ++ bs))
+            (sound-loses eq laws measure e (xs ++ (e ∷ (es ++ bs))) (xs ++ (es ++ bs))
             (IsPermutation-middle xs e (es ++ bs)) s)
-        | false ↦ subst (IsSound eq laws weigh) (append_assoc xs (e ∷ []) (live_of now c es ++ bs))
-            (sound-kept now c (xs ++ e ∷ []) es bs (subst (IsSound eq laws weigh) (sym (append_assoc xs (e ∷ []) (es ++ bs))) s))
+        | false ↦ subst (IsSound eq laws measure) (append_assoc xs (e ∷ []) (live_of now c es ++ bs))
+            (sound-kept now c (xs ++ e ∷ []) es bs (subst (IsSound eq laws measure) (sym (append_assoc xs (e ∷ []) (es ++ bs))) s))
       ]
 
   kept-length : (now : ℕ) (c : Caps) (es : List (Entry K V)) → length (live_of now c es) ≤ length es
@@ -65,21 +66,21 @@ module _ {K V : Type 0} (eq : K → K → Bool) (laws : IsEquivalence eq) (weigh
         | false ↦ let n = kept-length now c es in omega (arith, n)
       ]
 
-  pub cleaned-lawful : (now : ℕ) (c : Caps) (ws ps qs : List (Entry K V)) → IsLawful eq weigh (lists_of c ws ps qs)
+  pub cleaned-lawful : (now : ℕ) (c : Caps) (ws ps qs : List (Entry K V)) → IsLawful eq measure (lists_of c ws ps qs)
       → weight_of (lists_of c (live_of now c ws) (live_of now c ps) (live_of now c qs)) ≤ weight_of
       (lists_of c ws ps qs)
-      → IsLawful eq weigh (lists_of c (live_of now c ws) (live_of now c ps) (live_of now c qs))
+      → IsLawful eq measure (lists_of c (live_of now c ws) (live_of now c ps) (live_of now c qs))
   cleaned-lawful now c ws ps qs law less =
-      let s0 : IsSound eq laws weigh (ws ++ (ps ++ qs)) = record { distinct = law.distinct; weights = law.weights } in
-      let s1 : IsSound eq laws weigh (live_of now c ws ++ (ps ++ qs)) = sound-kept now c [] ws (ps ++ qs) s0 in
-      let s2 : IsSound eq laws weigh (live_of now c ws ++ (live_of now c ps ++ qs)) = sound-kept now c (live_of now c ws) ps qs s1 in
-      let s3 : IsSound eq laws weigh ((live_of now c ws ++ live_of now c ps) ++ (live_of now c qs ++ [])) =
+      let s0 : IsSound eq laws measure (ws ++ (ps ++ qs)) = record { distinct = law.distinct; measures = law.measures } in
+      let s1 : IsSound eq laws measure (live_of now c ws ++ (ps ++ qs)) = sound-kept now c [] ws (ps ++ qs) s0 in
+      let s2 : IsSound eq laws measure (live_of now c ws ++ (live_of now c ps ++ qs)) = sound-kept now c (live_of now c ws) ps qs s1 in
+      let s3 : IsSound eq laws measure ((live_of now c ws ++ live_of now c ps) ++ (live_of now c qs ++ [])) =
       sound-kept now c (live_of now c ws ++ live_of now c ps) qs []
-      (subst (IsSound eq laws weigh) (sym
+      (subst (IsSound eq laws measure) (sym
       (ap (λ (es : List (Entry K V)). (live_of now c ws ++ live_of now c ps) ++ es) (append-nil qs)
       ∙ append_assoc (live_of now c ws) (live_of now c ps) qs)) s2) in
-      let s : IsSound eq laws weigh (live_of now c ws ++ (live_of now c ps ++ live_of now c qs)) =
-      subst (IsSound eq laws weigh) (ap (λ (es : List (Entry K V)). (live_of now c ws ++ live_of now c ps) ++ es)
+      let s : IsSound eq laws measure (live_of now c ws ++ (live_of now c ps ++ live_of now c qs)) =
+      subst (IsSound eq laws measure) (ap (λ (es : List (Entry K V)). (live_of now c ws ++ live_of now c ps) ++ es)
       (append-nil (live_of now c qs)) ∙ append_assoc (live_of now c ws) (live_of now c ps) (live_of now c qs)) s3 in
       record {
         fit = law.fit;
@@ -87,7 +88,7 @@ module _ {K V : Type 0} (eq : K → K → Bool) (laws : IsEquivalence eq) (weigh
         window = omega (arith, kept-length now c ws, law.window);
         protected = omega (arith, kept-length now c qs, law.protected);
         main_part = omega (arith, kept-length now c ps, kept-length now c qs, law.main_part);
-        weights = s.weights;
+        measures = s.measures;
         bound = omega (arith, less, law.bound);
       }
 
@@ -110,8 +111,8 @@ module _ {K V : Type 0} where
             (notice (cond (is_expired c now e.1) Expired Explicit) e ∷ []),
       )
 
-  module _ (eq : K → K → Bool) (weigh : V → ℕ) (now : ℕ) (c : Caps) (ws ps qs : List (Entry K V))
-      (law : IsPlaced eq weigh (lists_of c ws ps qs)) (t0 t1 t2 : NoticeList K V) (room : c.entries ≤ t0.room) where
+  module _ (eq : K → K → Bool) (measure : V → Measure) (now : ℕ) (c : Caps) (ws ps qs : List (Entry K V))
+      (law : IsPlaced eq measure (lists_of c ws ps qs)) (t0 t1 t2 : NoticeList K V) (room : c.entries ≤ t0.room) where
     pub clean-room-1 : t1 ≡ appended (expired_of now c ws) t0 → length ps ≤ t1.room
     clean-room-1 i = rw i (omega (arith, room, gone-length now c ws, law.window, law.main_part, law.fit.window))
 

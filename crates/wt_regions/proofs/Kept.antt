@@ -5,27 +5,28 @@ use Rattle.std.specs.List.{AllByRecursion}
 use Rattle.wt_regions.specs.declared.held.Held.{Held}
 use Rattle.wt_regions.specs.declared.caps.Caps.{Caps}
 use Rattle.wt_regions.specs.declared.notices.Notice.{Notice}
+use Rattle.wt_regions.specs.declared.weighs.Measure.{Measure}
 use Rattle.wt_regions.proofs.Moves.{lawful_of}
 use Rattle.wt_regions.proofs.Settled.{Light, by_recursion}
 use Rattle.wt_regions.proofs.Sound.{trimmed-placed, trimmed-caps}
 use Rattle.wt_regions.proofs.Bound.{trimmed-bound}
 use Rattle.wt_regions.proofs.Loop.{appended-twice}
 use Rattle.wt_regions.proofs.Ready.{IsReady, placed-ready}
-use Rattle.wt_regions.specs.Lists.{Entry, Lists, all_entries, lists_of, weight_of}
+use Rattle.wt_regions.specs.Lists.{Entry, Lists, all_entries, lists_of, weight_of, measured}
 use Rattle.wt_regions.specs.Settle.{trimmed}
 use Rattle.wt_regions.specs.Steps.{placed}
 use Rattle.wt_regions.specs.Notices.{NoticeList, appended}
 use Rattle.wt_regions.specs.Lawful.{IsLawful}
 use Rattle.wt_regions.specs.Moves.{IsFirst, IsPlaced, others}
 
-module _ {K V : Type 0} (eq : K → K → Bool) (laws : IsEquivalence eq) (weigh : V → ℕ) (f : K → ℕ) (now : ℕ) (k : K)
+module _ {K V : Type 0} (eq : K → K → Bool) (laws : IsEquivalence eq) (measure : V → Measure) (f : K → ℕ) (now : ℕ) (k : K)
     (h : Held V) (c : Caps) (ws ps qs : List (Entry K V))
-    (law : IsPlaced eq weigh (lists_of c ws ps qs)) (w : h.weight ≡ weigh h.value) (low : h.weight ≤ c.bound) where
+    (law : IsPlaced eq measure (lists_of c ws ps qs)) (w : measured h ≡ measure h.value) (low : h.weight ≤ c.bound) where
   abbrev outcome : Lists K V × List (Notice K V)
   outcome = placed eq f now (k, h) (lists_of c ws ps qs)
 
-  ready : IsReady eq laws weigh k c.bound c (length (ws ++ (ps ++ qs))) outcome
-  ready = placed-ready eq laws weigh k c.bound f now h c ws ps qs law w low
+  ready : IsReady eq laws measure k c.bound c (length (ws ++ (ps ++ qs))) outcome
+  ready = placed-ready eq laws measure k c.bound f now h c ws ps qs law w low
 
   count : length (ws ++ (ps ++ qs)) ≤ c.entries
   count = omega (arith, law.window, law.main_part, law.fit.window, length-append ws (ps ++ qs), length-append ps qs)
@@ -41,17 +42,17 @@ module _ {K V : Type 0} (eq : K → K → Bool) (laws : IsEquivalence eq) (weigh
   bounded z y e g l = rw g (subst (λ (x : Lists K V). weight_of x ≤ c.bound) (sym e) l)
 
   pub kept-caps : (m z : Lists K V) → m ≡ outcome.0 → z ≡ (trimmed eq k m).0 → z.caps ≡ c
-  kept-caps m z is end = rw end (trimmed-caps eq laws weigh k (length (all_entries m)) m ∙ rw is ready.caps)
+  kept-caps m z is end = rw end (trimmed-caps eq laws measure k (length (all_entries m)) m ∙ rw is ready.caps)
 
-  pub kept-lawful : (m z : Lists K V) → m ≡ outcome.0 → z ≡ (trimmed eq k m).0 → IsLawful eq weigh z
+  pub kept-lawful : (m z : Lists K V) → m ≡ outcome.0 → z ≡ (trimmed eq k m).0 → IsLawful eq measure z
   kept-lawful m z is end =
       let same = kept-caps m z is end in
-      let pm : IsPlaced eq weigh m = rw is ready.placed in
+      let pm : IsPlaced eq measure m = rw is ready.placed in
       let cm : m.caps.bound ≡ c.bound = rw (is, ready.caps) in
       let lm : AllByRecursion (Light eq k c.bound) (all_entries m) =
       rw is (by_recursion (Light eq k c.bound) (all_entries outcome.0) ready.light) in
-      let b = trimmed-bound eq laws k c.bound weigh (length (all_entries m)) m cm pm lm refl in
-      lawful_of eq weigh z (rw end (trimmed-placed eq laws weigh k (length (all_entries m)) m pm)) (bounded z (trimmed eq k m).0 end same b)
+      let b = trimmed-bound eq laws k c.bound measure (length (all_entries m)) m cm pm lm refl in
+      lawful_of eq measure z (rw end (trimmed-placed eq laws measure k (length (all_entries m)) m pm)) (bounded z (trimmed eq k m).0 end same b)
 
 -- the notices and lists of both
 module _ {K V : Type 0} (eq : K → K → Bool) (k : K) where

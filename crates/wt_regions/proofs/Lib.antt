@@ -17,6 +17,7 @@ pub mod Kept
 pub mod Sweeps
 pub mod Gone
 pub mod Fits
+pub mod Lives
 pub mod Looks
 pub mod Room
 pub mod Slides

@@ -3,7 +3,7 @@ use Rattle.std.proofs.Common.{◌≡◌, ℕ, Bool, true, false, cond, List, ◌
 use Rattle.std.specs.Option.{option_map, option_map_or, is_some}
 use Rattle.std.specs.List.{IsDistinct}
 use Rattle.std.specs.Map.{keys_of, lookup}
-use Rattle.std.specs.Prelude.{IsSome}
+use Rattle.std.specs.Prelude.{IfSome, IsSome}
 use Rattle.std.specs.Cmp.{IsEquivalence}
 use Rattle.wt_regions.specs.declared.caps.Caps.{Caps}
 use Rattle.wt_regions.specs.declared.touch.Found.{Found}
@@ -11,10 +11,12 @@ use Rattle.wt_regions.specs.declared.touch.Found.TheVariants.{Hit, Absent, Expir
 use Rattle.wt_regions.specs.declared.held.Held.{Held}
 use Rattle.wt_regions.specs.declared.touch.Seen.{Seen}
 use Rattle.wt_regions.specs.declared.touch.Seen.TheVariants.{InWindow, InProbation, InProtected, Nowhere, Expired}
+use Rattle.wt_regions.specs.declared.weighs.Measure.{Measure}
 use Rattle.wt_regions.specs.Lists.{Entry, Lists, lists_of, held_for, found_at, has_at, gone_by, is_expired, used, weight_of}
 use Rattle.wt_regions.specs.Touch.{looked_at, touched, used_if}
 use Rattle.wt_regions.specs.Lawful.{IsLawful}
-use Rattle.wt_regions.specs.Moves.{in_front, seen_at}
+use Rattle.wt_regions.specs.Moves.{HasNoLives, in_front, seen_at}
+use Rattle.std.proofs.lemmas.Map.Entries.{All-lookup}
 use Rattle.wt_regions.proofs.Moves.{lookup-append, lookup_entry-none}
 use Rattle.wt_regions.proofs.Apart.{above-protected, above-probation, entry-from_lookup}
 use Rattle.wt_regions.proofs.Touches.{touched-window, touched-protected, touched-kept}
@@ -108,9 +110,15 @@ module _ {K V : Type 0} (eq : K → K → Bool) (laws : IsEquivalence eq) (same 
   look_at None None None iq ip iw = nowhere iw ip iq
 
   -- the same if no entry expires, by the region that has the key
-  module _ (unaging : is_some c.after_write || is_some c.after_access ≡ false) where
-    fresh : (h : Held V) → is_expired c now h ≡ false
-    fresh h = never-gone c.after_write c.after_access h.written h.accessed now unaging
+  module _ (unaging : is_some c.after_write || is_some c.after_access ≡ false) (lasting : HasNoLives r) where
+    life-of : (h : Held V) → held_for eq k r ≡ Some h → h.life ≡ 0
+    life-of h at =
+        let each : IfSome (lookup (eq k) (ws ++ (ps ++ qs))) (λ (x : Held V). x.life ≡ 0) =
+        All-lookup (λ (x : Held V). x.life ≡ 0) (eq k) (ws ++ (ps ++ qs)) lasting in
+        rw at at each
+
+    fresh : (h : Held V) → held_for eq k r ≡ Some h → is_expired c now h ≡ false
+    fresh h at = rw (never-gone c.after_write c.after_access h.written h.accessed now unaging, life-of h at) refl
 
     protected_of : (o : Option (Held V)) (v : V) → lookup (eq k) qs ≡ o
         → option_map (λ (h : Held V). h.value) o ≡ Some v → IsLook (InProtected v)
@@ -118,17 +126,19 @@ module _ {K V : Type 0} (eq : K → K → Bool) (laws : IsEquivalence eq) (same 
     protected_of (Some h) v at is =
         let off = above-protected eq laws k ws ps qs h once at in
         let value : h.value ≡ v = cc in
-        subst (λ w. IsLook (InProtected w)) value (protected_if h false off.0 off.1 at (fresh h))
+        subst (λ w. IsLook (InProtected w)) value (protected_if h false off.0 off.1 at (fresh h (held-protected eq k now c ws ps qs h off.0 off.1 at)))
 
     pub copied-protected : (v : V) → option_map (λ (h : Held V). h.value) (lookup (eq k) qs) ≡ Some v → IsLook (InProtected v)
     copied-protected v is = protected_of (lookup (eq k) qs) v refl is
 
     pub copied-probation : (h : Held V) → lookup (eq k) ps ≡ Some h → IsLook (InProbation h.value (used now h))
-    copied-probation h at = probation_if h false (above-probation eq laws k ws ps qs h once at) at (fresh h)
+    copied-probation h at =
+        let off = above-probation eq laws k ws ps qs h once at in
+        probation_if h false off at (fresh h (held-probation eq k now c ws ps qs h off at))
 
     window_of : (o : Option (Held V)) (v : V) → lookup (eq k) ws ≡ o → option_map (λ (h : Held V). h.value) o ≡ Some v → IsLook (InWindow v)
     window_of None v at is = cc
-    window_of (Some h) v at is = let value : h.value ≡ v = cc in subst (λ w. IsLook (InWindow w)) value (window_if h false at (fresh h))
+    window_of (Some h) v at is = let value : h.value ≡ v = cc in subst (λ w. IsLook (InWindow w)) value (window_if h false at (fresh h (held-window eq k now c ws ps qs h at)))
 
     pub copied-window : (v : V) → option_map (λ (h : Held V). h.value) (lookup (eq k) ws) ≡ Some v → IsLook (InWindow v)
     copied-window v is = window_of (lookup (eq k) ws) v refl is
@@ -146,14 +156,14 @@ module _ {K V : Type 0} (eq : K → K → Bool) (laws : IsEquivalence eq) (same 
   look-is = look_at (lookup (eq k) qs) (lookup (eq k) ps) (lookup (eq k) ws) refl refl refl
 
 -- a look keeps the regions lawful and their weight
-module _ {K V : Type 0} (eq : K → K → Bool) (laws : IsEquivalence eq) (weigh : V → ℕ) (k : K) (now : ℕ) where
+module _ {K V : Type 0} (eq : K → K → Bool) (laws : IsEquivalence eq) (measure : V → Measure) (k : K) (now : ℕ) where
   abbrev pub Keeps : Lists K V → Lists K V → Type 0
-  Keeps r s = IsLawful eq weigh s × (weight_of s ≡ weight_of r)
+  Keeps r s = IsLawful eq measure s × (weight_of s ≡ weight_of r)
 
-  used-kept : (g : Found V) (r : Lists K V) → IsLawful eq weigh r → Keeps r (used_if eq k now g r)
-  used-kept (Hit v) r law = touched-kept eq k (used now) laws weigh (λ e. refl) r law
+  used-kept : (g : Found V) (r : Lists K V) → IsLawful eq measure r → Keeps r (used_if eq k now g r)
+  used-kept (Hit v) r law = touched-kept eq k (used now) laws measure (λ e. refl) r law
   used-kept Absent r law = (law, refl)
   used-kept FoundExpired r law = (law, refl)
 
-  pub looked-kept : (r : Lists K V) → IsLawful eq weigh r → Keeps r (looked_at eq k now r)
+  pub looked-kept : (r : Lists K V) → IsLawful eq measure r → Keeps r (looked_at eq k now r)
   looked-kept r law = used-kept (found_at eq k now r) r law

@@ -17,7 +17,8 @@ use Rattle.std.proofs.lemmas.Map.Keys.{IsDistinct-IsPermutation}
 use Rattle.std.proofs.lemmas.List.Sorted.{IsPermutation-refl, IsPermutation-sym, IsPermutation-trans, IsPermutation-cons, IsPermutation-middle, IsPermutation-to_front, IsPermutation-append_left, IsPermutation-append_right, IsPermutation-map, length_permutation, sum_by-IsPermutation, All-permutation}
 use Rattle.wt_regions.specs.declared.held.Held.{Held}
 use Rattle.wt_regions.specs.declared.caps.Caps.{Caps}
-use Rattle.wt_regions.specs.Lists.{Entry, Lists, all_entries, all_but_last, main_cap, protected_cap, weight_of, weights}
+use Rattle.wt_regions.specs.declared.weighs.Measure.{Measure}
+use Rattle.wt_regions.specs.Lists.{Entry, Lists, all_entries, all_but_last, main_cap, protected_cap, weight_of, weights, measured}
 use Rattle.wt_regions.specs.Touch.{promoted}
 use Rattle.wt_regions.specs.Lawful.{IsFit, IsLawful}
 use Rattle.wt_regions.specs.Moves.{IsPlaced, places_of}
@@ -164,10 +165,10 @@ module _ {K V : Type 0} where
   promoted-moves-all c e ps qs = promoted-moves-all_at c e ps qs (nat_lt (length qs) (protected_cap c)) (last_entry (e ∷ qs)) refl
 
   -- the key, the value and the weight of an entry: what its use keeps
-  abbrev pub bare : Entry K V → K × (V × ℕ)
-  bare e = (e.0, (e.1.value, e.1.weight))
+  abbrev pub bare : Entry K V → K × (V × Measure)
+  bare e = (e.0, (e.1.value, measured e.1))
 
-  abbrev pub bares : List (Entry K V) → List (K × (V × ℕ))
+  abbrev pub bares : List (Entry K V) → List (K × (V × Measure))
   bares es = map bare es
 
   pub bares-append : (xs ys : List (Entry K V)) → bares (xs ++ ys) ≡ bares xs ++ bares ys
@@ -220,9 +221,9 @@ module _ {K V : Type 0} where
 
 -- ---- what moves keep
 module _ {K V : Type 0} where
-  weights-bares : (es : List (Entry K V)) → sum_by (λ (b : K × (V × ℕ)). b.1.1) (bares es) ≡ weights es
+  weights-bares : (es : List (Entry K V)) → sum_by (λ (b : K × (V × Measure)). b.1.1.weight) (bares es) ≡ weights es
   weights-bares [] = refl
-  weights-bares (e ∷ es) = sum_by-cons (λ (b : K × (V × ℕ)). b.1.1) (bare e) (bares es)
+  weights-bares (e ∷ es) = sum_by-cons (λ (b : K × (V × Measure)). b.1.1.weight) (bare e) (bares es)
       ∙ ap (λ n. e.1.weight + n) (weights-bares es) ∙ sym (sum_by-cons (λ (f : Entry K V). f.1.weight) e es)
 
   keys-bares : (es : List (Entry K V)) → keys_of (bares es) ≡ keys_of es
@@ -230,11 +231,11 @@ module _ {K V : Type 0} where
   keys-bares (e ∷ es) = ap (λ ks. e.0 ∷ ks) (keys-bares es)
 
   -- a fact of each bare entry is one of each entry
-  bared : (P : K × (V × ℕ) → Type 0) (es : List (Entry K V)) → All (λ (e : Entry K V). P (bare e)) es → All P (bares es)
+  bared : (P : K × (V × Measure) → Type 0) (es : List (Entry K V)) → All (λ (e : Entry K V). P (bare e)) es → All P (bares es)
   bared P [] h = λ i d l. absurd (omega arith)
   bared P (e ∷ es) h = All-cons P (bare e) (bares es) (h 0 e (omega arith)) (bared P es (All-tail (λ (e : Entry K V). P (bare e)) e es h))
 
-  unbared : (P : K × (V × ℕ) → Type 0) (es : List (Entry K V)) → All P (bares es) → All (λ (e : Entry K V). P (bare e)) es
+  unbared : (P : K × (V × Measure) → Type 0) (es : List (Entry K V)) → All P (bares es) → All (λ (e : Entry K V). P (bare e)) es
   unbared P [] h = λ i d l. absurd (omega arith)
   unbared P (e ∷ es) h = All-cons (λ (e : Entry K V). P (bare e)) e es (h 0 (bare e) (omega arith))
       (unbared P es (All-tail P (bare e) (bares es) h))
@@ -246,7 +247,7 @@ module _ {K V : Type 0} where
   pub moves-weight : (xs ys : List (Entry K V)) → Moves xs ys → weights ys ≡ weights xs
   unfolding Moves
   moves-weight xs ys h = sym (weights-bares ys)
-      ∙ sum_by-IsPermutation (λ (b : K × (V × ℕ)). b.1.1) (bares xs) (bares ys) h ∙ weights-bares xs
+      ∙ sum_by-IsPermutation (λ (b : K × (V × Measure)). b.1.1.weight) (bares xs) (bares ys) h ∙ weights-bares xs
 
   pub moves-distinct : (eq : K → K → Bool) → IsEquivalence eq → (xs ys : List (Entry K V)) → Moves xs ys
       → IsDistinct eq (keys_of xs) → IsDistinct eq (keys_of ys)
@@ -254,46 +255,46 @@ module _ {K V : Type 0} where
   moves-distinct eq laws xs ys h d =
       subst (IsDistinct eq) (keys-bares ys)
       (IsDistinct-IsPermutation eq laws.symm (keys_of (bares xs)) (keys_of (bares ys))
-      (IsPermutation-map (λ (b : K × (V × ℕ)). b.0) (bares xs) (bares ys) h) (subst (IsDistinct eq) (sym (keys-bares xs)) d))
+      (IsPermutation-map (λ (b : K × (V × Measure)). b.0) (bares xs) (bares ys) h) (subst (IsDistinct eq) (sym (keys-bares xs)) d))
 
-  pub moves-weights : (weight : V → ℕ) (xs ys : List (Entry K V)) → Moves xs ys
-      → All (λ (e : Entry K V). e.1.weight ≡ weight e.1.value) xs
-      → All (λ (e : Entry K V). e.1.weight ≡ weight e.1.value) ys
+  pub moves-weights : (measure : V → Measure) (xs ys : List (Entry K V)) → Moves xs ys
+      → All (λ (e : Entry K V). measured e.1 ≡ measure e.1.value) xs
+      → All (λ (e : Entry K V). measured e.1 ≡ measure e.1.value) ys
   unfolding Moves
-  moves-weights weight xs ys h d =
-      let P : K × (V × ℕ) → Type 0 = λ b. b.1.1 ≡ weight b.1.0 in
+  moves-weights measure xs ys h d =
+      let P : K × (V × Measure) → Type 0 = λ b. b.1.1 ≡ measure b.1.0 in
       unbared P ys (All-permutation P (bares xs) (bares ys) h (bared P xs d))
 
   -- regions are lawful where each thing is in its place, within the bound
-  pub lawful_of : (eq : K → K → Bool) (weight : V → ℕ) (r : Lists K V) → IsPlaced eq weight r
-      → weight_of r ≤ r.caps.bound → IsLawful eq weight r
-  lawful_of eq weight r law low = record {
+  pub lawful_of : (eq : K → K → Bool) (measure : V → Measure) (r : Lists K V) → IsPlaced eq measure r
+      → weight_of r ≤ r.caps.bound → IsLawful eq measure r
+  lawful_of eq measure r law low = record {
     fit = law.fit;
     distinct = law.distinct;
     window = law.window;
     protected = law.protected;
     main_part = law.main_part;
-    weights = law.weights;
+    measures = law.measures;
     bound = low;
   }
 
-  pub placed_of : (eq : K → K → Bool) (weight : V → ℕ) (r : Lists K V) → IsLawful eq weight r → IsPlaced eq weight r
-  placed_of eq weight r law = record {
+  pub placed_of : (eq : K → K → Bool) (measure : V → Measure) (r : Lists K V) → IsLawful eq measure r → IsPlaced eq measure r
+  placed_of eq measure r law = record {
     fit = law.fit;
     distinct = law.distinct;
     window = law.window;
     protected = law.protected;
     main_part = law.main_part;
-    weights = law.weights;
+    measures = law.measures;
   }
 
   -- regions that are the same but for places and uses are lawful, where none is too long
-  pub lawful-moves : (eq : K → K → Bool) (weigh : V → ℕ) → IsEquivalence eq → (r s : Lists K V) → s.caps ≡ r.caps
+  pub lawful-moves : (eq : K → K → Bool) (measure : V → Measure) → IsEquivalence eq → (r s : Lists K V) → s.caps ≡ r.caps
       → Moves (all_entries r) (all_entries s)
       → length s.window ≤ s.caps.window → length s.protected ≤ protected_cap s.caps
       → length s.probation + length s.protected ≤ main_cap s.caps
-      → IsLawful eq weigh r → IsLawful eq weigh s × (weight_of s ≡ weight_of r)
-  lawful-moves eq weigh laws r s same h w q m law =
+      → IsLawful eq measure r → IsLawful eq measure s × (weight_of s ≡ weight_of r)
+  lawful-moves eq measure laws r s same h w q m law =
       let n : weight_of s ≡ weight_of r = moves-weight (all_entries r) (all_entries s) h in (
         record {
           fit = subst IsFit (sym same) law.fit;
@@ -301,7 +302,7 @@ module _ {K V : Type 0} where
           window = w;
           protected = q;
           main_part = m;
-          weights = moves-weights weigh (all_entries r) (all_entries s) h law.weights;
+          measures = moves-weights measure (all_entries r) (all_entries s) h law.measures;
           bound = rw (n, same) law.bound;
         },
         n,

@@ -10,6 +10,7 @@ use Rattle.wt_regions.specs.declared.held.Held.{Held}
 use Rattle.wt_regions.specs.declared.caps.Caps.{Caps}
 use Rattle.wt_regions.specs.declared.notices.Notice.{Notice}
 use Rattle.wt_regions.specs.declared.notices.Cause.TheVariants.{Expired}
+use Rattle.wt_regions.specs.declared.weighs.Measure.{Measure}
 use Rattle.wt_regions.proofs.Moves.{lookup-append}
 use Rattle.wt_regions.proofs.Apart.{no_last_none, apart, none_at_last, distinct_after, below}
 use Rattle.wt_regions.proofs.Weights.{weights-cons, weights-last, weights-removed, weight-split}
@@ -49,9 +50,9 @@ last_under e (x ∷ xs) l h is =
     let m : length (x ∷ xs) - 1 ≡ length xs = omega arith in
     rw m (rw n at is)
 
-module _ {K V : Type 0} (eq : K → K → Bool) (laws : IsEquivalence eq) (weigh : V → ℕ) (f : K → ℕ) (now : ℕ) (k : K)
+module _ {K V : Type 0} (eq : K → K → Bool) (laws : IsEquivalence eq) (measure : V → Measure) (f : K → ℕ) (now : ℕ) (k : K)
     (h : Held V) (c : Caps) (ws ps qs : List (Entry K V))
-    (law : IsPlaced eq weigh (lists_of c ws ps qs)) (off : lookup (eq k) ws ≡ None) (on : IsSome (lookup (eq k) (ps ++ qs))) where
+    (law : IsPlaced eq measure (lists_of c ws ps qs)) (off : lookup (eq k) ws ≡ None) (on : IsSome (lookup (eq k) (ps ++ qs))) where
   abbrev after : Lists K V × List (Notice K V)
   after = settled f now (k, h) (without eq k (lists_of c ws ps qs))
 
@@ -247,17 +248,17 @@ module _ {K V : Type 0} (eq : K → K → Bool) (laws : IsEquivalence eq) (weigh
       rw (i1, io, p) (ap (λ (ns : List (Notice K V)). appended ns n0)
       (sym (append-nil (option_map_or (λ (g : Held V). notice Expired (k, g) ∷ []) (lookup (eq k) (ps ++ qs)) []))))
 
-module _ {K V : Type 0} (eq : K → K → Bool) (laws : IsEquivalence eq) (weigh : V → ℕ) (f g : K → ℕ) (now : ℕ) (k : K)
+module _ {K V : Type 0} (eq : K → K → Bool) (laws : IsEquivalence eq) (measure : V → Measure) (f g : K → ℕ) (now : ℕ) (k : K)
     (h : Held V) (c : Caps) (ws ps qs : List (Entry K V))
-    (law : IsPlaced eq weigh (lists_of c ws ps qs)) (off : lookup (eq k) ws ≡ None) (on : IsSome (lookup (eq k) (ps ++ qs))) where
+    (law : IsPlaced eq measure (lists_of c ws ps qs)) (off : lookup (eq k) ws ≡ None) (on : IsSome (lookup (eq k) (ps ++ qs))) where
   any_by : (x : Bool) → nat_le (length ((k, h) ∷ ws)) c.window ≡ x
       → settled f now (k, h) (without eq k (lists_of c ws ps qs))
       ≡ settled g now (k, h) (without eq k (lists_of c ws ps qs))
   any_by true is = let le : length ((k, h) ∷ ws) ≤ c.window = yes_at (length ((k, h) ∷ ws)) c.window is in
-      past-fits eq laws weigh f now k h c ws ps qs law off on le ∙ sym (past-fits eq laws weigh g now k h c ws ps qs law off on le)
+      past-fits eq laws measure f now k h c ws ps qs law off on le ∙ sym (past-fits eq laws measure g now k h c ws ps qs law off on le)
   any_by false is = let full : c.window < length ((k, h) ∷ ws) = no_at (length ((k, h) ∷ ws)) c.window is in
-      past-any_at eq laws weigh f now k h c ws ps qs law off on (λ _. 0) (last_entry ((k, h) ∷ ws)) refl full
-      ∙ sym (past-any_at eq laws weigh g now k h c ws ps qs law off on (λ _. 0)
+      past-any_at eq laws measure f now k h c ws ps qs law off on (λ _. 0) (last_entry ((k, h) ∷ ws)) refl full
+      ∙ sym (past-any_at eq laws measure g now k h c ws ps qs law off on (λ _. 0)
       (last_entry ((k, h) ∷ ws)) refl full)
 
   pub past-any : settled f now (k, h) (without eq k (lists_of c ws ps qs)) ≡ settled g now (k, h) (without eq k (lists_of c ws ps qs))

@@ -9,6 +9,7 @@ use Rattle.wt_regions.specs.declared.held.Held.{Held}
 use Rattle.wt_regions.specs.declared.caps.Caps.{Caps}
 use Rattle.wt_regions.specs.declared.notices.Notice.{Notice}
 use Rattle.wt_regions.specs.declared.notices.Cause.TheVariants.{Expired, Replaced}
+use Rattle.wt_regions.specs.declared.weighs.Measure.{Measure}
 use Rattle.wt_regions.proofs.Moves.{lookup-append, lookup_entry-none, IsPermutation-pull}
 use Rattle.wt_regions.proofs.Apart.{apart, distinct_after, entry-from_lookup}
 use Rattle.wt_regions.proofs.Settled.{fresh_parts}
@@ -24,8 +25,8 @@ use Rattle.wt_regions.specs.Steps.{placed}
 use Rattle.wt_regions.specs.Moves.{IsPlaced}
 
 module _ {K V : Type 0} (eq : K → K → Bool) (laws : IsEquivalence eq) (same : (a b : K) → eq a b ≡ true → a ≡ b)
-    (weigh : V → ℕ) (f : K → ℕ) (now : ℕ) (k : K) (h : Held V) (c : Caps) (ws ps qs : List (Entry K V))
-    (law : IsPlaced eq weigh (lists_of c ws ps qs)) where
+    (measure : V → Measure) (f : K → ℕ) (now : ℕ) (k : K) (h : Held V) (c : Caps) (ws ps qs : List (Entry K V))
+    (law : IsPlaced eq measure (lists_of c ws ps qs)) where
   abbrev r : Lists K V
   r = lists_of c ws ps qs
 
@@ -76,7 +77,7 @@ module _ {K V : Type 0} (eq : K → K → Bool) (laws : IsEquivalence eq) (same 
     pub window-weight : weight_of (lists_of c (brought eq k (λ _. h) ws) ps qs) + g.weight ≡ weight_of r + h.weight
     window-weight =
         let t : touched eq k (λ _. h) r ≡ lists_of c (brought eq k (λ _. h) ws) ps qs = rw (entry-w) in
-        let w = replaced-weight eq laws weigh k 0 h c ws ps qs (k, g) law (where-w eq laws k ws ps qs (k, g) entry-w off-w.0 off-w.1) in
+        let w = replaced-weight eq laws measure k 0 h c ws ps qs (k, g) law (where-w eq laws k ws ps qs (k, g) entry-w off-w.0 off-w.1) in
         weighed (touched eq k (λ _. h) r) (lists_of c (brought eq k (λ _. h) ws) ps qs) g.weight t w
 
   -- ---- in probation
@@ -101,7 +102,7 @@ module _ {K V : Type 0} (eq : K → K → Bool) (laws : IsEquivalence eq) (same 
 
     pub probation-weight : weight_of (touched eq k (λ _. h) r) + g.weight ≡ weight_of r + h.weight
     probation-weight =
-        let w = replaced-weight eq laws weigh k 0 h c ws ps qs (k, g) law (where-p eq laws k ws ps qs (k, g) off entry-p off-p) in
+        let w = replaced-weight eq laws measure k 0 h c ws ps qs (k, g) law (where-p eq laws k ws ps qs (k, g) off entry-p off-p) in
         weighed (touched eq k (λ _. h) r) (touched eq k (λ _. h) r) g.weight refl w
 
   -- ---- in protected
@@ -126,7 +127,7 @@ module _ {K V : Type 0} (eq : K → K → Bool) (laws : IsEquivalence eq) (same 
 
     pub protected-weight : weight_of (lists_of c ws ps (brought eq k (λ _. h) qs)) + g.weight ≡ weight_of r + h.weight
     protected-weight =
-        let w = replaced-weight eq laws weigh k 0 h c ws ps qs (k, g) law (where-q eq laws k ws ps qs (k, g) off offp entry-q) in
+        let w = replaced-weight eq laws measure k 0 h c ws ps qs (k, g) law (where-q eq laws k ws ps qs (k, g) off offp entry-q) in
         weighed (touched eq k (λ _. h) r) (lists_of c ws ps (brought eq k (λ _. h) qs)) g.weight touched-q w
 
   -- ---- an expired one below window
@@ -142,7 +143,7 @@ module _ {K V : Type 0} (eq : K → K → Bool) (laws : IsEquivalence eq) (same 
     past_by = rw (lookup-append (eq k) ws (ps ++ qs), off, at, is)
 
     any : settled (λ _. 0) now (k, h) (without eq k r) ≡ settled f now (k, h) (without eq k r)
-    any = past-any eq laws weigh (λ _. 0) f now k h c ws ps qs law off on
+    any = past-any eq laws measure (λ _. 0) f now k h c ws ps qs law off on
 
     pub past-in-lists : (settled (λ _. 0) now (k, h) (without eq k r)).0 ≡ outcome.0
     past-in-lists = ap (λ (p : Lists K V × List (Notice K V)). p.0) any ∙ sym (ap (λ (p : Lists K V × List (Notice K V)). p.0) past_by)

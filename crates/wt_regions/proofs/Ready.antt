@@ -17,6 +17,7 @@ use Rattle.wt_regions.specs.declared.notices.Cause.{Cause}
 use Rattle.wt_regions.specs.declared.notices.Cause.TheVariants.{Expired, Replaced}
 use Rattle.wt_regions.specs.declared.settle.Fate.{Fate}
 use Rattle.wt_regions.specs.declared.settle.Fate.TheVariants.{Leaves, Enters, Ousts}
+use Rattle.wt_regions.specs.declared.weighs.Measure.{Measure}
 use Rattle.wt_regions.proofs.Moves.{IsPermutation-pull, lookup_entry-none, promoted-moves-all, promoted_so}
 use Rattle.wt_regions.proofs.Apart.{no_last_none, apart, room_for, lookup-congr}
 use Rattle.wt_regions.proofs.Sound.{loses-below}
@@ -24,7 +25,7 @@ use Rattle.wt_regions.proofs.Settled.{IsSound, sound-moves, sound-loses, sound-n
 use Rattle.wt_regions.proofs.Weights.{weights-cons, weights-moves}
 use Rattle.wt_regions.proofs.First.{first-all_but_last, none-drop, others-own, others-none}
 use Rattle.wt_regions.proofs.Without.{Where, where-is, where-same, without-perm, without-fresh, without-placed, without-length, remove-none}
-use Rattle.wt_regions.specs.Lists.{Entry, Lists, all_entries, without, all_but_last, is_expired, lists_of, main_cap, notice, protected_cap, weights}
+use Rattle.wt_regions.specs.Lists.{Entry, Lists, all_entries, without, all_but_last, is_expired, lists_of, main_cap, notice, protected_cap, weights, measured, lasting}
 use Rattle.wt_regions.specs.Touch.{promoted, touched}
 use Rattle.wt_regions.specs.Settle.{by_fate, fate, settled}
 use Rattle.wt_regions.specs.Steps.{placed}
@@ -71,10 +72,10 @@ module _ {K V : Type 0} where
       window_at e r (nat_le (length (e ∷ r.window)) r.caps.window) (last_entry (e ∷ r.window))
       (λ c. fate estimate now r.caps c r.probation r.protected) refl pos
 
-module _ {K V : Type 0} (eq : K → K → Bool) (laws : IsEquivalence eq) (weigh : V → ℕ) (k : K) (b : ℕ) where
+module _ {K V : Type 0} (eq : K → K → Bool) (laws : IsEquivalence eq) (measure : V → Measure) (k : K) (b : ℕ) where
   -- what trim takes over: n entries were there
   pub record IsReady (c : Caps) (n : ℕ) (s : Lists K V × List (Notice K V)) : Type 0 where
-    pub placed : IsPlaced eq weigh s.0
+    pub placed : IsPlaced eq measure s.0
     pub first : IsFirst eq k s.0
     pub others : others eq k (all_entries s.0) + length s.1 ≤ n
     pub light : All (Light eq k b) (all_entries s.0)
@@ -93,7 +94,7 @@ module _ {K V : Type 0} (eq : K → K → Bool) (laws : IsEquivalence eq) (weigh
 
   settled_at : (e : Entry K V) (c : Caps) (n : ℕ) (start ws : List (Entry K V)) (s : Lists K V × List (Notice K V))
       → s.0.window ≡ e ∷ ws → eq k e.0 ≡ true → All (Light eq k b) start
-      → IsSettled eq laws weigh (Light eq k b) start (suc n) c s → IsReady c n s
+      → IsSettled eq laws measure (Light eq k b) start (suc n) c s → IsReady c n s
   settled_at e c n start ws s is own l live_of =
       let d : IsDistinct eq (keys_of (((e ∷ ws) ++ (s.0.probation ++ s.0.protected)))) = rw is at live_of.placed.distinct in
       let f : IsFirst eq k (lists_of s.0.caps (e ∷ ws) s.0.probation s.0.protected) =
@@ -113,13 +114,13 @@ module _ {K V : Type 0} (eq : K → K → Bool) (laws : IsEquivalence eq) (weigh
       }
 
   pub settled-ready : (estimate : K → ℕ) (now : ℕ) (e : Entry K V) (r : Lists K V) → eq k e.0 ≡ true
-      → IsPlaced eq weigh r → lookup (eq k) (all_entries r) ≡ None → lookup (eq e.0) (all_entries r) ≡ None
-      → e.1.weight ≡ weigh e.1.value → e.1.weight ≤ b → IsReady r.caps (length (all_entries r)) (settled estimate now e r)
+      → IsPlaced eq measure r → lookup (eq k) (all_entries r) ≡ None → lookup (eq e.0) (all_entries r) ≡ None
+      → measured e.1 ≡ measure e.1.value → e.1.weight ≤ b → IsReady r.caps (length (all_entries r)) (settled estimate now e r)
   settled-ready estimate now e r own law fresh fresh' w low =
       let first = settled-window estimate now e r law.fit.some_window in
       settled_at e r.caps (length (all_entries r)) (e ∷ all_entries r) first.0 (settled estimate now e r) first.1 own
       (All-cons (Light eq k b) e (all_entries r) (λ _. low) (light-none eq k b (all_entries r) fresh))
-      (settled-kept eq laws weigh (Light eq k b) estimate now r e law fresh' w)
+      (settled-kept eq laws measure (Light eq k b) estimate now r e law fresh' w)
 
   -- where promote puts an entry
   promoted-first-0 : (c : Caps) (e : Entry K V) (ps qs : List (Entry K V)) (x : Bool) (o : Option (Entry K V))
@@ -141,7 +142,7 @@ module _ {K V : Type 0} (eq : K → K → Bool) (laws : IsEquivalence eq) (weigh
   promoted-fits c e ps qs false t None l h = absurd (no_last_none e qs l)
   promoted-fits c e ps qs false t (Some l') l h = let n = length-take (length (e ∷ qs) - 1) (e ∷ qs) in omega (arith, n)
 
-  module _ (h : Held V) (c : Caps) (ws ps qs : List (Entry K V)) (o : Entry K V) (law : IsPlaced eq weigh (lists_of c ws ps qs)) where
+  module _ (h : Held V) (c : Caps) (ws ps qs : List (Entry K V)) (o : Entry K V) (law : IsPlaced eq measure (lists_of c ws ps qs)) where
     rest : List (Entry K V)
     rest = all_entries (without eq k (lists_of c ws ps qs))
 
@@ -194,7 +195,7 @@ module _ {K V : Type 0} (eq : K → K → Bool) (laws : IsEquivalence eq) (weigh
         (IsPermutation-append_right ws ((o.0, h) ∷ (remove_entry (eq k) ps ++ qs)) (q0 ++ q1)
         (promoted-moves-all c (o.0, h) (remove_entry (eq k) ps) qs)))
     touched-perm (inr (inr w)) = rw (at-protected w.0 w.1 w.2, remove-none (eq k) ws w.0, remove-none (eq k) ps w.1)
-        (IsPermutation-sym _ _ (loses-below eq laws (λ _. 0) (o.0, h) ws (ps ++ ((o.0, h) ∷ remove_entry (eq k) qs))
+        (IsPermutation-sym _ _ (loses-below eq laws (λ _. lasting 0) (o.0, h) ws (ps ++ ((o.0, h) ∷ remove_entry (eq k) qs))
         (ps ++ remove_entry (eq k) qs) (IsPermutation-middle ps (o.0, h) (remove_entry (eq k) qs))))
 
     touched-caps : Where eq laws k ws ps qs o → replaced.caps ≡ c
@@ -242,7 +243,7 @@ module _ {K V : Type 0} (eq : K → K → Bool) (laws : IsEquivalence eq) (weigh
     own-fresh own = sym (lookup-congr eq laws k o.0 own rest) ∙ fresh
 
     -- a value that takes the place of another
-    pub replaced-ready : (why : Cause) → Where eq laws k ws ps qs o → h.weight ≡ weigh h.value → h.weight ≤ b
+    pub replaced-ready : (why : Cause) → Where eq laws k ws ps qs o → measured h ≡ measure h.value → h.weight ≤ b
         → (old : Held V) → IsReady c (length (ws ++ (ps ++ qs))) (replaced, notice why (k, old) ∷ [])
     unfolding rest
     replaced-ready why at w low old =
@@ -251,10 +252,10 @@ module _ {K V : Type 0} (eq : K → K → Bool) (laws : IsEquivalence eq) (weigh
         let same = touched-caps at in
         let p = touched-perm at in
         let q = without-perm eq laws k c ws ps qs o at in
-        let sound : IsSound eq laws weigh (all_entries replaced) = sound-moves eq laws weigh ((o.0, h) ∷ rest) (all_entries replaced) p
-        (sound-new eq laws weigh (o.0, h) rest (own-fresh own) w
-        (sound-loses eq laws weigh o (ws ++ (ps ++ qs)) rest q
-        (record { distinct = law.distinct; weights = law.weights }))) in
+        let sound : IsSound eq laws measure (all_entries replaced) = sound-moves eq laws measure ((o.0, h) ∷ rest) (all_entries replaced) p
+        (sound-new eq laws measure (o.0, h) rest (own-fresh own) w
+        (sound-loses eq laws measure o (ws ++ (ps ++ qs)) rest q
+        (record { distinct = law.distinct; measures = law.measures }))) in
         let n = length_permutation (ws ++ (ps ++ qs)) (o ∷ rest) q in
         let t : others eq k (all_entries replaced) ≡ others eq k ((o.0, h) ∷ rest) =
         sum_by-IsPermutation (λ (e : Entry K V). cond (eq k e.0) 0 1) ((o.0, h) ∷ rest) (all_entries replaced) p in
@@ -267,7 +268,7 @@ module _ {K V : Type 0} (eq : K → K → Bool) (laws : IsEquivalence eq) (weigh
             protected =
                 rw same f.1;
             main_part = rw same f.2;
-            weights = sound.weights;
+            measures = sound.measures;
           };
           first = touched-first at;
           others = omega (arith, n, t, u);
@@ -289,7 +290,7 @@ module _ {K V : Type 0} (eq : K → K → Bool) (laws : IsEquivalence eq) (weigh
   later c n m old s h t = record { placed = t.placed; first = t.first; others = omega (arith, h, t.others); light = t.light; caps = t.caps }
 
   module _ (estimate : K → ℕ) (now : ℕ) (h : Held V) (c : Caps) (ws ps qs : List (Entry K V))
-      (law : IsPlaced eq weigh (lists_of c ws ps qs)) (w : h.weight ≡ weigh h.value) (low : h.weight ≤ b) where
+      (law : IsPlaced eq measure (lists_of c ws ps qs)) (w : measured h ≡ measure h.value) (low : h.weight ≤ b) where
     some-ready : (g : Held V) (x : Bool) → lookup (eq k) (ws ++ (ps ++ qs)) ≡ Some g
         → IsReady c (length (ws ++ (ps ++ qs)))
         (cond x (after_notice (notice Expired (k, g) ∷ [])
@@ -302,7 +303,7 @@ module _ {K V : Type 0} (eq : K → K → Bool) (laws : IsEquivalence eq) (weigh
         (settled estimate now (k, h) (without eq k (lists_of c ws ps qs)))
         (without-length eq laws k c ws ps qs at.0 at.2)
         (settled-ready estimate now (k, h) (without eq k (lists_of c ws ps qs)) (laws.refl k)
-        (without-placed eq laws k weigh c ws ps qs at.0 at.2 law) n n w low)
+        (without-placed eq laws k measure c ws ps qs at.0 at.2 law) n n w low)
     some-ready g false is =
         let at = where-is eq laws k ws ps qs g law.distinct is in
         replaced-ready h c ws ps qs at.0 law Replaced at.2 w low g

@@ -17,11 +17,12 @@ use Rattle.wt_regions.specs.declared.notices.Cause.{Cause}
 use Rattle.wt_regions.specs.declared.notices.Cause.TheVariants.{Expired, Size}
 use Rattle.wt_regions.specs.declared.settle.Fate.{Fate}
 use Rattle.wt_regions.specs.declared.settle.Fate.TheVariants.{Leaves, Enters, Ousts}
+use Rattle.wt_regions.specs.declared.weighs.Measure.{Measure}
 use Rattle.wt_regions.proofs.Moves.{IsPermutation-last}
 use Rattle.wt_regions.proofs.Apart.{no_last_none, distinct_after}
 use Rattle.wt_regions.proofs.Sound.{keys-all_but_last, weights-all_but_last, keys_none, loses-window, loses-below}
 use Rattle.wt_regions.proofs.Fates.{ousts_some}
-use Rattle.wt_regions.specs.Lists.{Entry, Lists, all_entries, all_but_last, lists_of, main_cap, notice, protected_cap}
+use Rattle.wt_regions.specs.Lists.{Entry, Lists, all_entries, all_but_last, lists_of, main_cap, notice, protected_cap, measured, lasting}
 use Rattle.wt_regions.specs.Settle.{by_fate, fate, settled}
 use Rattle.wt_regions.specs.Lawful.{IsFit}
 use Rattle.wt_regions.specs.Moves.{IsPlaced}
@@ -57,31 +58,31 @@ module _ {K V : Type 0} where
   all_but_last-length [] v h = cc
   all_but_last-length (x ∷ xs) v h = let n = length-take (length (x ∷ xs) - 1) (x ∷ xs) in omega (arith, n)
 
-  module _ (eq : K → K → Bool) (laws : IsEquivalence eq) (weigh : V → ℕ) where
+  module _ (eq : K → K → Bool) (laws : IsEquivalence eq) (measure : V → Measure) where
     -- keys once and weights right
     pub record IsSound (es : List (Entry K V)) : Type 0 where
       pub distinct : IsDistinct eq (keys_of es)
-      pub weights : All (λ (e : Entry K V). e.1.weight ≡ weigh e.1.value) es
+      pub measures : All (λ (e : Entry K V). measured e.1 ≡ measure e.1.value) es
 
     pub sound-moves : (es fs : List (Entry K V)) → IsPermutation es fs → IsSound es → IsSound fs
     sound-moves es fs h s = record {
       distinct = IsDistinct-IsPermutation eq laws.symm (keys_of es) (keys_of fs)
           (IsPermutation-map (λ (e : Entry K V). e.0) es fs (h)) s.distinct;
-      weights = All-permutation (λ (e : Entry K V). e.1.weight ≡ weigh e.1.value) es fs (h) s.weights;
+      measures = All-permutation (λ (e : Entry K V). measured e.1 ≡ measure e.1.value) es fs (h) s.measures;
     }
 
     pub sound-loses : (l : Entry K V) (es fs : List (Entry K V)) → IsPermutation es (l ∷ fs) → IsSound es → IsSound fs
     sound-loses l es fs h s = record {
-      distinct = keys-all_but_last eq laws weigh l es fs h s.distinct;
-      weights =
-          weights-all_but_last eq laws weigh l es fs h s.weights;
+      distinct = keys-all_but_last eq laws measure l es fs h s.distinct;
+      measures =
+          weights-all_but_last eq laws measure l es fs h s.measures;
     }
 
-    pub sound-new : (e : Entry K V) (es : List (Entry K V)) → lookup (eq e.0) es ≡ None → e.1.weight ≡ weigh e.1.value
+    pub sound-new : (e : Entry K V) (es : List (Entry K V)) → lookup (eq e.0) es ≡ None → measured e.1 ≡ measure e.1.value
         → IsSound es → IsSound (e ∷ es)
     sound-new e es n w s = record {
-      distinct = IsDistinct-cons eq e.0 (keys_of es) (keys_none eq laws weigh e.0 es n) s.distinct;
-      weights = All-cons (λ (e : Entry K V). e.1.weight ≡ weigh e.1.value) e es w s.weights;
+      distinct = IsDistinct-cons eq e.0 (keys_of es) (keys_none eq laws measure e.0 es n) s.distinct;
+      measures = All-cons (λ (e : Entry K V). measured e.1 ≡ measure e.1.value) e es w s.measures;
     }
 
     pub distinct-comm : (xs ys : List (Entry K V)) → IsDistinct eq (keys_of ((xs ++ ys))) → IsDistinct eq (keys_of ((ys ++ xs)))
@@ -92,7 +93,7 @@ module _ {K V : Type 0} where
     pub record IsSettled (P : Entry K V → Type 0) (start : List (Entry K V)) (n : ℕ) (c : Caps)
         (s : Lists K V × List (Notice K V)) : Type 0 where
       pub each : All P start → All P (all_entries s.0)
-      pub placed : IsPlaced eq weigh s.0
+      pub placed : IsPlaced eq measure s.0
       pub count : length (all_entries s.0) + length s.1 ≡ n
       pub few : length s.1 ≤ 1
       pub caps : s.0.caps ≡ c
@@ -107,18 +108,18 @@ module _ {K V : Type 0} where
       given (Leaves why) is =
           let n = all_but_last-length ws l last in
           let s = sound-loses l (ws ++ (ps ++ qs)) (all_but_last ws ++ (ps ++ qs))
-          (loses-window eq laws weigh l ws (ps ++ qs) (IsPermutation-last ws l last)) sound in
+          (loses-window eq laws measure l ws (ps ++ qs) (IsPermutation-last ws l last)) sound in
           record {
             each = λ a. All-tail P l (all_but_last ws ++ (ps ++ qs))
                 (All-permutation P (ws ++ (ps ++ qs)) (l ∷ (all_but_last ws ++ (ps ++ qs)))
-                (loses-window eq laws weigh l ws (ps ++ qs) (IsPermutation-last ws l last)) a);
+                (loses-window eq laws measure l ws (ps ++ qs) (IsPermutation-last ws l last)) a);
             placed = record {
               fit = fit;
               distinct = s.distinct;
               window = omega (arith, n);
               protected = q;
               main_part = m;
-              weights = s.weights;
+              measures = s.measures;
             };
             count = omega (arith, n, length-append ws (ps ++ qs), length-append (all_but_last ws) (ps ++ qs));
             few = omega arith;
@@ -130,7 +131,7 @@ module _ {K V : Type 0} where
           let p : IsPermutation (ws ++ (ps ++ qs)) (all_but_last ws ++ ((l ∷ ps) ++ qs)) =
           IsPermutation-trans (ws ++ (ps ++ qs)) (l ∷ (all_but_last ws ++ (ps ++ qs)))
           (all_but_last ws ++ ((l ∷ ps) ++ qs))
-          (loses-window eq laws weigh l ws (ps ++ qs) (IsPermutation-last ws l last))
+          (loses-window eq laws measure l ws (ps ++ qs) (IsPermutation-last ws l last))
           (IsPermutation-sym _ _ (IsPermutation-middle (all_but_last ws) l (ps ++ qs))) in
           let s = sound-moves (ws ++ (ps ++ qs)) (all_but_last ws ++ ((l ∷ ps) ++ qs)) p sound in
           record {
@@ -142,7 +143,7 @@ module _ {K V : Type 0} where
               protected = q;
               main_part =
                   room_of (length ps) (length qs) (main_cap c) t;
-              weights = s.weights;
+              measures = s.measures;
             };
             count = omega (arith, length_permutation (ws ++ (ps ++ qs)) (all_but_last ws ++ ((l ∷ ps) ++ qs)) p);
             few = omega arith;
@@ -156,7 +157,7 @@ module _ {K V : Type 0} where
           let p : IsPermutation (ws ++ (ps ++ qs)) (all_but_last ws ++ ((l ∷ ps) ++ qs)) =
           IsPermutation-trans (ws ++ (ps ++ qs)) (l ∷ (all_but_last ws ++ (ps ++ qs)))
           (all_but_last ws ++ ((l ∷ ps) ++ qs))
-          (loses-window eq laws weigh l ws (ps ++ qs) (IsPermutation-last ws l last))
+          (loses-window eq laws measure l ws (ps ++ qs) (IsPermutation-last ws l last))
           (IsPermutation-sym _ _ (IsPermutation-middle (all_but_last ws) l (ps ++ qs))) in
           let without : IsPermutation (l ∷ ps) (v.0 ∷ (l ∷ all_but_last ps)) =
           IsPermutation-trans (l ∷ ps) (l ∷ v.0 ∷ all_but_last ps) (v.0 ∷ l ∷ all_but_last ps)
@@ -164,7 +165,7 @@ module _ {K V : Type 0} where
           (IsPermutation-middle (l ∷ []) v.0 (all_but_last ps)) in
           let out : IsPermutation (all_but_last ws ++ ((l ∷ ps) ++ qs))
           (v.0 ∷ (all_but_last ws ++ ((l ∷ all_but_last ps) ++ qs))) =
-          loses-below eq laws weigh v.0 (all_but_last ws) ((l ∷ ps) ++ qs) ((l ∷ all_but_last ps) ++ qs)
+          loses-below eq laws measure v.0 (all_but_last ws) ((l ∷ ps) ++ qs) ((l ∷ all_but_last ps) ++ qs)
           (IsPermutation-append_left qs (l ∷ ps) (v.0 ∷ l ∷ all_but_last ps) without) in
           let s = sound-loses v.0 (all_but_last ws ++ ((l ∷ ps) ++ qs))
           (all_but_last ws ++ ((l ∷ all_but_last ps) ++ qs)) out
@@ -182,7 +183,7 @@ module _ {K V : Type 0} where
               protected = q;
               main_part =
                   omega (arith, k);
-              weights = s.weights;
+              measures = s.measures;
             };
             count = omega (
               arith,
@@ -202,10 +203,10 @@ module _ {K V : Type 0} where
     in_by a b h = search (rules, arith)
 
     module _ (P : Entry K V → Type 0) (estimate : K → ℕ) (now : ℕ) (r : Lists K V) (e : Entry K V)
-        (law : IsPlaced eq weigh r) (fresh : lookup (eq e.0) (all_entries r) ≡ None)
-        (w : e.1.weight ≡ weigh e.1.value) where
+        (law : IsPlaced eq measure r) (fresh : lookup (eq e.0) (all_entries r) ≡ None)
+        (w : measured e.1 ≡ measure e.1.value) where
       grown-sound : IsSound ((e ∷ r.window) ++ (r.probation ++ r.protected))
-      grown-sound = sound-new e (all_entries r) fresh w (record { distinct = law.distinct; weights = law.weights })
+      grown-sound = sound-new e (all_entries r) fresh w (record { distinct = law.distinct; measures = law.measures })
 
       kept_at : (b : Bool) → nat_le (length (e ∷ r.window)) r.caps.window ≡ b → (o : Option (Entry K V)) → last_entry (e ∷ r.window) ≡ o
           → IsSettled P (e ∷ all_entries r) (suc (length (all_entries r))) r.caps
@@ -221,7 +222,7 @@ module _ {K V : Type 0} where
               in_by (length (e ∷ r.window)) r.caps.window le;
           protected = law.protected;
           main_part = law.main_part;
-          weights = grown-sound.weights;
+          measures = grown-sound.measures;
         };
         count = omega arith;
         few = omega arith;
@@ -266,4 +267,4 @@ pub distinct_turned : {K V : Type 0} (eq : K → K → Bool) (laws : IsEquivalen
     → IsDistinct eq (keys_of ((ws ++ (ps ++ qs)))) → IsDistinct eq (keys_of ((ps ++ ws)))
 distinct_turned {K = K} {V = V} eq laws ws ps qs d =
     let a = subst (λ (es : List (Entry K V)). IsDistinct eq (keys_of es)) (sym (append_assoc ws ps qs)) d in
-    distinct-comm eq laws (λ _. 0) ws ps (distinct_after eq qs (ws ++ ps) (distinct-comm eq laws (λ _. 0) (ws ++ ps) qs a))
+    distinct-comm eq laws (λ _. lasting 0) ws ps (distinct_after eq qs (ws ++ ps) (distinct-comm eq laws (λ _. lasting 0) (ws ++ ps) qs a))

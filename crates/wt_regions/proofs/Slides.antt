@@ -1,5 +1,5 @@
 -- What a slide keeps.
-use Rattle.std.proofs.Common.{◌≡◌, ℕ, suc, ◌+◌, ◌-◌, ◌*◌, ◌/◌, ◌<◌, ◌≤◌, Bool, true, false, List, [], ◌∷◌, ◌++◌, length, Option, Some, None, refl, arith, rules, length-append}
+use Rattle.std.proofs.Common.{◌≡◌, ℕ, suc, ◌+◌, ◌-◌, ◌<◌, ◌≤◌, Bool, true, false, List, [], ◌∷◌, ◌++◌, length, Option, Some, None, refl, arith, rules, length-append}
 use Rattle.std.specs.Prelude.{nat_le, nat_lt, if◌then◌else◌, IfSome}
 use Rattle.std.specs.List.{IsDistinct}
 use Rattle.std.specs.List.Sorted.{IsPermutation}
@@ -8,12 +8,12 @@ use Rattle.std.specs.Cmp.{IsEquivalence}
 use Rattle.std.proofs.lemmas.List.{length-take}
 use Rattle.std.proofs.lemmas.List.Sorted.{IsPermutation-refl, IsPermutation-sym, IsPermutation-trans, IsPermutation-middle, IsPermutation-append_left, IsPermutation-append_right, length_permutation}
 use Rattle.lru.specs.LruCache.{last_entry}
-use Rattle.wt_regions.specs.declared.caps.Caps.{Caps}
+use Rattle.wt_regions.specs.declared.weighs.Measure.{Measure}
 use Rattle.wt_regions.proofs.Moves.{IsPermutation-last}
 use Rattle.wt_regions.proofs.Apart.{last_apart, last_below, no_last}
 use Rattle.wt_regions.proofs.Settled.{IsSound, sound-moves}
 use Rattle.wt_regions.proofs.Weights.{weights-moves}
-use Rattle.wt_regions.specs.Lists.{Entry, Lists, all_entries, all_but_last, lists_of, main_cap, protected_cap, weight_of}
+use Rattle.wt_regions.specs.Lists.{Entry, Lists, all_entries, all_but_last, main_cap, protected_cap, weight_of}
 use Rattle.wt_regions.specs.Lawful.{IsFit, IsLawful}
 use Rattle.wt_regions.specs.Slide.{wider_caps, narrower_caps, last_past, with_first, less_last, narrowed, widened, slid}
 
@@ -153,14 +153,14 @@ module _ {K V : Type 0} where
     first-some None es h = h
     first-some (Some e) es h = omega arith
 
-    module _ (eq : K → K → Bool) (laws : IsEquivalence eq) (weigh : V → ℕ) (law : IsLawful eq weigh r) where
+    module _ (eq : K → K → Bool) (laws : IsEquivalence eq) (measure : V → Measure) (law : IsLawful eq measure r) where
       lawful-slid : (s : Lists K V) → IsPermutation (all_entries r) (all_entries s) → IsFit s.caps → s.caps.bound ≡ r.caps.bound
           → length s.window ≤ s.caps.window → length s.protected ≤ protected_cap s.caps
           → length s.probation + length s.protected ≤ main_cap s.caps
-          → IsLawful eq weigh s × (weight_of s ≡ weight_of r)
+          → IsLawful eq measure s × (weight_of s ≡ weight_of r)
       lawful-slid s moved fit same w q m =
-          let sound : IsSound eq laws weigh (all_entries s) = sound-moves eq laws weigh (all_entries r) (all_entries s) moved
-          (record { distinct = law.distinct; weights = law.weights }) in
+          let sound : IsSound eq laws measure (all_entries s) = sound-moves eq laws measure (all_entries r) (all_entries s) moved
+          (record { distinct = law.distinct; measures = law.measures }) in
           let heavy : weight_of s ≡ weight_of r = weights-moves (all_entries r) (all_entries s) moved in (
             record {
               fit = fit;
@@ -168,13 +168,13 @@ module _ {K V : Type 0} where
               window = w;
               protected = q;
               main_part = m;
-              weights = sound.weights;
+              measures = sound.measures;
               bound = rw (heavy, same) law.bound;
             },
             heavy,
           )
 
-      narrowed-lawful : 1 < r.caps.window → IsLawful eq weigh (narrowed r) × (weight_of (narrowed r) ≡ weight_of r)
+      narrowed-lawful : 1 < r.caps.window → IsLawful eq measure (narrowed r) × (weight_of (narrowed r) ≡ weight_of r)
       narrowed-lawful some =
           let first = first-length (last_past (narrower_caps r.caps).window (length r.window) r.window) r.probation in
           lawful-slid (narrowed r) narrowed-moves
@@ -187,7 +187,7 @@ module _ {K V : Type 0} where
           refl (past-length (narrower_caps r.caps).window r.window (omega (arith, law.window, some)))
           (omega (arith, law.protected)) (omega (arith, law.main_part, law.fit.window, some, first))
 
-      widened-lawful : r.caps.window < r.caps.entries → IsLawful eq weigh (widened r) × (weight_of (widened r) ≡ weight_of r)
+      widened-lawful : r.caps.window < r.caps.entries → IsLawful eq measure (widened r) × (weight_of (widened r) ≡ weight_of r)
       widened-lawful some =
           let first = first-length given r.window in
           let low : length r.protected ≤ suc (protected_cap (wider_caps r.caps)) = omega (arith, law.protected) in
@@ -214,14 +214,14 @@ module _ {K V : Type 0} where
 
       -- a slide keeps regions lawful, and what they weigh
       slid-lawful_at : (wider x : Bool) → (if wider then nat_lt r.caps.window r.caps.entries else nat_lt 1 r.caps.window) ≡ x
-          → IsLawful eq weigh (if x then (if wider then widened r else narrowed r) else r)
+          → IsLawful eq measure (if x then (if wider then widened r else narrowed r) else r)
           × (weight_of (if x then (if wider then widened r else narrowed r) else r) ≡ weight_of r)
       slid-lawful_at true true h = widened-lawful (below-is r.caps.window r.caps.entries h)
       slid-lawful_at false true h = narrowed-lawful (below-is 1 r.caps.window h)
       slid-lawful_at true false h = (law, refl)
       slid-lawful_at false false h = (law, refl)
 
-      pub slid-lawful : (wider : Bool) → IsLawful eq weigh (slid wider r) × (weight_of (slid wider r) ≡ weight_of r)
+      pub slid-lawful : (wider : Bool) → IsLawful eq measure (slid wider r) × (weight_of (slid wider r) ≡ weight_of r)
       slid-lawful true = slid-lawful_at true (nat_lt r.caps.window r.caps.entries) refl
       slid-lawful false = slid-lawful_at false (nat_lt 1 r.caps.window) refl
 

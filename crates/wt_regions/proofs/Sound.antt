@@ -17,12 +17,13 @@ use Rattle.wt_regions.proofs.Moves.{IsPermutation-last}
 use Rattle.wt_regions.proofs.Apart.{no_last}
 use Rattle.wt_regions.proofs.Loop.{one_less, out_one}
 use Rattle.wt_regions.specs.declared.notices.Cause.TheVariants.{Size}
-use Rattle.wt_regions.specs.Lists.{Entry, Lists, all_entries, all_but_last, lists_of, weight_of}
+use Rattle.wt_regions.specs.declared.weighs.Measure.{Measure}
+use Rattle.wt_regions.specs.Lists.{Entry, Lists, all_entries, all_but_last, lists_of, weight_of, measured}
 use Rattle.wt_regions.specs.Settle.{holds_other, last_told, trimmed_once, trimmed_within}
 use Rattle.wt_regions.specs.Lawful.{IsFit, IsLawful}
 use Rattle.wt_regions.specs.Moves.{IsPlaced}
 
-module _ {K V : Type 0} (eq : K → K → Bool) (laws : IsEquivalence eq) (weigh : V → ℕ) where
+module _ {K V : Type 0} (eq : K → K → Bool) (laws : IsEquivalence eq) (measure : V → Measure) where
   pub keys-all_but_last : (x : Entry K V) (es fs : List (Entry K V)) → IsPermutation es (x ∷ fs)
       → IsDistinct eq (keys_of es) → IsDistinct eq (keys_of fs)
   keys-all_but_last x es fs h d = IsDistinct-tail eq x.0 (keys_of fs)
@@ -30,11 +31,11 @@ module _ {K V : Type 0} (eq : K → K → Bool) (laws : IsEquivalence eq) (weigh
       (IsPermutation-map (λ (e : Entry K V). e.0) es (x ∷ fs) (h)) d)
 
   pub weights-all_but_last : (x : Entry K V) (es fs : List (Entry K V)) → IsPermutation es (x ∷ fs)
-      → All (λ (e : Entry K V). e.1.weight ≡ weigh e.1.value) es
-      → All (λ (e : Entry K V). e.1.weight ≡ weigh e.1.value) fs
+      → All (λ (e : Entry K V). measured e.1 ≡ measure e.1.value) es
+      → All (λ (e : Entry K V). measured e.1 ≡ measure e.1.value) fs
   weights-all_but_last x es fs h d =
-      All-tail (λ (e : Entry K V). e.1.weight ≡ weigh e.1.value) x fs
-      (All-permutation (λ (e : Entry K V). e.1.weight ≡ weigh e.1.value) es (x ∷ fs) (h) d)
+      All-tail (λ (e : Entry K V). measured e.1 ≡ measure e.1.value) x fs
+      (All-permutation (λ (e : Entry K V). measured e.1 ≡ measure e.1.value) es (x ∷ fs) (h) d)
 
   pub keys_none : (k : K) (es : List (Entry K V)) → lookup (eq k) es ≡ None → AllByRecursion (λ y. eq k y ≡ false) (keys_of es)
   keys_none k [] h = tt
@@ -75,14 +76,14 @@ module _ {K V : Type 0} (eq : K → K → Bool) (laws : IsEquivalence eq) (weigh
 
   pub loses : (r s : Lists K V) (l : Entry K V) → s.caps ≡ r.caps → IsPermutation (all_entries r) (l ∷ all_entries s)
       → length s.window ≤ length r.window → length s.probation ≤ length r.probation
-      → length s.protected ≤ length r.protected → IsPlaced eq weigh r → IsPlaced eq weigh s
+      → length s.protected ≤ length r.protected → IsPlaced eq measure r → IsPlaced eq measure s
   loses r s l same h w p q law = record {
     fit = rw same law.fit;
     distinct = keys-all_but_last l (all_entries r) (all_entries s) h law.distinct;
     window = rw same (omega (arith, law.window));
     protected = rw same (omega (arith, law.protected));
     main_part = rw same (omega (arith, law.main_part));
-    weights = weights-all_but_last l (all_entries r) (all_entries s) h law.weights;
+    measures = weights-all_but_last l (all_entries r) (all_entries s) h law.measures;
   }
 
   module _ (k : K) where
@@ -92,31 +93,31 @@ module _ {K V : Type 0} (eq : K → K → Bool) (laws : IsEquivalence eq) (weigh
         → cond a (Some (lists_of c ws (all_but_last ps) qs, last_told Size ps))
         (cond b (Some (lists_of c ws ps (all_but_last qs), last_told Size qs))
         (cond d (Some (lists_of c (all_but_last ws) ps qs, last_told Size ws)) None)) ≡ Some one
-        → IsPlaced eq weigh (lists_of c ws ps qs) → IsPlaced eq weigh one.0
+        → IsPlaced eq measure (lists_of c ws ps qs) → IsPlaced eq measure one.0
     one_placed_at c ws ps qs true b d ha hb hd one h law =
         let is : (lists_of c ws (all_but_last ps) qs, last_told Size ps) ≡ one = cc in
         let l = all_but_last-of (λ e. not (eq k e.0)) ps ha in let n = out_one (λ e. not (eq k e.0)) ps ha in
-        subst (λ (p : Lists K V × List (Notice K V)). IsPlaced eq weigh p.0) is
+        subst (λ (p : Lists K V × List (Notice K V)). IsPlaced eq measure p.0) is
         (loses (lists_of c ws ps qs) (lists_of c ws (all_but_last ps) qs) l.0 refl
         (loses-below l.0 ws (ps ++ qs) (all_but_last ps ++ qs) (loses-window l.0 ps qs l.1)) (omega arith)
         (omega (arith, n.1)) (omega arith) law)
     one_placed_at c ws ps qs false true d ha hb hd one h law =
         let is : (lists_of c ws ps (all_but_last qs), last_told Size qs) ≡ one = cc in
         let l = all_but_last-of (λ e. not (eq k e.0)) qs hb in let n = out_one (λ e. not (eq k e.0)) qs hb in
-        subst (λ (p : Lists K V × List (Notice K V)). IsPlaced eq weigh p.0) is
+        subst (λ (p : Lists K V × List (Notice K V)). IsPlaced eq measure p.0) is
         (loses (lists_of c ws ps qs) (lists_of c ws ps (all_but_last qs)) l.0 refl
         (loses-below l.0 ws (ps ++ qs) (ps ++ all_but_last qs) (loses-below l.0 ps qs (all_but_last qs) l.1))
         (omega arith) (omega arith) (omega (arith, n.1)) law)
     one_placed_at c ws ps qs false false true ha hb hd one h law =
         let is : (lists_of c (all_but_last ws) ps qs, last_told Size ws) ≡ one = cc in
         let l = all_but_last-of (λ e. not (eq k e.0)) ws hd in let n = out_one (λ e. not (eq k e.0)) ws hd in
-        subst (λ (p : Lists K V × List (Notice K V)). IsPlaced eq weigh p.0) is
+        subst (λ (p : Lists K V × List (Notice K V)). IsPlaced eq measure p.0) is
         (loses (lists_of c ws ps qs) (lists_of c (all_but_last ws) ps qs) l.0 refl (loses-window l.0 ws (ps ++ qs) l.1)
         (omega (arith, n.1)) (omega arith) (omega arith) law)
     one_placed_at c ws ps qs false false false ha hb hd one h law = cc
 
     pub one_placed : (r : Lists K V) (one : Lists K V × List (Notice K V)) → trimmed_once eq k r ≡ Some one
-        → IsPlaced eq weigh r → IsPlaced eq weigh one.0
+        → IsPlaced eq measure r → IsPlaced eq measure one.0
     one_placed r one h law = one_placed_at r.caps r.window r.probation r.protected (holds_other eq k r.probation)
         (holds_other eq k r.protected) (holds_other eq k r.window) refl refl refl one h law
 
@@ -127,14 +128,14 @@ module _ {K V : Type 0} (eq : K → K → Bool) (laws : IsEquivalence eq) (weigh
 
     -- trim keeps the places
     trimmed-placed_at : (n : ℕ) (r : Lists K V) (b : Bool) (o : Option (Lists K V × List (Notice K V)))
-        → trimmed_once eq k r ≡ o → IsPlaced eq weigh r
-        → ((s : Lists K V) → IsPlaced eq weigh s → IsPlaced eq weigh (trimmed_within eq k n s).0)
-        → IsPlaced eq weigh (turned n r b o).0
+        → trimmed_once eq k r ≡ o → IsPlaced eq measure r
+        → ((s : Lists K V) → IsPlaced eq measure s → IsPlaced eq measure (trimmed_within eq k n s).0)
+        → IsPlaced eq measure (turned n r b o).0
     trimmed-placed_at n r true o h law more = law
     trimmed-placed_at n r false None h law more = law
     trimmed-placed_at n r false (Some one) h law more = more one.0 (one_placed r one h law)
 
-    pub trimmed-placed : (n : ℕ) (r : Lists K V) → IsPlaced eq weigh r → IsPlaced eq weigh (trimmed_within eq k n r).0
+    pub trimmed-placed : (n : ℕ) (r : Lists K V) → IsPlaced eq measure r → IsPlaced eq measure (trimmed_within eq k n r).0
     trimmed-placed zero r law = law
     trimmed-placed (suc n) r law = trimmed-placed_at n r (nat_le (weight_of r) r.caps.bound)
         (trimmed_once eq k r) refl law (trimmed-placed n)
@@ -150,15 +151,15 @@ module _ {K V : Type 0} (eq : K → K → Bool) (laws : IsEquivalence eq) (weigh
     trimmed-caps zero r = refl
     trimmed-caps (suc n) r = trimmed-caps_at n r (nat_le (weight_of r) r.caps.bound) (trimmed_once eq k r) refl (trimmed-caps n)
 
-pub empty-lawful : {K V : Type 0} (eq : K → K → Bool) (weigh : V → ℕ) (c : Caps) → IsFit c
-    → IsLawful eq weigh (lists_of {K = K} {V = V} c [] [] [])
+pub empty-lawful : {K V : Type 0} (eq : K → K → Bool) (measure : V → Measure) (c : Caps) → IsFit c
+    → IsLawful eq measure (lists_of {K = K} {V = V} c [] [] [])
 unfolding IsDistinct
-empty-lawful eq weigh c fit = record {
+empty-lawful eq measure c fit = record {
   fit = fit;
   distinct = tt;
   window = omega arith;
   protected = omega arith;
   main_part = omega arith;
-  weights = λ k d h. absurd (omega arith);
+  measures = λ k d h. absurd (omega arith);
   bound = omega arith;
 }

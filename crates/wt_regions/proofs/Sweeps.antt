@@ -17,7 +17,7 @@ use Rattle.wt_regions.proofs.Apart.{last_apart, no_last}
 use Rattle.wt_regions.proofs.Sound.{keys-all_but_last}
 use Rattle.wt_regions.proofs.Weights.{weights-moves, weights-cons}
 use Rattle.wt_regions.proofs.Loop.{appended-twice}
-use Rattle.wt_regions.specs.Lists.{Entry, all_but_last, is_expired, notice, weights}
+use Rattle.wt_regions.specs.Lists.{Entry, all_but_last, is_expired, notice, weights, lasting}
 use Rattle.wt_regions.specs.Steps.{expired_of, live_of, told_back}
 use Rattle.wt_regions.specs.Notices.{NoticeList, appended}
 
@@ -63,7 +63,7 @@ module _ {K V : Type 0} (eq : K → K → Bool) (laws : IsEquivalence eq) where
 
   distinct_all_but_last : (ys : List (Entry K V)) (x : Entry K V) → IsDistinct eq (keys_of (ys ++ x ∷ [])) → IsDistinct eq (keys_of ys)
   distinct_all_but_last ys x d =
-      keys-all_but_last eq laws (λ _. 0) x (ys ++ x ∷ []) ys (IsPermutation-to_front ys x) d
+      keys-all_but_last eq laws (λ _. lasting 0) x (ys ++ x ∷ []) ys (IsPermutation-to_front ys x) d
 
   distinct_turned : (ys : List (Entry K V)) (x : Entry K V) → IsDistinct eq (keys_of (ys ++ x ∷ [])) → IsDistinct eq (keys_of (x ∷ ys))
   distinct_turned ys x d = IsDistinct-IsPermutation eq laws.symm (keys_of (ys ++ x ∷ [])) (keys_of (x ∷ ys))

@@ -1,5 +1,5 @@
 -- What a touch keeps, region by region.
-use Rattle.std.proofs.Common.{◌≡◌, ℕ, ◌+◌, ◌-◌, ◌≤◌, Bool, true, false, List, ◌∷◌, ◌++◌, length, Option, Some, None, refl, sym, subst, ◌∙◌, arith, length-append}
+use Rattle.std.proofs.Common.{◌≡◌, ◌+◌, ◌-◌, ◌≤◌, Bool, true, false, List, ◌∷◌, ◌++◌, length, Option, Some, None, refl, sym, subst, ◌∙◌, arith, length-append}
 use Rattle.std.specs.Option.{option_map_or, is_some}
 use Rattle.std.specs.Map.{lookup, lookup_entry, remove_entry}
 use Rattle.std.specs.Prelude.{nat_lt}
@@ -8,6 +8,7 @@ use Rattle.std.proofs.lemmas.List.{length-take}
 use Rattle.lru.specs.LruCache.{LruCache, last_entry, put_entries}
 use Rattle.wt_regions.specs.declared.held.Held.{Held}
 use Rattle.wt_regions.specs.declared.caps.Caps.{Caps}
+use Rattle.wt_regions.specs.declared.weighs.Measure.{Measure}
 use Rattle.wt_regions.proofs.Moves.{bare, Moves, bring-moves, moves-left, moves-right, promote-brings, moves-length, lawful-moves, lookup_none-entry, lookup_entry-none, moves-refl, promoted_so}
 use Rattle.wt_regions.proofs.Apart.{room_for, no_last_none}
 use Rattle.wt_regions.specs.Lists.{Entry, Lists, lists_of, main_cap, protected_cap, weight_of}
@@ -61,7 +62,7 @@ module _ {K V : Type 0} (eq : K → K → Bool) (k : K) (f : Held V → Held V) 
       → touched eq k f (lists_of c ws ps qs) ≡ lists_of c ws ps (brought qs)
   touched-protected c ws ps qs n m = touched-protected_at c ws ps qs (lookup_entry (eq k) qs) refl n m
 
-  module _ (laws : IsEquivalence eq) (weigh : V → ℕ) (keeps : (e : Entry K V) → bare e ≡ bare (e.0, f e.1)) where
+  module _ (laws : IsEquivalence eq) (measure : V → Measure) (keeps : (e : Entry K V) → bare e ≡ bare (e.0, f e.1)) where
     brought-moves_at : (es : List (Entry K V)) (o : Option (Entry K V)) → lookup_entry (eq k) es ≡ o
         → Moves es (option_map_or (λ (e : Entry K V). (e.0, f e.1) ∷ remove_entry (eq k) es) o es)
     brought-moves_at es None h = moves-refl es
@@ -95,43 +96,43 @@ module _ {K V : Type 0} (eq : K → K → Bool) (k : K) (f : Held V → Held V) 
         promote-fits_at c (e.0, f e.1) (remove_entry (eq k) ps) qs (nat_lt (length qs) (protected_cap c)) refl
         (last_entry ((e.0, f e.1) ∷ qs)) refl h
 
-    probation-lawful : (c : Caps) (ws ps qs : List (Entry K V)) → IsLawful eq weigh (lists_of c ws ps qs)
-        → IsLawful eq weigh (lists_of c ws (promoted-0 c ps qs) (promoted-1 c ps qs))
+    probation-lawful : (c : Caps) (ws ps qs : List (Entry K V)) → IsLawful eq measure (lists_of c ws ps qs)
+        → IsLawful eq measure (lists_of c ws (promoted-0 c ps qs) (promoted-1 c ps qs))
         × (weight_of (lists_of c ws (promoted-0 c ps qs) (promoted-1 c ps qs)) ≡ weight_of (lists_of c ws ps qs))
     probation-lawful c ws ps qs law =
         let m = promoted-moves c ps qs in
         let n = moves-length (ps ++ qs) (promoted-0 c ps qs ++ promoted-1 c ps qs) m in
         let both : length (promoted-0 c ps qs) + length (promoted-1 c ps qs) ≡ length ps + length qs =
         sym (length-append (promoted-0 c ps qs) (promoted-1 c ps qs)) ∙ n ∙ length-append ps qs in
-        lawful-moves eq weigh laws (lists_of c ws ps qs) (lists_of c ws (promoted-0 c ps qs) (promoted-1 c ps qs)) refl
+        lawful-moves eq measure laws (lists_of c ws ps qs) (lists_of c ws (promoted-0 c ps qs) (promoted-1 c ps qs)) refl
         (moves-right eq k f keeps ws (ps ++ qs) (promoted-0 c ps qs ++ promoted-1 c ps qs) m)
         law.window (promoted-fits_at c ps qs (lookup_entry (eq k) ps) law.protected)
         (subst (λ n. n ≤ main_cap c) (sym both) law.main_part) law
 
-    window-lawful : (c : Caps) (ws ps qs : List (Entry K V)) → IsLawful eq weigh (lists_of c ws ps qs)
-        → IsLawful eq weigh (lists_of c (brought ws) ps qs) × (weight_of (lists_of c (brought ws) ps qs) ≡ weight_of (lists_of c ws ps qs))
+    window-lawful : (c : Caps) (ws ps qs : List (Entry K V)) → IsLawful eq measure (lists_of c ws ps qs)
+        → IsLawful eq measure (lists_of c (brought ws) ps qs) × (weight_of (lists_of c (brought ws) ps qs) ≡ weight_of (lists_of c ws ps qs))
     window-lawful c ws ps qs law =
         let m : Moves ws (brought ws) = brought-moves ws in
         let n = moves-length ws (brought ws) m in
-        lawful-moves eq weigh laws (lists_of c ws ps qs) (lists_of c (brought ws) ps qs) refl
+        lawful-moves eq measure laws (lists_of c ws ps qs) (lists_of c (brought ws) ps qs) refl
         (moves-left eq k f keeps (ps ++ qs) ws (brought ws) m)
         (rw n law.window) law.protected law.main_part law
 
-    protected-lawful : (c : Caps) (ws ps qs : List (Entry K V)) → IsLawful eq weigh (lists_of c ws ps qs)
-        → IsLawful eq weigh (lists_of c ws ps (brought qs)) × (weight_of (lists_of c ws ps (brought qs)) ≡ weight_of (lists_of c ws ps qs))
+    protected-lawful : (c : Caps) (ws ps qs : List (Entry K V)) → IsLawful eq measure (lists_of c ws ps qs)
+        → IsLawful eq measure (lists_of c ws ps (brought qs)) × (weight_of (lists_of c ws ps (brought qs)) ≡ weight_of (lists_of c ws ps qs))
     protected-lawful c ws ps qs law =
         let m : Moves qs (brought qs) = brought-moves qs in
         let n = moves-length qs (brought qs) m in
-        lawful-moves eq weigh laws (lists_of c ws ps qs) (lists_of c ws ps (brought qs)) refl
+        lawful-moves eq measure laws (lists_of c ws ps qs) (lists_of c ws ps (brought qs)) refl
         (moves-right eq k f keeps ws (ps ++ qs) (ps ++ brought qs) (moves-right eq k f keeps ps qs (brought qs) m))
         law.window (rw n law.protected) (rw n law.main_part) law
 
     -- what a touch keeps, wherever the entry is
     abbrev pub IsKept : Lists K V → Lists K V → Type 0
-    IsKept r s = IsLawful eq weigh s × (weight_of s ≡ weight_of r)
+    IsKept r s = IsLawful eq measure s × (weight_of s ≡ weight_of r)
 
     touched-kept_at : (c : Caps) (ws ps qs : List (Entry K V)) (ow op : Option (Held V)) → lookup (eq k) ws ≡ ow
-        → lookup (eq k) ps ≡ op → IsLawful eq weigh (lists_of c ws ps qs)
+        → lookup (eq k) ps ≡ op → IsLawful eq measure (lists_of c ws ps qs)
         → IsKept (lists_of c ws ps qs) (touched eq k f (lists_of c ws ps qs))
     touched-kept_at c ws ps qs (Some h) op iw ip law =
         let l = window-lawful c ws ps qs law in
@@ -143,7 +144,7 @@ module _ {K V : Type 0} (eq : K → K → Bool) (k : K) (f : Held V → Held V) 
         let l = protected-lawful c ws ps qs law in
         subst (IsKept (lists_of c ws ps qs)) (sym (touched-protected c ws ps qs iw ip)) l
 
-    pub touched-kept : (r : Lists K V) → IsLawful eq weigh r → IsKept r (touched eq k f r)
+    pub touched-kept : (r : Lists K V) → IsLawful eq measure r → IsKept r (touched eq k f r)
     touched-kept r law = touched-kept_at r.caps r.window r.probation r.protected (lookup (eq k) r.window)
         (lookup (eq k) r.probation) refl refl law
 

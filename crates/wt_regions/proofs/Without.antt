@@ -1,5 +1,5 @@
 -- The entry of a key taken out of the region that has it.
-use Rattle.std.proofs.Common.{◌≡◌, ◌⊎◌, inl, inr, ℕ, suc, ◌≤◌, Bool, true, false, cond, List, [], ◌∷◌, ◌++◌, length, Option, Some, None, refl, ap, arith}
+use Rattle.std.proofs.Common.{◌≡◌, ◌⊎◌, inl, inr, suc, ◌≤◌, Bool, true, false, cond, List, [], ◌∷◌, ◌++◌, length, Option, Some, None, refl, ap, arith}
 use Rattle.std.specs.List.{IsDistinct}
 use Rattle.std.specs.List.Sorted.{IsPermutation}
 use Rattle.std.specs.Map.{keys_of, lookup, lookup_entry, remove_entry}
@@ -8,11 +8,12 @@ use Rattle.std.proofs.lemmas.Map.{lookup-remove_entry}
 use Rattle.std.proofs.lemmas.List.Sorted.{IsPermutation-append_left, length_permutation}
 use Rattle.wt_regions.specs.declared.held.Held.{Held}
 use Rattle.wt_regions.specs.declared.caps.Caps.{Caps}
+use Rattle.wt_regions.specs.declared.weighs.Measure.{Measure}
 use Rattle.wt_regions.proofs.Moves.{lookup-append, lookup_none-entry, lookup-from_entry, IsPermutation-pull}
 use Rattle.wt_regions.proofs.Apart.{apart, distinct_after, there_same}
 use Rattle.wt_regions.proofs.Settled.{fresh_parts, distinct-comm}
 use Rattle.wt_regions.proofs.Sound.{loses-below, loses}
-use Rattle.wt_regions.specs.Lists.{Entry, all_entries, without, lists_of}
+use Rattle.wt_regions.specs.Lists.{Entry, all_entries, without, lists_of, lasting}
 use Rattle.wt_regions.specs.Moves.{IsPlaced}
 
 pub remove-none : {K X : Type 0} (test : K → Bool) (es : List (K × X)) → lookup test es ≡ None → remove_entry test es ≡ es
@@ -114,12 +115,12 @@ module _ {K V : Type 0} (eq : K → K → Bool) (laws : IsEquivalence eq) (k : K
       (IsPermutation-append_left (ps ++ qs) ws (o ∷ remove_entry (eq k) ws) (IsPermutation-pull (eq k) ws o w.0))
   without-perm c ws ps qs o (inr (inl w)) =
       rw (remove-none (eq k) ws w.0, remove-none (eq k) qs w.2)
-      (loses-below eq laws (λ _. 0) o ws (ps ++ qs) (remove_entry (eq k) ps ++ qs)
+      (loses-below eq laws (λ _. lasting 0) o ws (ps ++ qs) (remove_entry (eq k) ps ++ qs)
       (IsPermutation-append_left qs ps (o ∷ remove_entry (eq k) ps) (IsPermutation-pull (eq k) ps o w.1)))
   without-perm c ws ps qs o (inr (inr w)) =
       rw (remove-none (eq k) ws w.0, remove-none (eq k) ps w.1)
-      (loses-below eq laws (λ _. 0) o ws (ps ++ qs) (ps ++ remove_entry (eq k) qs)
-      (loses-below eq laws (λ _. 0) o ps qs (remove_entry (eq k) qs) (IsPermutation-pull (eq k) qs o w.2)))
+      (loses-below eq laws (λ _. lasting 0) o ws (ps ++ qs) (ps ++ remove_entry (eq k) qs)
+      (loses-below eq laws (λ _. lasting 0) o ps qs (remove_entry (eq k) qs) (IsPermutation-pull (eq k) qs o w.2)))
 
   pub without-none : (c : Caps) (ws ps qs : List (Entry K V)) → lookup (eq k) (ws ++ (ps ++ qs)) ≡ None
       → without eq k (lists_of c ws ps qs) ≡ lists_of c ws ps qs
@@ -131,9 +132,9 @@ module _ {K V : Type 0} (eq : K → K → Bool) (laws : IsEquivalence eq) (k : K
   pub without-fresh : (c : Caps) (ws ps qs : List (Entry K V)) → IsDistinct eq (keys_of ((ws ++ (ps ++ qs))))
       → lookup (eq k) (all_entries (without eq k (lists_of c ws ps qs))) ≡ None
   without-fresh c ws ps qs d =
-      let dw = distinct_after eq (ps ++ qs) ws (distinct-comm eq laws (λ (v : V). 0) ws (ps ++ qs) d) in
+      let dw = distinct_after eq (ps ++ qs) ws (distinct-comm eq laws (λ (v : V). lasting 0) ws (ps ++ qs) d) in
       let db = distinct_after eq ws (ps ++ qs) d in
-      let dp = distinct_after eq qs ps (distinct-comm eq laws (λ (v : V). 0) ps qs db) in
+      let dp = distinct_after eq qs ps (distinct-comm eq laws (λ (v : V). lasting 0) ps qs db) in
       let dq = distinct_after eq ps qs db in
       rw (
         lookup-append (eq k) (remove_entry (eq k) ws) (remove_entry (eq k) ps ++ remove_entry (eq k) qs),
@@ -143,10 +144,10 @@ module _ {K V : Type 0} (eq : K → K → Bool) (laws : IsEquivalence eq) (k : K
         lookup-removed qs dq,
       )
 
-  pub without-placed : (weigh : V → ℕ) (c : Caps) (ws ps qs : List (Entry K V)) (o : Entry K V) → Where ws ps qs o
-      → IsPlaced eq weigh (lists_of c ws ps qs) → IsPlaced eq weigh (without eq k (lists_of c ws ps qs))
-  without-placed weigh c ws ps qs o w law =
-      loses eq laws weigh (lists_of c ws ps qs) (without eq k (lists_of c ws ps qs)) o refl
+  pub without-placed : (measure : V → Measure) (c : Caps) (ws ps qs : List (Entry K V)) (o : Entry K V) → Where ws ps qs o
+      → IsPlaced eq measure (lists_of c ws ps qs) → IsPlaced eq measure (without eq k (lists_of c ws ps qs))
+  without-placed measure c ws ps qs o w law =
+      loses eq laws measure (lists_of c ws ps qs) (without eq k (lists_of c ws ps qs)) o refl
       (without-perm c ws ps qs o w)
       (length-removed (eq k) ws) (length-removed (eq k) ps) (length-removed (eq k) qs) law
 

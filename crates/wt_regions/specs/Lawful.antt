@@ -8,7 +8,8 @@ use Rattle.wt_keys.specs.declared.fault.Fault.TheVariants.{NoMemory, BadConfig, 
 use Rattle.wt_keys.specs.declared.fault.Field.{Field}
 use Rattle.wt_keys.specs.declared.fault.Field.TheVariants.{Entries, Window, Bound, AfterWrite, AfterAccess, Refresh}
 use Rattle.wt_regions.specs.declared.caps.Caps.{Caps}
-use Rattle.wt_regions.specs.Lists.{Entry, Lists, all_entries, weight_of, main_cap, protected_cap}
+use Rattle.wt_regions.specs.declared.weighs.Measure.{Measure}
+use Rattle.wt_regions.specs.Lists.{Entry, Lists, all_entries, measured, weight_of, main_cap, protected_cap}
 
 -- limits within their ranges
 pub record IsFit (c : Caps) : Type 0 where
@@ -40,13 +41,13 @@ FailsByField field result = MatchOption field (IsOkUnless result NoMemory) (λ f
 abbrev pub store_fault : ℕ → ℕ → Fault
 store_fault weight bound = if nat_le weight bound then NoMemory else TooHeavy weight bound
 
-module _ {K V : Type 0} (eq : K → K → Bool) (weight : V → ℕ) where
-  -- no key stands twice, no region is too long, each weight is that of its value, and the weights sum to at most the bound
+module _ {K V : Type 0} (eq : K → K → Bool) (measure : V → Measure) where
+  -- no key stands twice, no region is too long, each entry has the weight and life of its value, and the weights sum to at most the bound
   pub record IsLawful (r : Lists K V) : Type 0 where
     pub fit : IsFit r.caps
     pub distinct : IsDistinct eq (keys_of (all_entries r))
     pub window : length r.window ≤ r.caps.window
     pub protected : length r.protected ≤ protected_cap r.caps
     pub main_part : length r.probation + length r.protected ≤ main_cap r.caps
-    pub weights : All (λ (e : Entry K V). e.1.weight ≡ weight e.1.value) (all_entries r)
+    pub measures : All (λ (e : Entry K V). measured e.1 ≡ measure e.1.value) (all_entries r)
     pub bound : weight_of r ≤ r.caps.bound

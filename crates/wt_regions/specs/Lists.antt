@@ -1,5 +1,5 @@
 -- The three regions of a cache as lists, and what stands in them.
-use Rattle.std.specs.Prelude.{ℕ, ◌-◌, ◌*◌, ◌/◌, nat_le, Bool, true, false, not, ◌&&◌, ◌||◌, if◌then◌else◌, List, [], ◌++◌, length, take, Option, sum_by}
+use Rattle.std.specs.Prelude.{ℕ, ◌-◌, ◌*◌, ◌/◌, nat_le, nat_lt, max, Bool, true, false, not, ◌&&◌, ◌||◌, if◌then◌else◌, List, [], ◌++◌, length, take, Option, sum_by}
 use Rattle.std.specs.Option.{option_map_or}
 use Rattle.std.specs.Map.{lookup, remove_entry}
 use Rattle.wt_regions.specs.declared.caps.Caps.{Caps}
@@ -9,10 +9,11 @@ use Rattle.wt_regions.specs.declared.touch.Found.{Found}
 use Rattle.wt_regions.specs.declared.touch.Found.TheVariants as found
 use Rattle.wt_regions.specs.declared.held.Held.{Held}
 use Rattle.wt_regions.specs.declared.notices.Notice.{Notice}
+use Rattle.wt_regions.specs.declared.weighs.Measure.{Measure}
 use Rattle.wt_regions.specs.declared.caches.Region.{Region}
 use Rattle.wt_regions.specs.declared.caches.Region.TheVariants.{Window, Probation, Protected}
 
--- a key with what is held for it: value, weight, stamp, the moments of writing and of the latest use
+-- a key with what is held for it: value, weight, life, stamp, the moments of writing and of the latest use
 abbrev pub Entry : Type 0 → Type 0 → Type 0
 Entry K V = K × Held V
 
@@ -39,6 +40,22 @@ protected_cap c = (4 * main_cap c) / 5
 abbrev pub gone_by : Option ℕ → ℕ → ℕ → Bool
 gone_by duration since now = option_map_or (λ d. nat_le d (now - since)) duration false
 
+-- whether a life is over that began at a moment; no life is 0, and an age that equals it is over
+abbrev pub outlived : ℕ → ℕ → ℕ → Bool
+outlived life since now = nat_lt 0 life && nat_le life (now - since)
+
+-- the measure of a value without a life of its own
+abbrev pub lasting : ℕ → Measure
+lasting weight = record { weight = weight; life = 0 }
+
+-- the measure of a value with a life of its own; a life of no time counts as one millisecond
+abbrev pub living : ℕ → ℕ → Measure
+living weight life = record { weight = weight; life = max life 1 }
+
+-- the measure of values whose lives are left out
+abbrev pub lifeless : {V : Type 0} → (V → Measure) → V → Measure
+lifeless measure v = lasting (measure v).weight
+
 -- whether a look-up found a value
 abbrev pub is_hit : {V : Type 0} → Found V → Bool
 is_hit (found.Hit v) = true
@@ -54,16 +71,27 @@ is_eviction Size = true
 
 module _ {V : Type 0} where
   -- what is held for a value stored now
-  abbrev pub held : V → ℕ → ℕ → ℕ → Held V
-  held value weight stamp now = record { value = value; weight = weight; stamp = stamp; written = now; accessed = now }
+  abbrev pub held : V → Measure → ℕ → ℕ → Held V
+  held value measure stamp now = record {
+    value = value;
+    weight = measure.weight;
+    life = measure.life;
+    stamp = stamp;
+    written = now;
+    accessed = now;
+  }
+
+  -- the weight and the life that its value had when it was stored
+  abbrev pub measured : Held V → Measure
+  measured h = record { weight = h.weight; life = h.life }
 
   -- what is held, read now
   abbrev pub used : ℕ → Held V → Held V
   used now h = record h { accessed = now }
 
-  -- whether it is too long since an entry was written, or since it was used
+  -- whether it is too long since an entry was written or since it was used, or its own life is over
   abbrev pub is_expired : Caps → ℕ → Held V → Bool
-  is_expired c now h = gone_by c.after_write h.written now || gone_by c.after_access h.accessed now
+  is_expired c now h = (gone_by c.after_write h.written now || gone_by c.after_access h.accessed now) || outlived h.life h.written now
 
   -- whether it is time to load an entry again
   abbrev pub is_due : Caps → ℕ → Held V → Bool

@@ -12,7 +12,8 @@ use Rattle.wt_regions.specs.declared.notices.Notice.{Notice}
 use Rattle.wt_regions.specs.declared.held.Held.{Held}
 use Rattle.wt_regions.specs.declared.touch.Seen.{Seen}
 use Rattle.wt_regions.specs.declared.touch.Seen.TheVariants.{InWindow, InProbation, InProtected, Nowhere, Expired}
-use Rattle.wt_regions.specs.Lists.{Entry, Lists, Told, lists_of, all_entries, all_but_last, without, notice, weight_of, main_cap, protected_cap, is_expired, used}
+use Rattle.wt_regions.specs.declared.weighs.Measure.{Measure}
+use Rattle.wt_regions.specs.Lists.{Entry, Lists, Told, lists_of, all_entries, all_but_last, without, notice, weight_of, main_cap, protected_cap, is_expired, measured, used}
 use Rattle.wt_regions.specs.Notices.{NoticeList, appended}
 use Rattle.wt_regions.specs.Lawful.{IsFit}
 use Rattle.wt_regions.specs.Settle.{grown, overflowed, settled}
@@ -74,6 +75,10 @@ module _ {K V : Type 0} where
   IsStep None r t w r' t' = (w ≡ None) × (r' ≡ r) × (t' ≡ t)
   IsStep (Some one) r t w r' t' = (r' ≡ one.0) × (t' ≡ appended one.1 t) × ((n : ℕ) × (w ≡ Some n) × (weight_of r' + n ≡ weight_of r))
 
+  -- no entry has a life of its own
+  abbrev pub HasNoLives : Lists K V → Type 0
+  HasNoLives r = All (λ (e : Entry K V). e.1.life ≡ 0) (all_entries r)
+
   module _ (eq : K → K → Bool) (k : K) where
     -- the entry of k, with what is held now, in front of the others
     abbrev pub in_front : (Held V → Held V) → List (Entry K V) → List (Entry K V)
@@ -112,17 +117,17 @@ module _ {K V : Type 0} where
       pub protected : lookup (eq k) (drop 1 r.protected) ≡ None
 
   -- all that holds of lawful regions, but for the bound
-  pub record IsPlaced (eq : K → K → Bool) (weight : V → ℕ) (r : Lists K V) : Type 0 where
+  pub record IsPlaced (eq : K → K → Bool) (measure : V → Measure) (r : Lists K V) : Type 0 where
     pub fit : IsFit r.caps
     pub distinct : IsDistinct eq (keys_of (all_entries r))
     pub window : length r.window ≤ r.caps.window
     pub protected : length r.protected ≤ protected_cap r.caps
     pub main_part : length r.probation + length r.protected ≤ main_cap r.caps
-    pub weights : All (λ (e : Entry K V). e.1.weight ≡ weight e.1.value) (all_entries r)
+    pub measures : All (λ (e : Entry K V). measured e.1 ≡ measure e.1.value) (all_entries r)
 
   -- such regions, whose window is full and has no entry of k
-  pub record HasFullWindow (eq : K → K → Bool) (weight : V → ℕ) (k : K) (r : Lists K V) : Type 0 where
-    pub placed : IsPlaced eq weight r
+  pub record HasFullWindow (eq : K → K → Bool) (measure : V → Measure) (k : K) (r : Lists K V) : Type 0 where
+    pub placed : IsPlaced eq measure r
     pub elsewhere : lookup (eq k) r.window ≡ None
     pub full : r.caps.window ≤ length r.window
 
@@ -141,5 +146,5 @@ module _ {K V : Type 0} (word : K → ℕ) (s : Counters) (k : K) where
     placing h r = placed eq (estimates s word) h.written (k, h) r
 
     -- a value is stored now, by the step of this number
-    abbrev pub storing : (V → ℕ) → V → ℕ → ℕ → Lists K V → Told K V
-    storing weight v now stamp r = stored eq (estimates s word) now (new_entry weight k v now stamp) r
+    abbrev pub storing : (V → Measure) → V → ℕ → ℕ → Lists K V → Told K V
+    storing measure v now stamp r = stored eq (estimates s word) now (new_entry measure k v now stamp) r

@@ -4,14 +4,15 @@ use Rattle.std.specs.Option.{option_map_or}
 use Rattle.wt_regions.specs.declared.caps.Caps.{Caps}
 use Rattle.wt_regions.specs.declared.notices.Cause.TheVariants.{Explicit, Replaced, Expired}
 use Rattle.wt_regions.specs.declared.notices.Notice.{Notice}
+use Rattle.wt_regions.specs.declared.weighs.Measure.{Measure}
 use Rattle.wt_regions.specs.Lists.{Entry, Lists, Told, no_entries, notice, held, is_expired, held_for, without}
 use Rattle.wt_regions.specs.Touch.{touched}
 use Rattle.wt_regions.specs.Settle.{settled, trimmed}
 
 module _ {K V : Type 0} where
   -- an entry that is stored now, by the step of this number
-  abbrev pub new_entry : (V → ℕ) → K → V → ℕ → ℕ → Entry K V
-  new_entry weight k value now stamp = (k, held value (weight value) stamp now)
+  abbrev pub new_entry : (V → Measure) → K → V → ℕ → ℕ → Entry K V
+  new_entry measure k value now stamp = (k, held value (measure value) stamp now)
 
   module _ (eq : K → K → Bool) where
     -- the entry of the key leaves if it is expired

@@ -1,7 +1,7 @@
 // The limits of the regions: their ranges, and the age at which an entry expires or is due.
 ghost use Rattle.std.specs.Prelude.{◌≡◌, ◌&&◌, ◌||◌, not, is_some, if◌then◌else◌};
 ghost use Rattle.wt_regions.specs.declared.notices.Cause.TheVariants.{Expired};
-ghost use Rattle.wt_regions.specs.Lists.{gone_by, is_expired, is_due, main_cap, protected_cap};
+ghost use Rattle.wt_regions.specs.Lists.{gone_by, is_expired, is_due, main_cap, outlived, protected_cap};
 ghost use Rattle.wt_regions.specs.Lawful.{IsFit, caps_fault};
 
 use crate::held::Held;
@@ -82,19 +82,20 @@ impl Caps {
         (4 * (self.entries - self.window) / 5) as usize
     }
 
-    // Whether no entry expires: neither duration is set.
+    // Whether no entry expires but by its own life: neither duration is set.
     pub(crate) fn never_expires(&self) -> bool
         ensures { result ≡ not (is_some self.now.after_write || is_some self.now.after_access) }
     {
         self.after_write.is_none() && self.after_access.is_none()
     }
 
-    // Whether an entry is too old, since it was written or since it was used.
+    // Whether an entry is too old, since it was written or since it was used, or its own life is over.
     pub(crate) fn is_expired<V>(&self, now: u64, held: &Held<V>) -> bool
         ensures { result ≡ is_expired self.now now held.now }
     {
         gone_by(self.after_write, held.written, now)
             || gone_by(self.after_access, held.accessed, now)
+            || outlived(held.life, held.written, now)
     }
 
     // Whether an unexpired entry is old enough to be loaded again.
@@ -125,4 +126,11 @@ fn gone_by(duration: Option<u64>, since: u64, now: u64) -> bool
         Some(duration) => duration <= now.saturating_sub(since),
         None => false,
     }
+}
+
+// Whether a life is over. An age that equals it counts, as it does for a duration.
+fn outlived(life: u32, since: u64, now: u64) -> bool
+    ensures { result ≡ outlived life since now }
+{
+    life > 0 && life as u64 <= now.saturating_sub(since)
 }

@@ -12,6 +12,8 @@ pub struct Held<V> {
     pub value: V,
     /// The value's weight when it was stored.
     pub weight: u32,
+    /// The value's life when it was stored, in milliseconds; 0 for none.
+    pub life: u32,
     /// The number of the step that stored it.
     pub stamp: u64,
     /// The moment of that step, in milliseconds.
@@ -37,6 +39,7 @@ impl<V: Share> Held<V> {
         Ok(Held {
             value,
             weight: self.weight,
+            life: self.life,
             stamp: self.stamp,
             written: self.written,
             accessed: now,

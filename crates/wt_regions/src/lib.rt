@@ -23,4 +23,4 @@ pub use notices::{Cause, Notice, Notices};
 pub use regions::Regions;
 pub use settle::Fate;
 pub use touch::Found;
-pub use weighs::Weighs;
+pub use weighs::{Measure, Weighs};

@@ -39,7 +39,7 @@ impl<K: CacheKey, V: Share + Weighs> Caches<K, V> {
     // A new entry comes to the front of a full window, whose last leaves it: an expired one is
     // returned, another goes to probation.
     fn make_way(&mut self, key: K, held: Held<V>) -> Result<Option<(K, Held<V>)>, NoMemory>
-        requires full { HasFullWindow K.eq V.weight key self.old }
+        requires full { HasFullWindow K.eq V.measure key self.old }
         ensures left { IfOk result (λ r. r ≡ last_expired held.written (key, held) self.old) }
         ensures state { OnOk result (self.new ≡ passed_live held.written (key, held) self.old) }
         ensures err { OnErr result (self.new ≡ self.old) }
@@ -65,7 +65,7 @@ impl<K: CacheKey, V: Share + Weighs> Caches<K, V> {
         held: Held<V>,
         notices: &mut Notices<K, V>,
     ) -> Result<u64, NoMemory>
-        requires placed { IsPlaced K.eq V.weight self.old }
+        requires placed { IsPlaced K.eq V.measure self.old }
         requires elsewhere { lookup (K.eq key) self.old.window ≡ None }
         requires there { IsSome (lookup (K.eq key) (self.old.probation ++ self.old.protected)) }
         requires room { self.old.caps.entries ≤ notices.old.room }
@@ -95,7 +95,7 @@ impl<K: CacheKey, V: Share + Weighs> Caches<K, V> {
         sketch: &Sketch,
         notices: &mut Notices<K, V>,
     ) -> Result<u64, NoMemory>
-        requires placed { IsPlaced K.eq V.weight self.old }
+        requires placed { IsPlaced K.eq V.measure self.old }
         requires room { self.old.caps.entries ≤ notices.old.room }
         ensures state { OnOk result (self.new
             ≡ (placing K.word sketch.now key K.eq held self.old).0) }

@@ -17,7 +17,7 @@ use crate::caps::Caps;
 use crate::held::Held;
 use crate::notices::{Cause, Notice, Notices};
 use crate::touch::Found;
-use crate::weighs::Weighs;
+use crate::weighs::{Measure, Weighs};
 use std::alloc::Global;
 use std::marker::Model;
 use wt_keys::{CacheKey, Fault, NoMemory, Share};
@@ -38,18 +38,23 @@ pub struct Regions<K: CacheKey, V: Share + Weighs> {
     caches: Caches<K, V>,
     // The weight of all entries together; at most the bound between calls.
     weight: u64,
+    // Whether an entry may be there that has a life of its own.
+    lives: bool,
 }
 
 impl<K: CacheKey, V: Share + Weighs> Model for Regions<K, V> {
     ghost use Rattle.std.specs.Prelude.{◌≡◌};
+    ghost use Rattle.std.specs.Prelude.{false};
     ghost use Rattle.wt_regions.specs.Lawful.{IsLawful};
-    ghost use Rattle.wt_regions.specs.Lists.{Lists, weight_of};
+    ghost use Rattle.wt_regions.specs.Lists.{Lists, lifeless, weight_of};
 
     ghost Value = { Lists K V };
 
     ghost view = { λ r. r.caches };
 
-    ghost invariant = { λ r. IsLawful K.eq V.weight r.caches × (r.weight ≡ weight_of r.caches) };
+    ghost invariant = { λ r. IsLawful K.eq V.measure r.caches
+        × (r.weight ≡ weight_of r.caches)
+        × (r.lives ≡ false → IsLawful K.eq (lifeless V.measure) r.caches) };
 }
 
 impl<K: CacheKey, V: Share + Weighs> Regions<K, V> {
@@ -67,7 +72,11 @@ impl<K: CacheKey, V: Share + Weighs> Regions<K, V> {
             return Err(Fault::BadConfig { field });
         }
         let caches = Caches::new(alloc, caps)?;
-        Ok(Regions { caches, weight: 0 })
+        Ok(Regions {
+            caches,
+            weight: 0,
+            lives: false,
+        })
     }
 
     /// Looks the key up at the moment `now`. A hit is used: it goes to the front of its region, or
@@ -87,7 +96,7 @@ impl<K: CacheKey, V: Share + Weighs> Regions<K, V> {
             → lookup (K.eq key) self.old.probation ≡ None → IsOk result }
         ensures err { OnErr result (self.new ≡ self.old) }
     {
-        Ok(self.caches.get(key, now)?)
+        Ok(self.caches.get(key, now, self.lives)?)
     }
 
     /// Stores the value under the key, at the moment `now` and by the step of number `stamp`.
@@ -112,17 +121,17 @@ impl<K: CacheKey, V: Share + Weighs> Regions<K, V> {
     ) -> Result<(), Fault>
         requires room { self.old.caps.entries ≤ notices.old.room }
 
-        ensures ok { OnOk result (V.weight value ≤ self.old.caps.bound) }
+        ensures ok { OnOk result ((V.measure value).weight ≤ self.old.caps.bound) }
         ensures state { OnOk result (self.new
-            ≡ (storing K.word sketch.now key K.eq V.weight value now stamp self.old).0) }
+            ≡ (storing K.word sketch.now key K.eq V.measure value now stamp self.old).0) }
         ensures notices { OnOk result (notices.new ≡ appended
-            (storing K.word sketch.now key K.eq V.weight value now stamp self.old).1 notices.old) }
+            (storing K.word sketch.now key K.eq V.measure value now stamp self.old).1 notices.old) }
         ensures same { self.new.caps ≡ self.old.caps }
 
-        ensures refusal { IfErr result (λ f. f ≡ store_fault (V.weight value) self.old.caps.bound) }
+        ensures refusal { IfErr result (λ f. f ≡ store_fault (V.measure value).weight self.old.caps.bound) }
         ensures err { OnErr result ((self.new ≡ self.old) × (notices.new ≡ notices.old)) }
     {
-        let weight = value.weight();
+        let Measure { weight, life } = value.measure();
         let bound = self.caches.caps.bound;
         if weight as u64 > bound {
             return Err(Fault::TooHeavy { weight, bound });
@@ -130,6 +139,7 @@ impl<K: CacheKey, V: Share + Weighs> Regions<K, V> {
         let held = Held {
             value,
             weight,
+            life,
             stamp,
             written: now,
             accessed: now,
@@ -138,6 +148,7 @@ impl<K: CacheKey, V: Share + Weighs> Regions<K, V> {
         match self.caches.place(key, held, sketch, notices) {
             Ok(gone) => {
                 self.weight = self.caches.trim(key, heavier - gone, notices);
+                self.lives |= life > 0;
                 Ok(())
             }
             Err(_) => Err(Fault::NoMemory),
@@ -217,5 +228,6 @@ impl<K: CacheKey, V: Share + Weighs> Regions<K, V> {
     {
         self.caches.clear(now, notices);
         self.weight = 0;
+        self.lives = false;
     }
 }

@@ -75,7 +75,7 @@ impl<K: CacheKey, V: Share + Weighs> Caches<K, V> {
     // Brings the entry to the front of a full window, whose last goes to probation's front. If the
     // second push fails, a pop undoes the first one.
     pub(crate) fn pass_on(&mut self, key: K, held: Held<V>) -> Result<(), NoMemory>
-        requires full { HasFullWindow K.eq V.weight key self.old }
+        requires full { HasFullWindow K.eq V.measure key self.old }
         ensures state { OnOk result (self.new ≡ passed_on (key, held) self.old) }
         ensures err { OnErr result (self.new ≡ self.old) }
     {
@@ -100,7 +100,7 @@ impl<K: CacheKey, V: Share + Weighs> Caches<K, V> {
         sketch: &Sketch,
         notices: &mut Notices<K, V>,
     ) -> Result<u64, NoMemory>
-        requires full { HasFullWindow K.eq V.weight key self.old }
+        requires full { HasFullWindow K.eq V.measure key self.old }
         requires room { 0 < notices.old.room }
         ensures state { OnOk result (self.new
             ≡ (overflowing K.word sketch.now key held self.old).0) }
@@ -137,7 +137,7 @@ impl<K: CacheKey, V: Share + Weighs> Caches<K, V> {
         sketch: &Sketch,
         notices: &mut Notices<K, V>,
     ) -> Result<u64, NoMemory>
-        requires placed { IsPlaced K.eq V.weight self.old }
+        requires placed { IsPlaced K.eq V.measure self.old }
         requires elsewhere { held_for K.eq key self.old ≡ None }
         requires room { 0 < notices.old.room }
         ensures state { OnOk result (self.new ≡ (settling K.word sketch.now key held self.old).0) }

@@ -52,7 +52,7 @@ fn move_past<K: CacheKey, V: Share>(
 impl<K: CacheKey, V: Share + Weighs> Caches<K, V> {
     // Window is narrower by one.
     fn narrow(&mut self) -> Result<(), NoMemory>
-        requires placed { IsPlaced K.eq V.weight self.old }
+        requires placed { IsPlaced K.eq V.measure self.old }
         requires some { 1 < self.old.caps.window }
         ensures state { OnOk result (self.new ≡ narrowed self.old) }
         ensures err { OnErr result (self.new ≡ self.old) }
@@ -69,7 +69,7 @@ impl<K: CacheKey, V: Share + Weighs> Caches<K, V> {
     // Main is past the cap that a wider window leaves it: probation's last comes to window's front,
     // and protected's, if it has one too many, to probation's.
     fn give(&mut self, caps: Caps) -> Result<(), NoMemory>
-        requires placed { IsPlaced K.eq V.weight self.old }
+        requires placed { IsPlaced K.eq V.measure self.old }
         requires some { self.old.caps.window < self.old.caps.entries }
         requires alike { caps ≡ wider_caps self.old.caps }
         requires full { main_cap caps < length self.old.probation + length self.old.protected }
@@ -100,7 +100,7 @@ impl<K: CacheKey, V: Share + Weighs> Caches<K, V> {
 
     // Window is wider by one.
     fn widen(&mut self) -> Result<(), NoMemory>
-        requires placed { IsPlaced K.eq V.weight self.old }
+        requires placed { IsPlaced K.eq V.measure self.old }
         requires some { self.old.caps.window < self.old.caps.entries }
         ensures state { OnOk result (self.new ≡ widened self.old) }
         ensures err { OnErr result (self.new ≡ self.old) }
@@ -124,7 +124,7 @@ impl<K: CacheKey, V: Share + Weighs> Caches<K, V> {
 
     // Moves the border, unless it is at this end, and answers whether it moved.
     pub(crate) fn slide(&mut self, wider: bool) -> Result<bool, NoMemory>
-        requires placed { IsPlaced K.eq V.weight self.old }
+        requires placed { IsPlaced K.eq V.measure self.old }
         ensures answer { IfOk result (λ moved. moved ≡ can_slide wider self.old.caps) }
         ensures state { OnOk result (self.new ≡ slid wider self.old) }
         ensures end_succeeds { can_slide wider self.old.caps ≡ false → IsOk result }

@@ -83,7 +83,7 @@ impl<K: CacheKey, V: Share + Weighs> Caches<K, V> {
 
     // Removes every expired entry, and returns the remaining weight.
     pub(crate) fn clean(&mut self, now: u64, weight: u64, notices: &mut Notices<K, V>) -> u64
-        requires placed { IsPlaced K.eq V.weight self.old }
+        requires placed { IsPlaced K.eq V.measure self.old }
         requires weight { weight ≡ weight_of self.old }
         requires room { self.old.caps.entries ≤ notices.old.room }
         ensures state { self.new ≡ (cleaned now self.old).0 }
@@ -98,7 +98,7 @@ impl<K: CacheKey, V: Share + Weighs> Caches<K, V> {
 
     // Removes every entry.
     pub(crate) fn clear(&mut self, now: u64, notices: &mut Notices<K, V>)
-        requires placed { IsPlaced K.eq V.weight self.old }
+        requires placed { IsPlaced K.eq V.measure self.old }
         requires room { self.old.caps.entries ≤ notices.old.room }
         ensures state { self.new ≡ (cleared now self.old).0 }
         ensures notices { notices.new ≡ appended (cleared now self.old).1 notices.old }

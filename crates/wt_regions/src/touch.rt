@@ -9,7 +9,7 @@ ghost use Rattle.std.specs.Prelude.{◌≡◌, false, None, IfOk, OnOk, OnErr, I
 ghost use Rattle.std.specs.List.{IsDistinct};
 ghost use Rattle.std.specs.Map.{keys_of, lookup};
 ghost use Rattle.wt_regions.specs.Lists.{all_entries, found_at, has_at};
-ghost use Rattle.wt_regions.specs.Moves.{IsPlaced, seen_at};
+ghost use Rattle.wt_regions.specs.Moves.{HasNoLives, IsPlaced, seen_at};
 ghost use Rattle.wt_regions.specs.Touch.{looked_at, touched};
 
 use crate::caches::Caches;
@@ -71,9 +71,10 @@ impl<K: CacheKey, V: Share + Weighs> Caches<K, V> {
         Ok(Seen::Nowhere)
     }
 
-    // Looks the key up, and a hit is used.
-    pub(crate) fn get(&mut self, key: K, now: u64) -> Result<Found<V>, NoMemory>
-        requires { IsPlaced K.eq V.weight self.old }
+    // Looks the key up, and a hit is used. `lives` is whether an entry may have a life of its own.
+    pub(crate) fn get(&mut self, key: K, now: u64, lives: bool) -> Result<Found<V>, NoMemory>
+        requires placed { IsPlaced K.eq V.measure self.old }
+        requires lives { lives ≡ false → HasNoLives self.old }
         ensures found { IfOk result (λ found. found ≡ found_at K.eq key now self.old) }
         ensures state { OnOk result (self.new ≡ looked_at K.eq key now self.old) }
         ensures miss_succeeds { has_at K.eq key now self.old ≡ false → IsOk result }
@@ -81,7 +82,7 @@ impl<K: CacheKey, V: Share + Weighs> Caches<K, V> {
             → lookup (K.eq key) self.old.probation ≡ None → IsOk result }
         ensures err { OnErr result (self.new ≡ self.old) }
     {
-        if V::is_copied() && self.caps.never_expires() {
+        if V::is_copied() && !lives && self.caps.never_expires() {
             return self.get_copied(key, now);
         }
         match self.look(key, now)? {
@@ -105,8 +106,9 @@ impl<K: CacheKey, V: Share + Weighs> Caches<K, V> {
     // The same if a share is a copy and no entry expires: the look itself brings an entry of
     // protected to the front.
     fn get_copied(&mut self, key: K, now: u64) -> Result<Found<V>, NoMemory>
-        requires placed { IsPlaced K.eq V.weight self.old }
+        requires placed { IsPlaced K.eq V.measure self.old }
         requires copied { IsTrue V.Share.is_copied }
+        requires lasting { HasNoLives self.old }
         requires unaging { is_some self.old.caps.after_write || is_some self.old.caps.after_access
             ≡ false }
         ensures found { IfOk result (λ found. found ≡ found_at K.eq key now self.old) }
@@ -136,7 +138,7 @@ impl<K: CacheKey, V: Share + Weighs> Caches<K, V> {
     //
     // The pushes come first. If the second one fails, a pop undoes the first one.
     pub(crate) fn promote(&mut self, key: K, moved: Held<V>) -> Result<Option<Held<V>>, NoMemory>
-        requires placed { IsPlaced K.eq V.weight self.old }
+        requires placed { IsPlaced K.eq V.measure self.old }
         requires elsewhere { lookup (K.eq key) self.old.window ≡ None }
         requires there { IsSome (lookup (K.eq key) self.old.probation) }
         ensures held { IfOk result (λ old. old ≡ lookup (K.eq key) self.old.probation) }

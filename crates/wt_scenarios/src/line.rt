@@ -92,12 +92,12 @@ fn line_of(words: &[&str]) -> Option<Line> {
             let now = number(moment)?;
             Some(Line::Slide(number(key)?, Slide { wider, now }))
         }
-        [moment, "get", key, value, weight] => {
-            let load = load_of(value, weight)?;
+        [moment, "get", key, ref load @ ..] => {
+            let load = load_of(load)?;
             Some(Line::Get(number(key)?, load, number(moment)?))
         }
-        [moment, "put", key, value, weight] => {
-            let value = value_of(value, weight)?;
+        [moment, "put", key, ref value @ ..] => {
+            let value = value_of(value)?;
             Some(Line::Call(Call::Put(number(key)?, value, number(moment)?)))
         }
         [moment, "land", key, id, ref what @ ..] => {
@@ -120,25 +120,34 @@ fn asked(word: &str, key: u64, moment: u64) -> Option<Call<u64, Loaded>> {
     }
 }
 
-// A value and its weight.
-fn value_of(value: &str, weight: &str) -> Option<Loaded> {
+// A value, its weight, and its life if it has one.
+fn value_of(words: &[&str]) -> Option<Loaded> {
+    let (value, weight, life) = match *words {
+        [value, weight] => (value, weight, 0),
+        [value, weight, life] => (value, weight, small(life)?),
+        _ => return None,
+    };
     let version = number(value)?;
     let weight = small(weight)?;
-    Some(Loaded { version, weight })
+    Some(Loaded {
+        version,
+        weight,
+        life,
+    })
 }
 
 // The source's result.
-fn load_of(value: &str, weight: &str) -> Option<Load> {
-    if value == "failed" {
-        return Some(Load::Failed(small(weight)?));
+fn load_of(words: &[&str]) -> Option<Load> {
+    if let ["failed", code] = *words {
+        return Some(Load::Failed(small(code)?));
     }
-    Some(Load::Value(value_of(value, weight)?))
+    Some(Load::Value(value_of(words)?))
 }
 
 // How a load ends.
 fn landing(words: &[&str]) -> Option<Land<Loaded>> {
     match *words {
-        ["keep", value, weight] => Some(Land::Keep(value_of(value, weight)?)),
+        ["keep", ref value @ ..] => Some(Land::Keep(value_of(value)?)),
         ["loose"] => Some(Land::Loose),
         ["failed"] => Some(Land::Failed),
         _ => None,

@@ -11,6 +11,7 @@ pub struct Source {
     version: AtomicU64,
     // The value's weight, or the error's code.
     number: AtomicU32,
+    life: AtomicU32,
 }
 
 impl Source {
@@ -20,6 +21,7 @@ impl Source {
             fails: AtomicBool::new(true),
             version: AtomicU64::new(0),
             number: AtomicU32::new(0),
+            life: AtomicU32::new(0),
         }
     }
 
@@ -30,6 +32,7 @@ impl Source {
                 self.fails.store(false, Ordering::SeqCst);
                 self.version.store(value.version, Ordering::SeqCst);
                 self.number.store(value.weight, Ordering::SeqCst);
+                self.life.store(value.life, Ordering::SeqCst);
             }
             Load::Failed(code) => {
                 self.fails.store(true, Ordering::SeqCst);
@@ -49,6 +52,7 @@ impl Loader<u64, Loaded> for Source {
         Ok(Loaded {
             version,
             weight: number,
+            life: self.life.load(Ordering::SeqCst),
         })
     }
 }

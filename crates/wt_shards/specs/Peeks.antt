@@ -38,7 +38,7 @@ module _ {K V : Type 0} (members : Members K V) (p : Place) where
     -- as many steps were made as calls stand there: none of them was refused
     pub counted : (state_at members p new).step ≡ length new
     -- what a look there would be answered
-    pub replied : look_reply found ≡ (step members.eq members.word members.weight (state_at members p new) (Look k now)).reply
+    pub replied : look_reply found ≡ (step members.eq members.word members.measure (state_at members p new) (Look k now)).reply
 
   -- what a peek at a shard behind its lock promises
   pub record IsLockedPeek (k : K) (now : ℕ) (old new : Mine K V) (result : Result (Option V) Fault) : Type 0 where
@@ -85,4 +85,4 @@ module _ {K V : Type 0} (members : Members K V) (p : Place) where
   -- a peek finds no value but one that the history which it shows brought for the key, not too long ago
   abbrev pub FindsYoung : Type 0
   FindsYoung = (k : K) (now : ℕ) (old new : List (Call K V)) (found : Option V) → IsPeek members p k now old new found
-      → FoundOnly (IsBroughtYoung members.eq members.word members.weight p.config new k now) found
+      → FoundOnly (IsBroughtYoung members.eq members.word members.measure p.config new k now) found

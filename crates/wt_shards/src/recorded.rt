@@ -48,7 +48,7 @@ impl<K: CacheKey, V: Share + Weighs + Answers<K>, S: ShardLedger, H: Ledger> Mod
     ghost view = { λ r. r.history };
 
     ghost invariant = { λ r.
-        (r.shard.core ≡ state_after K.eq K.word V.weight S.ShardLedger.place.config r.history)
+        (r.shard.core ≡ state_after K.eq K.word V.measure S.ShardLedger.place.config r.history)
         × (r.shard.core.step ≡ length r.history) };
 }
 
@@ -76,7 +76,7 @@ impl<K: CacheKey, V: Share + Weighs + Answers<K>, S: ShardLedger, H: Ledger> Rec
     ) -> Result<Done<Reply<V>>, Fault>
         requires asked { MayAsk V.answers K.word S.ShardLedger.place call notices.old }
         requires plain { is_seek call ≡ false }
-        ensures made { IsLockedCall (members_by K.eq K.word V.weight V.answers) S.ShardLedger.place
+        ensures made { IsLockedCall (members_by K.eq K.word V.measure V.answers) S.ShardLedger.place
             call (λ reply. reply) mine.old mine.new notices.old notices.new result }
         ensures answers { IfOk result (λ done. AnswersAsked V.answers call done.reply) }
     {
@@ -109,7 +109,7 @@ impl<K: CacheKey, V: Share + Weighs + Answers<K>, S: ShardLedger, H: Ledger> Rec
     ) -> Result<Done<Sought<K, V>>, Fault>
         requires asked { MayAsk V.answers K.word S.ShardLedger.place
             (call.Seek key now) notices.old }
-        ensures made { IsLockedCall (members_by K.eq K.word V.weight V.answers) S.ShardLedger.place
+        ensures made { IsLockedCall (members_by K.eq K.word V.measure V.answers) S.ShardLedger.place
             (call.Seek key now) reply_of mine.old mine.new notices.old notices.new result }
         ensures answers { IfOk result (λ done. ReplyAnswers V.answers key (reply_of done.reply)) }
         ensures asked { IfOk result (λ done. IsOfKey key now done.reply) }
@@ -141,7 +141,7 @@ impl<K: CacheKey, V: Share + Weighs + Answers<K>, S: ShardLedger, H: Ledger> Rec
         key: K,
         now: u64,
     ) -> Result<Option<V>, Fault>
-        ensures made { IsLockedPeek (members_by K.eq K.word V.weight V.answers) S.ShardLedger.place
+        ensures made { IsLockedPeek (members_by K.eq K.word V.measure V.answers) S.ShardLedger.place
             key now mine.old mine.new result }
         ensures answers { IfOk result (FoundAnswers V.answers key) }
     {
@@ -161,10 +161,10 @@ impl<K: CacheKey, V: Share + Weighs + Answers<K>, S: ShardLedger, H: Ledger> Rec
     // Ends the shard and closes its books.
     pub(crate) fn close(self) -> Closed<S, H>
         // What held of the shard at all times.
-        ensures whole { IsHistory (members_by K.eq K.word V.weight V.answers) S.ShardLedger.place
+        ensures whole { IsHistory (members_by K.eq K.word V.measure V.answers) S.ShardLedger.place
             self }
         ensures total { result
-            ≡ total_of (state_after K.eq K.word V.weight S.ShardLedger.place.config self) }
+            ≡ total_of (state_after K.eq K.word V.measure S.ShardLedger.place.config self) }
         ensures steps { result.steps ≡ length self }
         ensures sound { (result.stats.hits + result.stats.misses ≡ result.stats.lookups)
             × (result.stats.weight ≤ S.ShardLedger.place.config.bound) }

@@ -80,7 +80,7 @@ impl<K: CacheKey, V: Share + Weighs + Answers<K>, S: ShardLedger, H: Ledger> Mod
       given = s.given;
     } };
 
-    ghost invariant = { λ s. IsAudited (members_by K.eq K.word V.weight V.answers)
+    ghost invariant = { λ s. IsAudited (members_by K.eq K.word V.measure V.answers)
         S.ShardLedger.place.shards S.ShardLedger.place.index (record {
           config = s.config;
           core = s.core;
@@ -181,9 +181,9 @@ impl<K: CacheKey, V: Share + Weighs + Answers<K>, S: ShardLedger, H: Ledger> Sha
     pub fn steps(&self) -> u64
         ensures number { result ≡ self.now.core.step }
         // What holds of the shard at all times.
-        ensures audited { IsAudited (members_by K.eq K.word V.weight V.answers)
+        ensures audited { IsAudited (members_by K.eq K.word V.measure V.answers)
             S.ShardLedger.place.shards S.ShardLedger.place.index self.now }
-        ensures lawful { IsStateAt (members_by K.eq K.word V.weight V.answers) S.ShardLedger.place
+        ensures lawful { IsStateAt (members_by K.eq K.word V.measure V.answers) S.ShardLedger.place
             self.now.core }
     {
         self.core.step()
@@ -196,7 +196,7 @@ impl<K: CacheKey, V: Share + Weighs + Answers<K>, S: ShardLedger, H: Ledger> Sha
     /// Expected O(1), unless an attacker chooses the keys (see `Seeded`).
     #[inline(always)]
     pub fn peek(&self, key: K, now: u64) -> Result<Option<V>, Fault>
-        ensures answer { RepliesBy K.eq K.word V.weight look_reply (Look key now) self.now.core
+        ensures answer { RepliesBy K.eq K.word V.measure look_reply (Look key now) self.now.core
             result }
         ensures answers { IfOk result (FoundAnswers V.answers key) }
         ensures memory { IfErr result (λ f. f ≡ fault.NoMemory) }
@@ -220,7 +220,7 @@ impl<K: CacheKey, V: Share + Weighs + Answers<K>, S: ShardLedger, H: Ledger> Sha
     pub fn explain(&self) -> Explained<'_, K>
         ensures shown { (result.lagging ≡ self.now.lagging) × (result.records ≡ self.now.records) }
         // What holds of the shard at all times.
-        ensures audited { IsAudited (members_by K.eq K.word V.weight V.answers)
+        ensures audited { IsAudited (members_by K.eq K.word V.measure V.answers)
             S.ShardLedger.place.shards S.ShardLedger.place.index self.now }
     {
         Explained {
@@ -233,7 +233,7 @@ impl<K: CacheKey, V: Share + Weighs + Answers<K>, S: ShardLedger, H: Ledger> Sha
     pub(crate) fn close(self) -> Closed<S, H>
         ensures total { result ≡ total_of self.core }
         // What held of the shard at all times.
-        ensures lawful { IsStateAt (members_by K.eq K.word V.weight V.answers) S.ShardLedger.place
+        ensures lawful { IsStateAt (members_by K.eq K.word V.measure V.answers) S.ShardLedger.place
             self.core }
         ensures sound { (result.stats.hits + result.stats.misses ≡ result.stats.lookups)
             × (result.stats.weight ≤ S.ShardLedger.place.config.bound) }

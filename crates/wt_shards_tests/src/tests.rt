@@ -15,7 +15,7 @@ mod settling;
 mod soak;
 
 use caller::Answer;
-use wt_core::{Call, Config, Land, Reply};
+use wt_core::{Call, Config, Land, Reply, Weighs};
 use wt_keys::Fault;
 use wt_shards::{Noted, Shade};
 use wt_tests::{Do, Loaded, Said, comparable};
@@ -57,7 +57,7 @@ fn shaded(act: Do, key: u64, now: u64) -> Noted<u64> {
         Do::Seek => Call::Seek(key, now),
         Do::Keep(id, value) => {
             let shade = Shade {
-                weight: value.weight,
+                measure: value.measure(),
             };
             Call::Land(id, key, Land::Keep(shade), now)
         }
@@ -65,7 +65,7 @@ fn shaded(act: Do, key: u64, now: u64) -> Noted<u64> {
         Do::Fail(id) => Call::Land(id, key, Land::Failed, now),
         Do::Put(value) => {
             let shade = Shade {
-                weight: value.weight,
+                measure: value.measure(),
             };
             Call::Put(key, shade, now)
         }

@@ -2,6 +2,7 @@
 use Rattle.std.specs.Prelude.{◌≡◌, ◌≤◌, ℕ, ◌+◌, Bool, if◌then◌else◌, List, [], ◌∷◌, ◌++◌, length, Option, Some, None, is_some, IfSome, IsSome, Result, Ok, Err}
 use mathlib.Core.List.{IsPrefix}
 use Rattle.wt_regions.specs.declared.notices.Notice.{Notice}
+use Rattle.wt_regions.specs.declared.weighs.Measure.{Measure}
 use Rattle.wt_core.specs.declared.calls.Call.{Call}
 use Rattle.wt_core.specs.declared.calls.Reply.{Reply}
 use Rattle.wt_core.specs.declared.config.Config.{Config}
@@ -34,23 +35,23 @@ module _ {K V : Type 0} where
   left_by made m = if made then m.notices else []
 
   -- keys are compared by eq and counted by their words; a value has a weight
-  module _ (eq : K → K → Bool) (word : K → ℕ) (weight : V → ℕ) where
+  module _ (eq : K → K → Bool) (word : K → ℕ) (measure : V → Measure) where
     -- the sequential cache after these calls
     abbrev pub state_after : Config → List (Call K V) → State K V
-    state_after config calls = run eq word weight (opening config) calls
+    state_after config calls = run eq word measure (opening config) calls
 
     -- what is true of these calls, as of every run of a cache that was empty before
     pub record IsRun (config : Config) (calls : List (Call K V)) : Type 0 where
       -- a key has at most one current load behind them
-      pub current : HasOneCurrent eq word weight (opening config) calls
+      pub current : HasOneCurrent eq word measure (opening config) calls
       -- an id is opened at most once among them, and is then open or landed once
-      pub landed : (id : ℕ) → IsLandedOnce eq word weight (opening config) calls id
+      pub landed : (id : ℕ) → IsLandedOnce eq word measure (opening config) calls id
       -- a landing among them tells of the lead and of each of them that joins the load
       pub shared : (before after : List (Call K V)) (id : ℕ) (k : K) (what : Landing V) (now : ℕ)
           → before ++ Land id k what now ∷ after ≡ calls
-          → IfSome (sharers_told (taken eq word weight (state_after config before) (Land id k what now)).reply) (λ n. n ≡ joins eq word weight id (opening config) calls + 1)
+          → IfSome (sharers_told (taken eq word measure (state_after config before) (Land id k what now)).reply) (λ n. n ≡ joins eq word measure id (opening config) calls + 1)
       -- a load that a seek behind them opens, and that a later call makes stale, lands without being stored
-      pub stale : StaleIsUnstored eq word weight (state_after config calls)
+      pub stale : StaleIsUnstored eq word measure (state_after config calls)
 
     -- what is shared is the outcome of its history
     pub record IsKept (known : Known K V) (kept : Kept K V) : Type 0 where
@@ -68,10 +69,10 @@ module _ {K V : Type 0} where
         pub kept : IsKept known new
         pub before : IsPrefix known.seen.entries old.log.entries
         pub calls : new.log.entries ≡ with_call (is_some reply) old.log.entries call
-        pub answer : IfSome reply (λ r. r ≡ (taken eq word weight old.core call).reply)
-        pub left : new.notices.list ≡ left_by (is_some reply) (taken eq word weight old.core call)
-        pub refusal : IsSome (refusal_of eq word weight old.core call) → IsSome reply
-        pub memory : TakesNone copied eq weight old.core call → IsSome reply
+        pub answer : IfSome reply (λ r. r ≡ (taken eq word measure old.core call).reply)
+        pub left : new.notices.list ≡ left_by (is_some reply) (taken eq word measure old.core call)
+        pub refusal : IsSome (refusal_of eq word measure old.core call) → IsSome reply
+        pub memory : TakesNone copied eq measure old.core call → IsSome reply
 
       -- what a step does, by what it returns
       abbrev pub Adds : Result (Reply V) Unmade → Known K V → Call K V → Kept K V → Kept K V → Type 0
@@ -88,12 +89,12 @@ module _ {K V : Type 0} where
         pub calls : new.known.seen.entries ≡ with_call (is_some reply) (old.known.seen.entries ++ between) call
         -- its number is its place, from 1
         pub number : new.number ≡ length new.known.seen.entries
-        pub answer : IfSome reply (λ r. r ≡ (taken eq word weight (state_after old.known.config (old.known.seen.entries ++ between)) call).reply)
-        pub left : new.left ≡ left_by (is_some reply) (taken eq word weight (state_after old.known.config (old.known.seen.entries ++ between)) call)
+        pub answer : IfSome reply (λ r. r ≡ (taken eq word measure (state_after old.known.config (old.known.seen.entries ++ between)) call).reply)
+        pub left : new.left ≡ left_by (is_some reply) (taken eq word measure (state_after old.known.config (old.known.seen.entries ++ between)) call)
         -- what the state refuses is refused whatever the memory does
-        pub refusal : IsSome (refusal_of eq word weight (state_after old.known.config (old.known.seen.entries ++ between)) call) → IsSome reply
+        pub refusal : IsSome (refusal_of eq word measure (state_after old.known.config (old.known.seen.entries ++ between)) call) → IsSome reply
         -- a call that takes no memory isn't refused any
-        pub memory : TakesNone copied eq weight (state_after old.known.config (old.known.seen.entries ++ between)) call → IsSome reply
+        pub memory : TakesNone copied eq measure (state_after old.known.config (old.known.seen.entries ++ between)) call → IsSome reply
         -- it is the same cache
         pub config : new.known.config ≡ old.known.config
         pub book : new.known.seen.book ≡ old.known.seen.book

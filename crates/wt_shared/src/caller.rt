@@ -54,8 +54,8 @@ fn step<K: CacheKey, V: Share + Weighs>(
     known: &Known<K, V>,
     call: Call<K, V>,
 ) -> Result<Reply<V>, Unmade>
-    requires lawful { IsKept K.eq K.word V.weight known.now kept.old }
-    ensures made { Adds K.eq K.word V.weight V.Share.is_copied result known.now call kept.old kept.new }
+    requires lawful { IsKept K.eq K.word V.measure known.now kept.old }
+    ensures made { Adds K.eq K.word V.measure V.Share.is_copied result known.now call kept.old kept.new }
 {
     let at = kept.count;
     if at >= 1 << 60 {
@@ -164,7 +164,7 @@ impl<K: CacheKey, V: Share + Weighs> Caller<K, V> {
     #[inline(always)]
     #[tactic(auto, using(crate::proofs::Placing::becomes))]
     pub fn call(&mut self, call: Call<K, V>) -> Result<Reply<V>, Unmade>
-        ensures made { Becomes K.eq K.word V.weight V.Share.is_copied result call self.old self.new }
+        ensures made { Becomes K.eq K.word V.measure V.Share.is_copied result call self.old self.new }
     {
         let Some(mut held) = take(&self.slot) else {
             return Err(Unmade::Busy);
@@ -200,7 +200,7 @@ impl<K: CacheKey, V: Share + Weighs> Caller<K, V> {
     ///
     /// The function does nothing, and takes no memory.
     pub fn laws(&self)
-        ensures { IsRun K.eq K.word V.weight self.now.known.config self.now.known.seen.entries }
+        ensures { IsRun K.eq K.word V.measure self.now.known.config self.now.known.seen.entries }
     {
         one_current_load::<K, V>();
         landed_once::<K, V>();

@@ -24,7 +24,7 @@ impl<K: CacheKey, V: Share + Weighs> Fits for Held<K, V> {
 
     type Tag = Known<K, V>;
 
-    ghost fits = { λ tag held. IsKept K.eq K.word V.weight tag held.kept.value };
+    ghost fits = { λ tag held. IsKept K.eq K.word V.measure tag held.kept.value };
 }
 
 // Takes the cache out, if no other call has it.
@@ -32,7 +32,7 @@ impl<K: CacheKey, V: Share + Weighs> Fits for Held<K, V> {
 pub(crate) fn take<K: CacheKey, V: Share + Weighs>(
     slot: &Counted<Option<Held<K, V>>>,
 ) -> Option<Held<K, V>>
-    ensures { IfSome result (λ held. IsKept K.eq K.word V.weight slot.now held.kept.value) }
+    ensures { IfSome result (λ held. IsKept K.eq K.word V.measure slot.now held.kept.value) }
 {
     let (found, claim) = slot.turn(FREE, TAKEN);
     if found != FREE {
@@ -48,7 +48,7 @@ pub(crate) fn give<K: CacheKey, V: Share + Weighs>(
     slot: &Counted<Option<Held<K, V>>>,
     held: Held<K, V>,
 )
-    requires { IsKept K.eq K.word V.weight slot.now held.kept.value }
+    requires { IsKept K.eq K.word V.measure slot.now held.kept.value }
 {
     let (found, claim) = slot.turn(PRESENT, TAKEN);
     if found != PRESENT {

@@ -1,6 +1,6 @@
 //! Calls on a key, as rows of a table or by chance.
 use crate::dice::Dice;
-use crate::loaded::Loaded;
+use crate::loaded::{Loaded, random_value};
 use wt_core::{Call, Land};
 
 /// The call; a landing with its id.
@@ -39,8 +39,7 @@ pub fn call_of(act: Do, key: u64, now: u64) -> Call<u64, Loaded> {
 /// Returns what is done next to a key: mostly seeks, and landings of its own load, whose id is
 /// `own`, or now and then of any id below `ids`.
 pub fn choose(dice: &mut Dice, own: Option<u64>, ids: u64, version: u64) -> Do {
-    let weight = u32::try_from(dice.roll(7)).unwrap_or(0);
-    let value = Loaded { version, weight };
+    let value = random_value(dice, version);
     let id = match own {
         Some(id) if dice.roll(6) > 0 => id,
         _ => dice.roll(ids),

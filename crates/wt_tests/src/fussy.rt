@@ -4,7 +4,7 @@ use std::cell::Cell;
 use std::marker::Model;
 use std::rc::Rc;
 use wt_keys::{Answers, NoMemory, Share};
-use wt_regions::Weighs;
+use wt_regions::{Measure, Weighs};
 
 /// A value that counts down with each share of it and of its like: the share that comes to 0 is
 /// refused. It weighs 1, and answers each key.
@@ -56,10 +56,12 @@ impl Share for Fussy {
 }
 
 impl Weighs for Fussy {
-    ghost weight = { λ _. 1 };
+    ghost use Rattle.wt_regions.specs.Lists.{lasting};
 
-    fn weight(&self) -> u32 {
-        1
+    ghost measure = { λ _. lasting 1 };
+
+    fn measure(&self) -> Measure {
+        Measure::lasting(1)
     }
 }
 

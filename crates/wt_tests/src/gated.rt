@@ -6,7 +6,7 @@ use std::sync::Arc;
 use std::sync::atomic::{AtomicBool, Ordering};
 use std::thread;
 use wt_keys::{Answers, NoMemory, Share};
-use wt_regions::Weighs;
+use wt_regions::{Measure, Weighs};
 
 /// A gate at which a share or a drop waits. It shows that one has begun, and lets it go on once it
 /// is opened.
@@ -113,10 +113,12 @@ impl Share for Gated {
 }
 
 impl Weighs for Gated {
-    ghost weight = { λ v. 1 };
+    ghost use Rattle.wt_regions.specs.Lists.{lasting};
 
-    fn weight(&self) -> u32 {
-        1
+    ghost measure = { λ v. lasting 1 };
+
+    fn measure(&self) -> Measure {
+        Measure::lasting(1)
     }
 }
 

@@ -16,5 +16,5 @@ pub use dice::Dice;
 pub use fussy::{Fussy, counter};
 pub use gated::{Gate, Gated};
 pub use lists::{Lists, Row};
-pub use loaded::{Loaded, light};
+pub use loaded::{Loaded, light, random_value};
 pub use said::{Said, comparable};

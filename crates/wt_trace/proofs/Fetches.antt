@@ -8,7 +8,8 @@ use Rattle.std.specs.Option.{option_map_or}
 use Rattle.wt_keys.specs.declared.fault.Fault.{Fault}
 use Rattle.wt_regions.specs.declared.touch.Found.{Found}
 use Rattle.wt_regions.specs.declared.touch.Found.TheVariants as found
-use Rattle.wt_regions.specs.Lists.{Told}
+use Rattle.wt_regions.specs.declared.weighs.Measure.{Measure}
+use Rattle.wt_regions.specs.Lists.{Told, lasting}
 use Rattle.wt_flights.specs.declared.row.Row.{Row}
 use Rattle.wt_flights.specs.Rows.{Flights, begun, landed, row_of, current_of, is_current, one_more}
 use Rattle.wt_flights.proofs.Newest.{IsFresh, landed-begun, row_of-begun}
@@ -42,14 +43,14 @@ module _ {K : Type 0} (eq : K → K → Bool) (k : K) where
   joined_ids [] = refl
   joined_ids (r ∷ rs) = λ i. more_id (is_current eq k r) r i ∷ joined_ids rs i
 
-  module _ {V : Type 0} (word : K → ℕ) (weight : V → ℕ) where
+  module _ {V : Type 0} (word : K → ℕ) (measure : V → Measure) where
     either : (b : Bool) (s : State K V) (t u : Told K V) (x y : Reply V) → (if b then made s t x else made s u y).state.flights ≡ s.flights
     either true s t u x y = refl
     either false s t u x y = refl
 
-    landing_flights : (row : Row K) (what : Land V) (s : State K V) → (landing eq word weight k row what s).state.flights ≡ s.flights
+    landing_flights : (row : Row K) (what : Land V) (s : State K V) → (landing eq word measure k row what s).state.flights ≡ s.flights
     landing_flights row (land.Keep v) s =
-        either (is_kept weight row v s) (with_load s) (storing eq word weight k v s) (own_expired eq k s)
+        either (is_kept measure row v s) (with_load s) (storing eq word measure k v s) (own_expired eq k s)
         (reply.Kept row.sharers) (reply.Loose row.sharers)
     landing_flights row land.Loose s = refl
     landing_flights row land.Failed s = refl
@@ -57,10 +58,10 @@ module _ {K : Type 0} (eq : K → K → Bool) (k : K) where
     -- the landing of the flight that was just begun is no refusal, and leaves the flights of before
     landed_at_once : (same : eq k k ≡ true) (t : Flights K) → IsFresh t → (s : State K V)
         → s.flights ≡ begun k t → (what : Land V) (now : ℕ)
-        → (taken eq word weight s (call.Land t.next k what now)).state.flights.rows ≡ t.rows
+        → (taken eq word measure s (call.Land t.next k what now)).state.flights.rows ≡ t.rows
     landed_at_once same t fresh s e what now =
-        (λ i. (taken_if eq word weight (if is_some (found i) then None else spent s) s (call.Land t.next k what now)).state.flights.rows)
-        ∙ (λ i. (option_map_or (λ row. landing eq word weight k row what
+        (λ i. (taken_if eq word measure (if is_some (found i) then None else spent s) s (call.Land t.next k what now)).state.flights.rows)
+        ∙ (λ i. (option_map_or (λ row. landing eq word measure k row what
         (with_flights (landed t.next s.flights) (stepped now s))) (found i)
         (made (stepped now s) (own_expired eq k (stepped now s)) reply.Gone)).state.flights.rows)
         ∙ ap (λ (x : Flights K). x.rows) (landing_flights new what (with_flights (landed t.next s.flights) (stepped now s)))
@@ -84,13 +85,13 @@ module _ {K : Type 0} (keys : Keys K) (o : Options) (n moment : ℕ) (k : K) (sa
       → ids (take keys (with_count keys.word k (sought keys.eq k (reply.Lead s.flights.next) s)).state
       (call.Land s.flights.next k (load keys o n k) moment)).state.flights ≡ ids s.flights
   led s fresh = ap (map (λ (r : Row K). r.id))
-      (landed_at_once keys.eq k keys.word (λ v. v.weight) same s.flights fresh
+      (landed_at_once keys.eq k keys.word (λ v. lasting v.weight) same s.flights fresh
       (with_count keys.word k (sought keys.eq k (reply.Lead s.flights.next) s)).state refl
       (load keys o n k) moment)
 
   led_hit : (s : State K (Version K)) → IsFresh s.flights → (v : Version K) → after (reply.HitLead v s.flights.next) s ≡ ids s.flights
   led_hit s fresh v = ap (map (λ (r : Row K). r.id))
-      (landed_at_once keys.eq k keys.word (λ v. v.weight) same s.flights fresh
+      (landed_at_once keys.eq k keys.word (λ v. lasting v.weight) same s.flights fresh
       (with_count keys.word k (sought keys.eq k (reply.HitLead v s.flights.next) s)).state refl
       (load keys o n k) moment)
 
@@ -110,7 +111,7 @@ module _ {K : Type 0} (keys : Keys K) (o : Options) (n moment : ℕ) (k : K) (sa
   by_found found.Expired s fresh = by_current (current_of keys.eq k s.flights) s fresh
 
   by_refusal : (s : State K (Version K)) → IsFresh s.flights → (fault : Option Fault) →
-      let m : Made K (Version K) = taken_if keys.eq keys.word (λ v. v.weight) fault s (call.Seek k moment) in
+      let m : Made K (Version K) = taken_if keys.eq keys.word (λ v. lasting v.weight) fault s (call.Seek k moment) in
       ids (fetched keys o n moment k m.reply m).state.flights ≡ ids s.flights
   by_refusal s fresh (Some fault) = refl
   by_refusal s fresh None = by_found (found_in keys.eq k (stepped moment s)) (stepped moment s) fresh
@@ -118,7 +119,7 @@ module _ {K : Type 0} (keys : Keys K) (o : Options) (n moment : ℕ) (k : K) (sa
   -- whatever the line meets, the same flights are open after it as before
   pub get_leaves : (shard : ℕ) (s : State K (Version K)) → IsFresh s.flights
       → ids (act_step keys o shard n moment (act.Get k) s).state.flights ≡ ids s.flights
-  get_leaves shard s fresh = by_refusal s fresh (refusal_of keys.eq keys.word (λ v. v.weight) s (call.Seek k moment))
+  get_leaves shard s fresh = by_refusal s fresh (refusal_of keys.eq keys.word (λ v. lasting v.weight) s (call.Seek k moment))
 
 -- in a lawful table no row has the next id
 pub not_next : {K : Type 0} (n : ℕ) (rows : List (Row K)) → All (λ (r : Row K). r.id < n) rows

@@ -2,6 +2,7 @@
 use Rattle.std.proofs.Common.{◌≡◌, ℕ, zero, suc, ◌+◌, ◌==◌, Bool, true, false, List, [], ◌∷◌, ◌++◌, Option, Some, None, refl, sym, ap, ◌∙◌}
 use Rattle.std.specs.Prelude.{codes, nat_lt, if◌then◌else◌}
 use Rattle.std.specs.Option.{option_map_or}
+use Rattle.wt_regions.specs.Lists.{lasting}
 use Rattle.wt_flights.specs.declared.row.Row.{Row}
 use Rattle.wt_flights.specs.Rows.{first_of}
 use Rattle.wt_core.specs.declared.calls.Call.{Call}
@@ -26,7 +27,7 @@ use Rattle.wt_trace.specs.Line.{looked_up}
 module _ {K : Type 0} (keys : Keys K) (o : Options) where
   -- a run of a trace's calls
   abbrev ran : State K (Version K) → List (Call K (Version K)) → State K (Version K)
-  ran s calls = run keys.eq keys.word (λ v. v.weight) s calls
+  ran s calls = run keys.eq keys.word (λ v. lasting v.weight) s calls
 
   ran-append : (s : State K (Version K)) (before after : List (Call K (Version K))) → ran s (before ++ after) ≡ ran (ran s before) after
   ran-append s [] after = refl
@@ -74,11 +75,11 @@ module _ {K : Type 0} (keys : Keys K) (o : Options) where
   slide-ran false wider moment s = refl
 
   slides-ran : (slides want moment : ℕ) (s : State K (Version K))
-      → slid_by keys.eq keys.word (λ v. v.weight) slides want moment s ≡ ran s (slide_calls keys o slides want moment s)
+      → slid_by keys.eq keys.word (λ v. lasting v.weight) slides want moment s ≡ ran s (slide_calls keys o slides want moment s)
   unfolding slid_by slid_towards
   slides-ran zero want moment s = refl
   slides-ran (suc slides) want moment s =
-      let now : State K (Version K) = slid_by keys.eq keys.word (λ v. v.weight) slides want moment s in
+      let now : State K (Version K) = slid_by keys.eq keys.word (λ v. lasting v.weight) slides want moment s in
       let last : List (Call K (Version K)) =
       slide_if keys o (now.regions.caps.window == want) (nat_lt now.regions.caps.window want) moment in
       slide-ran (now.regions.caps.window == want) (nat_lt now.regions.caps.window want) moment now

@@ -2,6 +2,7 @@
 use Rattle.std.specs.Prelude.{ℕ, ◌+◌, ◌%◌, ◌==◌, nat_lt, Bool, true, false, if◌then◌else◌, List, [], ◌∷◌, ◌++◌, Option, None, Some, codes}
 use Rattle.std.specs.Option.{option_map_or}
 use Rattle.wt_keys.specs.Hash.{shard_of}
+use Rattle.wt_regions.specs.Lists.{lasting}
 use Rattle.wt_regions.specs.declared.notices.Notice.{Notice}
 use Rattle.wt_flights.specs.Rows.{first_of}
 use Rattle.wt_core.specs.declared.calls.Call.{Call}
@@ -59,13 +60,13 @@ new_cache o = record { state = opening (config_of o); advice = if nat_lt 0 o.ada
 module _ {K : Type 0} (keys : Keys K) where
   -- what a call makes of a state, for values of a trace
   abbrev pub take : State K (Version K) → Call K (Version K) → Made K (Version K)
-  take s c = taken keys.eq keys.word (λ v. v.weight) s c
+  take s c = taken keys.eq keys.word (λ v. lasting v.weight) s c
 
   -- the window follows a look-up of the key, if one was made and there is an adviser
   abbrev pub followed_by : Option K → Option (Advice K) → ℕ → State K (Version K) → Cache K
   followed_by (Some k) (Some a) moment s =
       let advice : Advice K = saw keys.eq keys.word k a in
-      record { state = slid_by keys.eq keys.word (λ v. v.weight) 4 (wanted advice) moment s; advice = Some advice }
+      record { state = slid_by keys.eq keys.word (λ v. lasting v.weight) 4 (wanted advice) moment s; advice = Some advice }
   followed_by looked advice moment s = record { state = s; advice = advice }
 
   -- the same of a cache

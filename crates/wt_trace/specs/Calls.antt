@@ -1,6 +1,7 @@
 -- The calls that the lines of a trace make at a shard.
 use Rattle.std.specs.Prelude.{◌≡◌, ℕ, zero, suc, ◌+◌, ◌==◌, nat_lt, Bool, if◌then◌else◌, List, [], ◌∷◌, ◌++◌, Option, Some}
 use Rattle.std.specs.Option.{option_map_or}
+use Rattle.wt_regions.specs.Lists.{lasting}
 use Rattle.wt_flights.specs.Rows.{first_of}
 use Rattle.wt_core.specs.declared.calls.Call.{Call}
 use Rattle.wt_core.specs.declared.calls.Call.TheVariants as call
@@ -47,7 +48,7 @@ module _ {K : Type 0} (keys : Keys K) (o : Options) where
   abbrev pub slide_calls : ℕ → ℕ → ℕ → State K (Version K) → List (Call K (Version K))
   slide_calls zero want moment s = []
   slide_calls (suc slides) want moment s =
-      let now : State K (Version K) = slid_by keys.eq keys.word (λ v. v.weight) slides want moment s in
+      let now : State K (Version K) = slid_by keys.eq keys.word (λ v. lasting v.weight) slides want moment s in
       slide_calls slides want moment s ++ slide_if (now.regions.caps.window == want) (nat_lt now.regions.caps.window want) moment
 
   -- the slides that follow a look-up of the key, if one was made and there is an adviser
@@ -77,5 +78,5 @@ module _ {K : Type 0} (keys : Keys K) (o : Options) where
 
   -- the lines leave a shard as a run of their calls leaves the cache, and its numbers are told at the end
   pub record IsRun (n : ℕ) (lines : List (Line K)) (shard : ℕ) : Type 0 where
-    pub state : (cache_from shard n lines (new_cache o)).state ≡ run keys.eq keys.word (λ v. v.weight) (opening (config_of o)) (calls_from shard n lines (new_cache o))
+    pub state : (cache_from shard n lines (new_cache o)).state ≡ run keys.eq keys.word (λ v. lasting v.weight) (opening (config_of o)) (calls_from shard n lines (new_cache o))
     pub stats : (answers keys o n lines shard).stats ≡ stats_of (cache_from shard n lines (new_cache o)).state

@@ -3,6 +3,8 @@ use Rattle.std.specs.Prelude.{◌≡◌, ◌⊎◌, ℕ, ◌+◌, ◌-◌, ◌<�
 use Rattle.std.specs.Option.{option_map_or}
 use Rattle.wt_keys.specs.declared.fault.Fault.{Fault}
 use Rattle.wt_keys.specs.declared.fault.Fault.TheVariants.{NoMemory, LoadFailed, TooHeavy, TooManyFlights}
+use Rattle.wt_regions.specs.declared.weighs.Measure.{Measure}
+use Rattle.wt_regions.specs.Lists.{lasting}
 use Rattle.wt_regions.specs.Notices.{NoticeList}
 use Rattle.wt_core.specs.declared.calls.Call.{Call}
 use Rattle.wt_core.specs.declared.calls.Call.TheVariants as call
@@ -47,9 +49,9 @@ abbrev pub loaded : {K : Type 0} → (K → ℕ) → Options → K → Result (V
 loaded word o k = if option_map_or (λ f. word k % f == 0) o.fail_mod false then Err 7 else Ok (record { key = k; line = 0; weight = 1 + word k % o.modulus })
 
 module _ {K : Type 0} (keys : Keys K) where
-  -- a value weighs as it says
-  abbrev pub weight_of : Version K → ℕ
-  weight_of v = v.weight
+  -- a value weighs as it says, and has no life of its own
+  abbrev pub measure_of : Version K → Measure
+  measure_of v = lasting v.weight
 
   -- a value answers the key that it was made for
   abbrev pub answers_for : Version K → K → Bool
@@ -57,7 +59,7 @@ module _ {K : Type 0} (keys : Keys K) where
 
   -- what a cache asks of the keys of a trace and of their values
   abbrev pub members : Members K (Version K)
-  members = members_by keys.eq keys.word weight_of answers_for
+  members = members_by keys.eq keys.word measure_of answers_for
 
   module _ (o : Options) (c : Cached) (old new : Seen K (Version K)) where
     -- the number of a key's shard

@@ -1,5 +1,5 @@
 // The pages.
-use wt_core::Weighs;
+use wt_core::{Measure, Weighs};
 use wt_keys::{Answers, NoMemory, Share};
 
 /// A page that knows its number, so that no other can be answered for it.
@@ -16,10 +16,10 @@ impl Share for Page {
 }
 
 impl Weighs for Page {
-    ghost weight = { λ page. 1 };
+    ghost measure = { λ page. record { weight = 1; life = 0 } };
 
-    fn weight(&self) -> u32 {
-        1
+    fn measure(&self) -> Measure {
+        Measure::lasting(1)
     }
 }
 

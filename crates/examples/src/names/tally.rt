@@ -1,7 +1,7 @@
 // The value that the example keeps for a name, and its loader.
 use std::sync::atomic::{AtomicU64, Ordering};
 use wt_cache::Loader;
-use wt_core::Weighs;
+use wt_core::{Measure, Weighs};
 use wt_keys::{Answers, Name, NoMemory, Share};
 
 /// The number of the load that found a name.
@@ -18,10 +18,10 @@ impl Share for Tally {
 }
 
 impl Weighs for Tally {
-    ghost weight = { λ tally. 1 };
+    ghost measure = { λ tally. record { weight = 1; life = 0 } };
 
-    fn weight(&self) -> u32 {
-        1
+    fn measure(&self) -> Measure {
+        Measure::lasting(1)
     }
 }
 

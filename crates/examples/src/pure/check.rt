@@ -1,6 +1,6 @@
 // The function, as a source, and its values.
 use wt_cache::Loader;
-use wt_core::Weighs;
+use wt_core::{Measure, Weighs};
 use wt_keys::{Answers, NoMemory, Share};
 
 /// A check number.
@@ -16,10 +16,10 @@ impl Share for Check {
 }
 
 impl Weighs for Check {
-    ghost weight = { λ _. 1 };
+    ghost measure = { λ _. record { weight = 1; life = 0 } };
 
-    fn weight(&self) -> u32 {
-        1
+    fn measure(&self) -> Measure {
+        Measure::lasting(1)
     }
 }
 

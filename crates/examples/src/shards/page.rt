@@ -1,5 +1,5 @@
 // The pages that the cache holds.
-use wt_core::Weighs;
+use wt_core::{Measure, Weighs};
 use wt_keys::{Answers, NoMemory, Share};
 
 /// A page of a site: its number, and the version of its text.
@@ -18,10 +18,10 @@ impl Share for Page {
 
 /// Each page weighs 1.
 impl Weighs for Page {
-    ghost weight = { λ page. 1 };
+    ghost measure = { λ page. record { weight = 1; life = 0 } };
 
-    fn weight(&self) -> u32 {
-        1
+    fn measure(&self) -> Measure {
+        Measure::lasting(1)
     }
 }
 

@@ -49,7 +49,7 @@ pub fn peek<K: CacheKey, V: Value<K>, B: Books, R: Wait>(
     key: K,
     now: u64,
 ) -> Result<Option<V>, Fault>
-    ensures { IfOk result (FoundOnly (IsBroughtYoung K.eq K.word V.weight shards.now.config
+    ensures { IfOk result (FoundOnly (IsBroughtYoung K.eq K.word V.measure shards.now.config
         (front_at (home_of K.word key shards.now) pass.new) key now)) }
 {
     // For the prover: shows how old a found value may be.

@@ -22,7 +22,7 @@ pub fn read<K: CacheKey, V: Value<K>, B: Books, R: Wait>(
     key: K,
     now: u64,
 ) -> Result<Done<Reply<V>>, Fault>
-    ensures { IfOk result (λ done. IsReadYoung K.eq K.word V.weight shards.now.config key now
+    ensures { IfOk result (λ done. IsReadYoung K.eq K.word V.measure shards.now.config key now
         (front_at (home_of K.word key shards.now) pass.new) done.reply) }
 {
     let mut notices = Notices::new(alloc, shards.entries() as usize)?;

@@ -6,7 +6,7 @@ use std::sync::Arc;
 use std::sync::atomic::{AtomicU64, Ordering};
 use std::thread;
 use wt_cache::{Loader, LoadingCache};
-use wt_core::{Config, Weighs};
+use wt_core::{Config, Measure, Weighs};
 use wt_keys::{Answers, NoMemory, Share};
 use wt_shards::{Of, Shards};
 
@@ -33,10 +33,10 @@ impl Share for Version {
 }
 
 impl Weighs for Version {
-    ghost weight = { λ v. v.weight };
+    ghost measure = { λ v. record { weight = v.weight; life = 0 } };
 
-    fn weight(&self) -> u32 {
-        self.weight
+    fn measure(&self) -> Measure {
+        Measure::lasting(self.weight)
     }
 }
 

@@ -10,7 +10,7 @@ use std::test::Fail;
 use std::thread;
 use std::thread::Threads;
 use wt_cache::{Callers, Loader, LoadingCache};
-use wt_core::{Config, Weighs};
+use wt_core::{Config, Measure, Weighs};
 use wt_keys::{Answers, Fault, NoMemory, Share};
 use wt_shards::{Blanks, Names, Of, Shards};
 use wt_tests::Gate;
@@ -49,10 +49,10 @@ impl Share for Slow {
 }
 
 impl Weighs for Slow {
-    ghost weight = { λ v. 1 };
+    ghost measure = { λ v. record { weight = 1; life = 0 } };
 
-    fn weight(&self) -> u32 {
-        1
+    fn measure(&self) -> Measure {
+        Measure::lasting(1)
     }
 }
 

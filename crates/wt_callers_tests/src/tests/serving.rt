@@ -171,7 +171,7 @@ fn serve_refuses_settings_out_of_their_range(rt: HostRuntime) -> Result<(), Fail
 fn a_keyed_value_answers_its_own_key(rt: HostRuntime) -> Result<(), Fail> {
     let kept: Number = Keyed { key: 7, value: 70 };
     same(&rt, "a share of the value", kept.share()?, kept);
-    same(&rt, "the value's weight", kept.weight(), 1);
+    same(&rt, "the value's weight", kept.measure().weight, 1);
     holds(
         &rt,
         "it answers its own key alone",

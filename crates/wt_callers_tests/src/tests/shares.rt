@@ -11,7 +11,7 @@ use std::sync::atomic::{AtomicU64, Ordering};
 use std::sync::{Arc, Wait};
 use std::test::Fail;
 use wt_cache::{How, JobLine, Loader, LoadingCache, WorkerReport};
-use wt_core::{Config, Notices, Weighs};
+use wt_core::{Config, Measure, Notices, Weighs};
 use wt_flights::{Lead, Outcome, Ticket};
 use wt_keys::{Answers, Fault, NoMemory, Share};
 use wt_shards::{Blanks, Names, Of, Pass, Shards, Sought};
@@ -47,10 +47,10 @@ impl Share for Scarce {
 }
 
 impl Weighs for Scarce {
-    ghost weight = { λ v. 1 };
+    ghost measure = { λ v. record { weight = 1; life = 0 } };
 
-    fn weight(&self) -> u32 {
-        1
+    fn measure(&self) -> Measure {
+        Measure::lasting(1)
     }
 }
 

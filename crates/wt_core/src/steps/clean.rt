@@ -20,11 +20,11 @@ impl<K: CacheKey, V: Share + Weighs> Core<K, V> {
     pub fn clean(&mut self, now: u64, notices: &mut Notices<K, V>) -> Result<(), Fault>
         requires room { self.old.regions.caps.entries ≤ notices.old.room }
 
-        ensures state { Steps K.eq K.word V.weight (Clean now) self.old self.new result }
-        ensures notices { Tells K.eq K.word V.weight (Clean now) self.old
+        ensures state { Steps K.eq K.word V.measure (Clean now) self.old self.new result }
+        ensures notices { Tells K.eq K.word V.measure (Clean now) self.old
             notices.old notices.new result }
 
-        ensures refusal { RefusesOnly K.eq K.word V.weight (Clean now) self.old result }
+        ensures refusal { RefusesOnly K.eq K.word V.measure (Clean now) self.old result }
         ensures same { self.new.regions.caps ≡ self.old.regions.caps }
         ensures whole { KeepsWhole notices.old notices.new }
         ensures err { OnErr result ((self.new ≡ self.old) × (notices.new ≡ notices.old)) }

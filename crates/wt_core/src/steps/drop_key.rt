@@ -23,12 +23,12 @@ impl<K: CacheKey, V: Share + Weighs> Core<K, V> {
     pub fn drop_key(&mut self, key: K, now: u64, notices: &mut Notices<K, V>) -> Result<bool, Fault>
         requires room { self.old.regions.caps.entries ≤ notices.old.room }
 
-        ensures state { Steps K.eq K.word V.weight (DropKey key now) self.old self.new result }
-        ensures answer { RepliesBy K.eq K.word V.weight Dropped (DropKey key now) self.old result }
-        ensures notices { Tells K.eq K.word V.weight (DropKey key now) self.old
+        ensures state { Steps K.eq K.word V.measure (DropKey key now) self.old self.new result }
+        ensures answer { RepliesBy K.eq K.word V.measure Dropped (DropKey key now) self.old result }
+        ensures notices { Tells K.eq K.word V.measure (DropKey key now) self.old
             notices.old notices.new result }
 
-        ensures refusal { RefusesOnly K.eq K.word V.weight (DropKey key now) self.old result }
+        ensures refusal { RefusesOnly K.eq K.word V.measure (DropKey key now) self.old result }
         ensures same { self.new.regions.caps ≡ self.old.regions.caps }
         ensures whole { KeepsWhole notices.old notices.new }
         ensures err { OnErr result ((self.new ≡ self.old) × (notices.new ≡ notices.old)) }

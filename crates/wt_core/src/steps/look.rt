@@ -24,17 +24,17 @@ impl<K: CacheKey, V: Share + Weighs> Core<K, V> {
     pub fn look(&mut self, key: K, now: u64, notices: &mut Notices<K, V>) -> Result<Reply<V>, Fault>
         requires room { self.old.regions.caps.entries ≤ notices.old.room }
 
-        ensures state { Steps K.eq K.word V.weight (Look key now) self.old self.new result }
-        ensures answer { Replies K.eq K.word V.weight (Look key now) self.old result }
-        ensures notices { Tells K.eq K.word V.weight (Look key now) self.old
+        ensures state { Steps K.eq K.word V.measure (Look key now) self.old self.new result }
+        ensures answer { Replies K.eq K.word V.measure (Look key now) self.old result }
+        ensures notices { Tells K.eq K.word V.measure (Look key now) self.old
             notices.old notices.new result }
 
-        ensures refusal { Refuses K.eq K.word V.weight (Look key now) self.old result }
+        ensures refusal { Refuses K.eq K.word V.measure (Look key now) self.old result }
         ensures same { self.new.regions.caps ≡ self.old.regions.caps }
         ensures whole { KeepsWhole notices.old notices.new }
         ensures miss_succeeds { SucceedsAbsent K.eq key now self.old result }
         // Nor does a hit take memory if it moves no entry of probation and a share is a copy.
-        ensures none_succeeds { SucceedsBare K.eq K.word V.weight V.Share.is_copied
+        ensures none_succeeds { SucceedsBare K.eq K.word V.measure V.Share.is_copied
             (Look key now) self.old result }
         ensures err { OnErr result ((self.new ≡ self.old) × (notices.new ≡ notices.old)) }
     {

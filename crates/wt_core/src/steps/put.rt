@@ -30,16 +30,16 @@ impl<K: CacheKey, V: Share + Weighs> Core<K, V> {
     ) -> Result<(), Fault>
         requires room { self.old.regions.caps.entries ≤ notices.old.room }
 
-        ensures state { Steps K.eq K.word V.weight (Put key value now) self.old self.new result }
-        ensures notices { Tells K.eq K.word V.weight (Put key value now) self.old
+        ensures state { Steps K.eq K.word V.measure (Put key value now) self.old self.new result }
+        ensures notices { Tells K.eq K.word V.measure (Put key value now) self.old
             notices.old notices.new result }
 
-        ensures refusal { Refuses K.eq K.word V.weight (Put key value now) self.old result }
+        ensures refusal { Refuses K.eq K.word V.measure (Put key value now) self.old result }
         ensures same { self.new.regions.caps ≡ self.old.regions.caps }
         ensures whole { KeepsWhole notices.old notices.new }
         ensures err { OnErr result ((self.new ≡ self.old) × (notices.new ≡ notices.old)) }
     {
-        within(value.weight(), self.bound)?;
+        within(value.measure().weight, self.bound)?;
         unspent(self.step)?;
         // For the prover: shows `lawful`, which bounds the notices.
         let _len = self.regions.len();

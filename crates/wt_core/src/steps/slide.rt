@@ -26,14 +26,14 @@ impl<K: CacheKey, V: Share + Weighs> Core<K, V> {
     ///
     /// In use: `uses::plain::slide`.
     pub fn slide(&mut self, wider: bool, now: u64) -> Result<bool, Fault>
-        ensures state { Steps K.eq K.word V.weight (Slide wider now) self.old self.new result }
-        ensures answer { RepliesBy K.eq K.word V.weight Slid (Slide wider now) self.old result }
-        ensures notices { (step K.eq K.word V.weight self.old (Slide wider now)).notices ≡ [] }
+        ensures state { Steps K.eq K.word V.measure (Slide wider now) self.old self.new result }
+        ensures answer { RepliesBy K.eq K.word V.measure Slid (Slide wider now) self.old result }
+        ensures notices { (step K.eq K.word V.measure self.old (Slide wider now)).notices ≡ [] }
         // None leaves, and none comes.
         ensures entries { OnOk result
             (IsPermutation (all_entries self.old.regions) (all_entries self.new.regions)) }
 
-        ensures refusal { Refuses K.eq K.word V.weight (Slide wider now) self.old result }
+        ensures refusal { Refuses K.eq K.word V.measure (Slide wider now) self.old result }
         ensures end_succeeds { can_slide wider self.old.regions.caps ≡ false
             → self.old.step < 2 ^ 60 → IsOk result }
         ensures same { KeepsAllButWindow self.old.regions.caps self.new.regions.caps }

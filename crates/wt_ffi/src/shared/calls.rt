@@ -1,5 +1,6 @@
 // The calls by number on a shared cache. Each is one step in the history of all its callers.
 ghost use Rattle.wt_core.specs.declared.calls.Call.TheVariants.{DropKey, Forget, Look, Seek};
+ghost use Rattle.wt_ffi.specs.Tokens.{timed};
 ghost use Rattle.wt_ffi.specs.Calls.{failed, keep, loose, put};
 ghost use Rattle.wt_ffi.specs.Sharing.{IsSharedCall};
 
@@ -58,12 +59,12 @@ pub extern "C" fn rd_shared_land_keep(
     now: u64,
     answer: &mut Answer,
 ) -> u64
-    ensures made { IsSharedCall (keep id value key now) handle.old handle.new answer.old answer.new result }
+    ensures made { IsSharedCall (keep id (timed value 0) key now) handle.old handle.new answer.old answer.new result }
 {
     make_shared(
         alloc,
         handle,
-        Call::Land(id, key, Land::Keep(value), now),
+        Call::Land(id, key, Land::Keep(value.lasting()), now),
         answer,
     )
 }
@@ -122,9 +123,9 @@ pub extern "C" fn rd_shared_put(
     now: u64,
     answer: &mut Answer,
 ) -> u64
-    ensures made { IsSharedCall (put value key now) handle.old handle.new answer.old answer.new result }
+    ensures made { IsSharedCall (put (timed value 0) key now) handle.old handle.new answer.old answer.new result }
 {
-    make_shared(alloc, handle, Call::Put(key, value, now), answer)
+    make_shared(alloc, handle, Call::Put(key, value.lasting(), now), answer)
 }
 
 /// Takes the key's entry out: `RD_DROPPED`. The key's current load stores nothing.

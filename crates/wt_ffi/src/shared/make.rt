@@ -6,7 +6,7 @@ use crate::answer::{Answer, answer_of, number_of};
 use crate::handle::{CLOSED, OTHER_KEYS};
 use crate::shared::handle::SharedHandle;
 use crate::shared::sharing::Sharing;
-use crate::token::Token;
+use crate::token::Timed;
 use std::alloc::Global;
 use wt_core::{Call, Reply};
 use wt_keys::CacheKey;
@@ -19,7 +19,7 @@ pub(crate) const LOST: u64 = 106;
 
 // Writes what became of a call, and returns its number.
 #[inline(always)]
-fn tell(made: &Result<Reply<Token>, Unmade>, left: u64, answer: &mut Answer) -> u64
+fn tell(made: &Result<Reply<Timed>, Unmade>, left: u64, answer: &mut Answer) -> u64
     ensures answer { answer.new ≡ answer_told made.now left answer.old }
     ensures number { result ≡ number_told made.now }
 {
@@ -47,8 +47,8 @@ fn tell(made: &Result<Reply<Token>, Unmade>, left: u64, answer: &mut Answer) -> 
 #[inline(always)]
 #[tactic(auto, using(crate::proofs::Outcomes::has_outcome))]
 pub(crate) fn make_of<K: CacheKey>(
-    caller: &mut Caller<K, Token>,
-    call: Call<K, Token>,
+    caller: &mut Caller<K, Timed>,
+    call: Call<K, Timed>,
     answer: &mut Answer,
 ) -> u64
     ensures made { HasOutcome K.eq K.word call caller.old caller.new answer.old answer.new result }
@@ -64,7 +64,7 @@ pub(crate) fn make_of<K: CacheKey>(
 pub(crate) fn make_shared(
     alloc: Global,
     handle: &mut SharedHandle,
-    call: Call<u64, Token>,
+    call: Call<u64, Timed>,
     answer: &mut Answer,
 ) -> u64
     ensures made { IsSharedCall call handle.old handle.new answer.old answer.new result }

@@ -1,5 +1,6 @@
 // The calls by name on a shared cache. Each is one step in the history of all its callers.
 ghost use Rattle.wt_core.specs.declared.calls.Call.TheVariants.{DropKey, Forget, Look, Seek};
+ghost use Rattle.wt_ffi.specs.Tokens.{timed};
 ghost use Rattle.wt_ffi.specs.Calls.{failed, keep, loose, put};
 ghost use Rattle.wt_ffi.specs.Sharing.{IsSharedNameCall};
 
@@ -70,7 +71,7 @@ pub extern "C" fn rd_shared_land_keep_name(
     now: u64,
     answer: &mut Answer,
 ) -> u64
-    ensures made { IsSharedNameCall (λ k. keep id value k now) key.now
+    ensures made { IsSharedNameCall (λ k. keep id (timed value 0) k now) key.now
         handle.old handle.new answer.old answer.new result }
 {
     let Some(name) = name_of(key) else {
@@ -79,7 +80,7 @@ pub extern "C" fn rd_shared_land_keep_name(
     make_shared_named(
         alloc,
         handle,
-        Call::Land(id, name, Land::Keep(value), now),
+        Call::Land(id, name, Land::Keep(value.lasting()), now),
         answer,
     )
 }
@@ -151,13 +152,13 @@ pub extern "C" fn rd_shared_put_name(
     now: u64,
     answer: &mut Answer,
 ) -> u64
-    ensures made { IsSharedNameCall (λ k. put value k now) key.now
+    ensures made { IsSharedNameCall (λ k. put (timed value 0) k now) key.now
         handle.old handle.new answer.old answer.new result }
 {
     let Some(name) = name_of(key) else {
         return TOO_LONG;
     };
-    make_shared_named(alloc, handle, Call::Put(name, value, now), answer)
+    make_shared_named(alloc, handle, Call::Put(name, value.lasting(), now), answer)
 }
 
 /// Takes the name's entry out: `RD_DROPPED`. The name's current load stores nothing.

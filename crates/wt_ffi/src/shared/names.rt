@@ -13,7 +13,7 @@ use crate::shared::make::make_of;
 use crate::shared::opening::hold;
 use crate::shared::sharing::Sharing;
 use crate::shows::tell;
-use crate::token::Token;
+use crate::token::Timed;
 use std::alloc::Global;
 use wt_core::Call;
 use wt_keys::Name;
@@ -70,7 +70,7 @@ pub extern "C" fn rd_shared_get_notice_name(
 pub(crate) fn make_shared_named(
     alloc: Global,
     handle: &mut SharedHandle,
-    call: Call<Name, Token>,
+    call: Call<Name, Timed>,
     answer: &mut Answer,
 ) -> u64
     ensures state { IfSome (names_in handle.old) (λ m. IfSome (names_in handle.new) (λ n.

@@ -1,5 +1,5 @@
 // The caller behind an open handle of a shared cache. C opens the cache for one of two kinds of keys.
-use crate::token::Token;
+use crate::token::Timed;
 use wt_keys::Name;
 use wt_shared::Caller;
 
@@ -7,7 +7,7 @@ use wt_shared::Caller;
 #[derive(Drop)]
 pub enum Sharing {
     /// Of one whose keys are numbers of 64 bits.
-    Numbers(Caller<u64, Token>),
+    Numbers(Caller<u64, Timed>),
     /// Of one whose keys are names of at most 24 bytes.
-    Names(Caller<Name, Token>),
+    Names(Caller<Name, Timed>),
 }

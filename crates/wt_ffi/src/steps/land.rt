@@ -1,6 +1,7 @@
 // The closing of a load, by number and by name.
 ghost use Rattle.std.specs.Prelude.{◌≡◌, ◌<◌};
 ghost use Rattle.wt_core.specs.declared.calls.Call.TheVariants.{Land as land};
+ghost use Rattle.wt_ffi.specs.Tokens.{timed};
 ghost use Rattle.wt_ffi.specs.Calls.{after, answer_after, failed, keep, loose, number_after, IsFree, IsRefused};
 ghost use Rattle.wt_ffi.specs.Contract.{IsCall, IsNameCall};
 
@@ -10,7 +11,7 @@ use crate::handle::{Handle, TOO_LONG};
 use crate::make::make;
 use crate::names::make_named;
 use crate::text::{Text, name_of};
-use crate::token::Token;
+use crate::token::{Timed, Token};
 use std::alloc::Global;
 use wt_core::{Call, Land, Reply};
 use wt_keys::{CacheKey, Fault};
@@ -21,7 +22,7 @@ impl<K: CacheKey> Cached<K> {
         &mut self,
         id: u64,
         key: K,
-        what: Land<Token>,
+        what: Land<Timed>,
         now: u64,
         answer: &mut Answer,
     ) -> u64
@@ -52,13 +53,13 @@ pub extern "C" fn rd_land_keep(
     now: u64,
     answer: &mut Answer,
 ) -> u64
-    ensures made { IsCall (keep id value) key now
+    ensures made { IsCall (keep id (timed value 0)) key now
         handle.old handle.new answer.old answer.new result }
 {
     make(
         alloc,
         handle,
-        Call::Land(id, key, Land::Keep(value), now),
+        Call::Land(id, key, Land::Keep(value.lasting()), now),
         answer,
     )
 }
@@ -117,7 +118,7 @@ pub extern "C" fn rd_land_keep_name(
     now: u64,
     answer: &mut Answer,
 ) -> u64
-    ensures made { IsNameCall (keep id value) key.now now
+    ensures made { IsNameCall (keep id (timed value 0)) key.now now
         handle.old handle.new answer.old answer.new result }
 {
     let Some(name) = name_of(key) else {
@@ -126,7 +127,7 @@ pub extern "C" fn rd_land_keep_name(
     make_named(
         alloc,
         handle,
-        Call::Land(id, name, Land::Keep(value), now),
+        Call::Land(id, name, Land::Keep(value.lasting()), now),
         answer,
     )
 }

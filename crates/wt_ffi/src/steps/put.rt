@@ -1,4 +1,5 @@
 // A store, by number and by name.
+ghost use Rattle.wt_ffi.specs.Tokens.{timed};
 ghost use Rattle.wt_ffi.specs.Calls.{put};
 ghost use Rattle.wt_ffi.specs.Contract.{IsCall, IsNameCall, IsStepMade};
 
@@ -8,14 +9,14 @@ use crate::handle::{Handle, TOO_LONG};
 use crate::make::make;
 use crate::names::make_named;
 use crate::text::{Text, name_of};
-use crate::token::Token;
+use crate::token::{Timed, Token};
 use std::alloc::Global;
 use wt_core::{Call, Reply};
 use wt_keys::{CacheKey, Fault};
 
 impl<K: CacheKey> Cached<K> {
     // Makes a store, as `call` does.
-    pub(crate) fn put(&mut self, key: K, value: Token, now: u64, answer: &mut Answer) -> u64
+    pub(crate) fn put(&mut self, key: K, value: Timed, now: u64, answer: &mut Answer) -> u64
         ensures made { IsStepMade K.eq K.word (put value key now) self.old self.new answer.new result }
     {
         self.notices.empty();
@@ -37,9 +38,9 @@ pub extern "C" fn rd_put(
     now: u64,
     answer: &mut Answer,
 ) -> u64
-    ensures made { IsCall (put value) key now handle.old handle.new answer.old answer.new result }
+    ensures made { IsCall (put (timed value 0)) key now handle.old handle.new answer.old answer.new result }
 {
-    make(alloc, handle, Call::Put(key, value, now), answer)
+    make(alloc, handle, Call::Put(key, value.lasting(), now), answer)
 }
 
 /// Stores the value under the name, in place of one that is there, as `rd_put` does: `RD_STORED`.
@@ -54,11 +55,11 @@ pub extern "C" fn rd_put_name(
     now: u64,
     answer: &mut Answer,
 ) -> u64
-    ensures made { IsNameCall (put value) key.now now
+    ensures made { IsNameCall (put (timed value 0)) key.now now
         handle.old handle.new answer.old answer.new result }
 {
     let Some(name) = name_of(key) else {
         return TOO_LONG;
     };
-    make_named(alloc, handle, Call::Put(name, value, now), answer)
+    make_named(alloc, handle, Call::Put(name, value.lasting(), now), answer)
 }

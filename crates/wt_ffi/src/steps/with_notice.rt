@@ -1,6 +1,7 @@
 // The calls that nearly always have a notice: they return the first one with their answer.
 ghost use Rattle.std.specs.Prelude.{◌≡◌, unwrap_or};
 ghost use Rattle.wt_core.specs.declared.calls.Call.TheVariants.{DropKey};
+ghost use Rattle.wt_ffi.specs.Tokens.{timed};
 ghost use Rattle.wt_ffi.specs.Calls.{keep, put};
 ghost use Rattle.wt_ffi.specs.Contract.{IsCall, IsNameCall};
 ghost use Rattle.wt_ffi.specs.Handle.{cache_of};
@@ -29,7 +30,7 @@ fn write<L: Copy>(found: Option<L>, left: &mut L)
 
 // Writes the first notice of the latest call on a cache of numbers, if it has one.
 #[inline(always)]
-fn write_first(alloc: Global, handle: &mut Handle, left: &mut Left)
+pub(super) fn write_first(alloc: Global, handle: &mut Handle, left: &mut Left)
     ensures first { left.new ≡ unwrap_or (first_left (cache_of handle.old)) left.old }
     ensures same { cache_of handle.new ≡ cache_of handle.old }
 {
@@ -44,7 +45,7 @@ fn write_first(alloc: Global, handle: &mut Handle, left: &mut Left)
 
 // Writes the first notice of the latest call on a cache of names, if it has one.
 #[inline(always)]
-fn write_first_name(alloc: Global, handle: &mut Handle, left: &mut NameLeft)
+pub(super) fn write_first_name(alloc: Global, handle: &mut Handle, left: &mut NameLeft)
     ensures first { left.new ≡ unwrap_or (first_name_left (cache_of handle.old)) left.old }
     ensures same { cache_of handle.new ≡ cache_of handle.old }
 {
@@ -70,10 +71,10 @@ pub extern "C" fn rd_put_with_notice(
     answer: &mut Answer,
     left: &mut Left,
 ) -> u64
-    ensures made { IsCall (put value) key now handle.old handle.new answer.old answer.new result }
+    ensures made { IsCall (put (timed value 0)) key now handle.old handle.new answer.old answer.new result }
     ensures first { left.new ≡ unwrap_or (first_left (cache_of handle.new)) left.old }
 {
-    let number = make(alloc, handle, Call::Put(key, value, now), answer);
+    let number = make(alloc, handle, Call::Put(key, value.lasting(), now), answer);
     write_first(alloc, handle, left);
     number
 }
@@ -91,14 +92,14 @@ pub extern "C" fn rd_put_name_with_notice(
     answer: &mut Answer,
     left: &mut NameLeft,
 ) -> u64
-    ensures made { IsNameCall (put value) key.now now
+    ensures made { IsNameCall (put (timed value 0)) key.now now
         handle.old handle.new answer.old answer.new result }
     ensures first { left.new ≡ unwrap_or (first_told key.now handle.new) left.old }
 {
     let Some(name) = name_of(key) else {
         return TOO_LONG;
     };
-    let number = make_named(alloc, handle, Call::Put(name, value, now), answer);
+    let number = make_named(alloc, handle, Call::Put(name, value.lasting(), now), answer);
     write_first_name(alloc, handle, left);
     number
 }
@@ -117,14 +118,14 @@ pub extern "C" fn rd_land_keep_with_notice(
     answer: &mut Answer,
     left: &mut Left,
 ) -> u64
-    ensures made { IsCall (keep id value) key now
+    ensures made { IsCall (keep id (timed value 0)) key now
         handle.old handle.new answer.old answer.new result }
     ensures first { left.new ≡ unwrap_or (first_left (cache_of handle.new)) left.old }
 {
     let number = make(
         alloc,
         handle,
-        Call::Land(id, key, Land::Keep(value), now),
+        Call::Land(id, key, Land::Keep(value.lasting()), now),
         answer,
     );
     write_first(alloc, handle, left);
@@ -145,7 +146,7 @@ pub extern "C" fn rd_land_keep_name_with_notice(
     answer: &mut Answer,
     left: &mut NameLeft,
 ) -> u64
-    ensures made { IsNameCall (keep id value) key.now now
+    ensures made { IsNameCall (keep id (timed value 0)) key.now now
         handle.old handle.new answer.old answer.new result }
     ensures first { left.new ≡ unwrap_or (first_told key.now handle.new) left.old }
 {
@@ -155,7 +156,7 @@ pub extern "C" fn rd_land_keep_name_with_notice(
     let number = make_named(
         alloc,
         handle,
-        Call::Land(id, name, Land::Keep(value), now),
+        Call::Land(id, name, Land::Keep(value.lasting()), now),
         answer,
     );
     write_first_name(alloc, handle, left);

@@ -68,7 +68,7 @@ impl<K: CacheKey, V: Share + Weighs> Regions<K, V> {
     pub fn len(&self) -> usize
         ensures len { result ≡ length (all_entries self.now) }
         // What holds of the regions at all times.
-        ensures lawful { IsLawful K.eq V.weight self.now }
+        ensures lawful { IsLawful K.eq V.measure self.now }
     {
         self.caches.len()
     }

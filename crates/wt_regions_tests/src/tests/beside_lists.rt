@@ -6,7 +6,7 @@ use std::process::Abort;
 use std::test::Fail;
 use wt_keys::{Fault, places};
 use wt_regions::{Caps, Cause, Found, Region};
-use wt_tests::{Dice, Lists, Loaded, Row};
+use wt_tests::{Dice, Lists, Loaded, Row, random_value};
 
 impl Run<Loaded> {
     // How often each key was counted, by the sketch.
@@ -139,8 +139,7 @@ fn one_call(
             }
         }
         _ => {
-            let weight = u32::try_from(dice.roll(7)).unwrap_or(0);
-            let value = Loaded { version, weight };
+            let value = random_value(dice, version);
             put_both(rt, run, lists, key, value, now)?;
         }
     }

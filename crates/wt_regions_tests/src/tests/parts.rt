@@ -61,10 +61,11 @@ fn the_first_field_out_of_range_is_named(rt: HostRuntime) -> Result<(), Fail> {
 const VALUE: Loaded = Loaded {
     version: 1,
     weight: 7,
+    life: 0,
 };
 
 fn heft<V: Weighs>(value: &V) -> u32 {
-    value.weight()
+    value.measure().weight
 }
 
 #[test]

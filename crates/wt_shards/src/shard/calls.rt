@@ -27,13 +27,13 @@ impl<K: CacheKey, V: Share + Weighs + Answers<K>, S: ShardLedger, H: Ledger> Sha
     ) -> Result<Reply<V>, Fault>
         requires asked { MayAsk V.answers K.word S.ShardLedger.place call notices.old }
         requires plain { is_seek call ≡ false }
-        ensures made { IsShardCall (members_by K.eq K.word V.weight V.answers) V.Share.is_copied
+        ensures made { IsShardCall (members_by K.eq K.word V.measure V.answers) V.Share.is_copied
             S.ShardLedger.place.config.entries call (λ reply. reply) (λ _. [])
             (owned self.old mine.old notices.old) (owned self.new mine.new notices.new) result }
         ensures answers { IfOk result (AnswersAsked V.answers call) }
         // A landing of an open load has its place.
         ensures place { IsLanding K.eq self.old.core call
-            → excess K.eq K.word V.weight call self.old ≡ 0 }
+            → excess K.eq K.word V.measure call self.old ≡ 0 }
         ensures empty_succeeds { IsEmptyLanding K.eq self.old.core call → IsOk result }
     {
         self.make(mine, call, None, notices)
@@ -54,7 +54,7 @@ impl<K: CacheKey, V: Share + Weighs + Answers<K>, S: ShardLedger, H: Ledger> Sha
     ) -> Result<Reply<V>, Fault>
         requires asked { MayAsk V.answers K.word S.ShardLedger.place
             (call.Look key now) notices.old }
-        ensures made { IsShardCall (members_by K.eq K.word V.weight V.answers) V.Share.is_copied
+        ensures made { IsShardCall (members_by K.eq K.word V.measure V.answers) V.Share.is_copied
             S.ShardLedger.place.config.entries (call.Look key now) (λ reply. reply) (λ _. [])
             (owned self.old mine.old notices.old) (owned self.new mine.new notices.new) result }
         ensures answers { IfOk result (λ reply. ReplyAnswers V.answers key reply) }
@@ -80,13 +80,13 @@ impl<K: CacheKey, V: Share + Weighs + Answers<K>, S: ShardLedger, H: Ledger> Sha
     ) -> Result<Reply<V>, Fault>
         requires asked { MayAsk V.answers K.word S.ShardLedger.place
             (call.Land id key what now) notices.old }
-        ensures made { IsShardCall (members_by K.eq K.word V.weight V.answers) V.Share.is_copied
+        ensures made { IsShardCall (members_by K.eq K.word V.measure V.answers) V.Share.is_copied
             S.ShardLedger.place.config.entries (call.Land id key what now) (λ reply. reply)
             (λ _. []) (owned self.old mine.old notices.old) (owned self.new mine.new notices.new)
             result }
         // An open load drops no record.
         ensures place { IsTrue (is_some (row_of K.eq key id self.old.core.flights))
-            → excess K.eq K.word V.weight (call.Land id key what now) self.old ≡ 0 }
+            → excess K.eq K.word V.measure (call.Land id key what now) self.old ≡ 0 }
         ensures empty_succeeds { IsEmpty what
             → IsTrue (is_some (row_of K.eq key id self.old.core.flights)) → IsOk result }
     {
@@ -108,7 +108,7 @@ impl<K: CacheKey, V: Share + Weighs + Answers<K>, S: ShardLedger, H: Ledger> Sha
     ) -> Result<(), Fault>
         requires asked { MayAsk V.answers K.word S.ShardLedger.place
             (call.Put key value now) notices.old }
-        ensures made { IsShardCall (members_by K.eq K.word V.weight V.answers) V.Share.is_copied
+        ensures made { IsShardCall (members_by K.eq K.word V.measure V.answers) V.Share.is_copied
             S.ShardLedger.place.config.entries (call.Put key value now) (λ _. reply.Stored)
             (λ _. []) (owned self.old mine.old notices.old) (owned self.new mine.new notices.new)
             result }
@@ -132,7 +132,7 @@ impl<K: CacheKey, V: Share + Weighs + Answers<K>, S: ShardLedger, H: Ledger> Sha
     ) -> Result<bool, Fault>
         requires asked { MayAsk V.answers K.word S.ShardLedger.place
             (call.DropKey key now) notices.old }
-        ensures made { IsShardCall (members_by K.eq K.word V.weight V.answers) V.Share.is_copied
+        ensures made { IsShardCall (members_by K.eq K.word V.measure V.answers) V.Share.is_copied
             S.ShardLedger.place.config.entries (call.DropKey key now) reply.Dropped (λ _. [])
             (owned self.old mine.old notices.old) (owned self.new mine.new notices.new) result }
     {
@@ -153,7 +153,7 @@ impl<K: CacheKey, V: Share + Weighs + Answers<K>, S: ShardLedger, H: Ledger> Sha
         notices: &mut Notices<K, V>,
     ) -> Result<(), Fault>
         requires room { S.ShardLedger.place.config.entries ≤ notices.old.room }
-        ensures made { IsShardCall (members_by K.eq K.word V.weight V.answers) V.Share.is_copied
+        ensures made { IsShardCall (members_by K.eq K.word V.measure V.answers) V.Share.is_copied
             S.ShardLedger.place.config.entries (call.Clear now) (λ _. reply.Cleared) (λ _. [])
             (owned self.old mine.old notices.old) (owned self.new mine.new notices.new) result }
     {
@@ -176,7 +176,7 @@ impl<K: CacheKey, V: Share + Weighs + Answers<K>, S: ShardLedger, H: Ledger> Sha
     ) -> Result<bool, Fault>
         requires asked { MayAsk V.answers K.word S.ShardLedger.place
             (call.Forget key now) notices.old }
-        ensures made { IsShardCall (members_by K.eq K.word V.weight V.answers) V.Share.is_copied
+        ensures made { IsShardCall (members_by K.eq K.word V.measure V.answers) V.Share.is_copied
             S.ShardLedger.place.config.entries (call.Forget key now) reply.Forgot (λ _. [])
             (owned self.old mine.old notices.old) (owned self.new mine.new notices.new) result }
     {
@@ -197,7 +197,7 @@ impl<K: CacheKey, V: Share + Weighs + Answers<K>, S: ShardLedger, H: Ledger> Sha
         notices: &mut Notices<K, V>,
     ) -> Result<(), Fault>
         requires room { S.ShardLedger.place.config.entries ≤ notices.old.room }
-        ensures made { IsShardCall (members_by K.eq K.word V.weight V.answers) V.Share.is_copied
+        ensures made { IsShardCall (members_by K.eq K.word V.measure V.answers) V.Share.is_copied
             S.ShardLedger.place.config.entries (call.Clean now) (λ _. reply.Cleaned) (λ _. [])
             (owned self.old mine.old notices.old) (owned self.new mine.new notices.new) result }
     {
@@ -219,7 +219,7 @@ impl<K: CacheKey, V: Share + Weighs + Answers<K>, S: ShardLedger, H: Ledger> Sha
         notices: &mut Notices<K, V>,
     ) -> Result<bool, Fault>
         requires room { S.ShardLedger.place.config.entries ≤ notices.old.room }
-        ensures made { IsShardCall (members_by K.eq K.word V.weight V.answers) V.Share.is_copied
+        ensures made { IsShardCall (members_by K.eq K.word V.measure V.answers) V.Share.is_copied
             S.ShardLedger.place.config.entries (call.Slide wider now) reply.Slid (λ _. [])
             (owned self.old mine.old notices.old) (owned self.new mine.new notices.new) result }
     {

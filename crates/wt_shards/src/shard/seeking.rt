@@ -38,7 +38,7 @@ impl<K: CacheKey, V: Share + Weighs + Answers<K>, S: ShardLedger, H: Ledger> Sha
     ) -> Result<Sought<K, V>, Fault>
         requires asked { MayAsk V.answers K.word S.ShardLedger.place
             (call.Seek key now) notices.old }
-        ensures made { IsShardCall (members_by K.eq K.word V.weight V.answers) V.Share.is_copied
+        ensures made { IsShardCall (members_by K.eq K.word V.measure V.answers) V.Share.is_copied
             S.ShardLedger.place.config.entries (call.Seek key now) reply_of opened_by
             (owned self.old mine.old notices.old) (owned self.new mine.new notices.new) result }
         ensures landings { IfOk result (IsOfLandings key now self.new.landings) }

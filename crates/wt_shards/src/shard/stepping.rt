@@ -38,38 +38,38 @@ impl<K: CacheKey, V: Share + Weighs + Answers<K>, S: ShardLedger, H: Ledger> Sha
     ) -> Result<Reply<V>, Fault>
         requires asked { MayAsk V.answers K.word S.ShardLedger.place call notices.old }
         // Where each open load has one landing, each has one after the call.
-        requires landed { refusal_of K.eq K.word V.weight self.old.core call ≡ None
-            → IsAudited (members_by K.eq K.word V.weight V.answers)
+        requires landed { refusal_of K.eq K.word V.measure self.old.core call ≡ None
+            → IsAudited (members_by K.eq K.word V.measure V.answers)
             S.ShardLedger.place.shards S.ShardLedger.place.index self.old
             → map load_at (still_open K.eq call self.old.landings ++ option_to_list opened)
-            ≡ map load_of (step K.eq K.word V.weight self.old.core call).state.flights.rows }
+            ≡ map load_of (step K.eq K.word V.measure self.old.core call).state.flights.rows }
 
         ensures state { OnOk result (self.new
-            ≡ shard_step K.eq K.word V.weight call (option_to_list opened) self.old) }
+            ≡ shard_step K.eq K.word V.measure call (option_to_list opened) self.old) }
         ensures answer { IfOk result (λ reply. reply
-            ≡ (step K.eq K.word V.weight self.old.core call).reply) }
+            ≡ (step K.eq K.word V.measure self.old.core call).reply) }
         ensures notices { OnOk result (notices.new
-            ≡ appended (step K.eq K.word V.weight self.old.core call).notices notices.old) }
+            ≡ appended (step K.eq K.word V.measure self.old.core call).notices notices.old) }
         ensures moved { IfOk result (λ reply. mine.new ≡ counted (is_hit reply) mine.old) }
         ensures answers { IfOk result (AnswersAsked V.answers call) }
         ensures later { OnOk result ((mine.old.steps ≤ self.old.core.step)
             × (self.new.core.step ≡ self.old.core.step + 1)) }
 
-        ensures allowed { OnOk result (refusal_of K.eq K.word V.weight self.old.core call ≡ None) }
-        ensures refusal { MatchOption (refusal_of K.eq K.word V.weight self.old.core call)
+        ensures allowed { OnOk result (refusal_of K.eq K.word V.measure self.old.core call ≡ None) }
+        ensures refusal { MatchOption (refusal_of K.eq K.word V.measure self.old.core call)
             (IsOkUnless result fault.NoMemory) (λ f. (result ≡ Err f) × (self.new ≡ self.old)) }
         ensures faults { IfErr result (λ f. is_fault_of call f ≡ true) }
         // No memory is refused to a call that takes none if no record goes over.
-        ensures none_succeeds { refusal_of K.eq K.word V.weight self.old.core call ≡ None
-            → TakesNone V.Share.is_copied K.eq V.weight self.old.core call
-            → excess K.eq K.word V.weight call self.old ≡ 0 → IsOk result }
+        ensures none_succeeds { refusal_of K.eq K.word V.measure self.old.core call ≡ None
+            → TakesNone V.Share.is_copied K.eq V.measure self.old.core call
+            → excess K.eq K.word V.measure call self.old ≡ 0 → IsOk result }
         // Whatever is answered.
         ensures told { HasTold S.ShardLedger.place.config.entries notices.old notices.new }
         // A landing of an open load has its place.
         ensures place { IsLanding K.eq self.old.core call
-            → excess K.eq K.word V.weight call self.old ≡ 0 }
+            → excess K.eq K.word V.measure call self.old ≡ 0 }
         ensures empty_succeeds { IsEmptyLanding K.eq self.old.core call → IsOk result }
-        ensures err { OnErr result (IsCaughtUp K.eq K.word V.weight call self.old self.new
+        ensures err { OnErr result (IsCaughtUp K.eq K.word V.measure call self.old self.new
             × (mine.new ≡ mine.old) × (notices.new ≡ notices.old)) }
     {
         match self.core.open_after(&call) {
@@ -90,36 +90,36 @@ impl<K: CacheKey, V: Share + Weighs + Answers<K>, S: ShardLedger, H: Ledger> Sha
         notices: &mut Notices<K, V>,
     ) -> Result<Reply<V>, Fault>
         requires asked { MayAsk V.answers K.word S.ShardLedger.place call notices.old }
-        requires allowed { refusal_of K.eq K.word V.weight self.old.core call ≡ None }
+        requires allowed { refusal_of K.eq K.word V.measure self.old.core call ≡ None }
         requires rows { rows
-            ≡ length (step K.eq K.word V.weight self.old.core call).state.flights.rows }
+            ≡ length (step K.eq K.word V.measure self.old.core call).state.flights.rows }
         // Where each open load has one landing, each has one after the call.
-        requires landed { IsAudited (members_by K.eq K.word V.weight V.answers)
+        requires landed { IsAudited (members_by K.eq K.word V.measure V.answers)
             S.ShardLedger.place.shards S.ShardLedger.place.index self.old
             → map load_at (still_open K.eq call self.old.landings ++ option_to_list opened)
-            ≡ map load_of (step K.eq K.word V.weight self.old.core call).state.flights.rows }
+            ≡ map load_of (step K.eq K.word V.measure self.old.core call).state.flights.rows }
 
         ensures state { OnOk result (self.new
-            ≡ shard_step K.eq K.word V.weight call (option_to_list opened) self.old) }
+            ≡ shard_step K.eq K.word V.measure call (option_to_list opened) self.old) }
         ensures answer { IfOk result (λ reply. reply
-            ≡ (step K.eq K.word V.weight self.old.core call).reply) }
+            ≡ (step K.eq K.word V.measure self.old.core call).reply) }
         ensures notices { OnOk result (notices.new
-            ≡ appended (step K.eq K.word V.weight self.old.core call).notices notices.old) }
+            ≡ appended (step K.eq K.word V.measure self.old.core call).notices notices.old) }
         ensures moved { IfOk result (λ reply. mine.new ≡ counted (is_hit reply) mine.old) }
         ensures answers { IfOk result (AnswersAsked V.answers call) }
         ensures later { OnOk result ((mine.old.steps ≤ self.old.core.step)
             × (self.new.core.step ≡ self.old.core.step + 1)) }
 
         ensures memory { IsOkUnless result fault.NoMemory }
-        ensures none_succeeds { TakesNone V.Share.is_copied K.eq V.weight self.old.core call
-            → excess K.eq K.word V.weight call self.old ≡ 0 → IsOk result }
+        ensures none_succeeds { TakesNone V.Share.is_copied K.eq V.measure self.old.core call
+            → excess K.eq K.word V.measure call self.old ≡ 0 → IsOk result }
         // Whatever is answered.
         ensures told { HasTold S.ShardLedger.place.config.entries notices.old notices.new }
         // A landing of an open load has its place.
         ensures place { IsLanding K.eq self.old.core call
-            → excess K.eq K.word V.weight call self.old ≡ 0 }
+            → excess K.eq K.word V.measure call self.old ≡ 0 }
         ensures empty_succeeds { IsEmptyLanding K.eq self.old.core call → IsOk result }
-        ensures err { OnErr result (IsCaughtUp K.eq K.word V.weight call self.old self.new
+        ensures err { OnErr result (IsCaughtUp K.eq K.word V.measure call self.old self.new
             × (mine.new ≡ mine.old) × (notices.new ≡ notices.old)) }
     {
         // For the prover: shows what holds of the shard at all times, how many loads are open after
@@ -148,11 +148,11 @@ impl<K: CacheKey, V: Share + Weighs + Answers<K>, S: ShardLedger, H: Ledger> Sha
     pub(crate) fn make_room(&mut self, rows: usize) -> Result<(), NoMemory>
         requires rows { rows ≤ self.old.config.flights }
         ensures ok { OnOk result
-            (self.new ≡ moved K.eq K.word V.weight (need rows self.old) self.old) }
+            (self.new ≡ moved K.eq K.word V.measure (need rows self.old) self.old) }
         ensures room { OnOk result (length self.new.records + 1 + rows ≤ places self.new) }
         ensures none_succeeds { need rows self.old ≡ 0 → IsOk result }
         ensures err { OnErr result ((n : ℕ) × (n ≤ need rows self.old)
-            × (self.new ≡ moved K.eq K.word V.weight n self.old)) }
+            × (self.new ≡ moved K.eq K.word V.measure n self.old)) }
     {
         let count = (self.ring.len() + 1 + rows).saturating_sub(self.ring.capacity());
         let Ok(()) = catch_up(&mut self.lagging, &mut self.ring, &mut self.aside, count) else {
@@ -164,7 +164,7 @@ impl<K: CacheKey, V: Share + Weighs + Answers<K>, S: ShardLedger, H: Ledger> Sha
     // Does nothing.
     pub(crate) fn stay(&mut self, call: &Call<K, V>)
         ensures { (self.new ≡ self.old)
-            × IsCaughtUp K.eq K.word V.weight call.now self.old self.new }
+            × IsCaughtUp K.eq K.word V.measure call.now self.old self.new }
     {}
 }
 

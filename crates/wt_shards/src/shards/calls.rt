@@ -205,10 +205,10 @@ impl<K: CacheKey, V: Value<K>, B: Books> Shards<K, V, B> {
         ensures made { IsHomeCall (members_of K.CacheKey V.Value) (home_at K.word key self.now)
             (call.Put key value now) (λ _. reply.Stored) pass.old pass.new notices.old notices.new
             result }
-        ensures heavy { self.now.config.bound < V.weight value
-            → result ≡ Err (fault.TooHeavy (V.weight value) self.now.config.bound) }
+        ensures heavy { self.now.config.bound < (V.measure value).weight
+            → result ≡ Err (fault.TooHeavy (V.measure value).weight self.now.config.bound) }
         // No other value is too heavy.
-        ensures light { V.weight value ≤ self.now.config.bound
+        ensures light { (V.measure value).weight ≤ self.now.config.bound
             → IfErr result (λ f. is_step_fault f ≡ true) }
     {
         let home = shard_of(key.word(), self.shards);

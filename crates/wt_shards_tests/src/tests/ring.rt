@@ -20,6 +20,7 @@ fn rows() -> [Row; 7] {
     let heavy = Loaded {
         version: 9,
         weight: 10,
+        life: 0,
     };
     let fault = Fault::TooHeavy {
         weight: 10,

@@ -1,7 +1,7 @@
 // The values that a trace stores: each has its key, and the number of its line.
 ghost use Rattle.std.specs.Prelude.{◌≡◌, IfOk, IsOk, true};
 
-use wt_core::Weighs;
+use wt_core::{Measure, Weighs};
 use wt_keys::{Answers, CacheKey, NoMemory, Share};
 
 /// A value of a trace.
@@ -32,10 +32,12 @@ impl<K: CacheKey> Share for Version<K> {
 }
 
 impl<K> Weighs for Version<K> {
-    ghost weight = { λ v. v.weight };
+    ghost use Rattle.wt_regions.specs.Lists.{lasting};
 
-    fn weight(&self) -> u32 {
-        self.weight
+    ghost measure = { λ v. lasting v.weight };
+
+    fn measure(&self) -> Measure {
+        Measure::lasting(self.weight)
     }
 }
 

@@ -11,7 +11,7 @@ loop-slides-preserved g c =
     let V = g.row.V.Denot in
     let eq = g.K.PartialEq.eq in
     let word = g.K.CacheKey.word in
-    let weight = g.V.Weighs.weight in
+    let measure = g.V.Weighs.measure in
     let want = c.wanted-wanted.result in
     let now = c.args.now in
     let first : State K V = c.args.core.now in
@@ -22,8 +22,8 @@ loop-slides-preserved g c =
       adviser = inv.adviser;
       wanted = inv.wanted;
       core = c.in_ok-slide_towards.ensures.state
-          ∙ ap (λ (s : State K V). slid_towards eq word weight want now s) inv.core
-          ∙ sym (slid-more eq word weight want now first n);
+          ∙ ap (λ (s : State K V). slid_towards eq word measure want now s) inv.core
+          ∙ sym (slid-more eq word measure want now first n);
       same = kept-next first.regions.caps c.loop-slides.core.regions.caps c.slide_towards.new.core.regions.caps inv.same
           c.in_ok-slide_towards.ensures.same;
     }
@@ -34,13 +34,13 @@ returns-then-is_whole-clause-state g c =
     let V = g.row.V.Denot in
     let eq = g.K.PartialEq.eq in
     let word = g.K.CacheKey.word in
-    let weight = g.V.Weighs.weight in
+    let measure = g.V.Weighs.measure in
     let now = c.args.now in
     let first : State K V = c.args.core.now in
     let inv = c.loop-slides.invariant in
     let four : c.loop-slides.slides ≡ 4 = omega (arith, c.loop-slides-test.false, inv.few) in
-    inv.core ∙ ap (λ n. slid_by eq word weight n c.wanted-wanted.result now first) four
-    ∙ ap (λ w. slid_by eq word weight 4 w now first) inv.wanted
+    inv.core ∙ ap (λ n. slid_by eq word measure n c.wanted-wanted.result now first) four
+    ∙ ap (λ w. slid_by eq word measure 4 w now first) inv.wanted
 
 pub loop-slides-init : goal.loop-slides-init
 loop-slides-init g c = record {
@@ -48,6 +48,6 @@ loop-slides-init g c = record {
   adviser = c.saw_by-seen.ensures;
   wanted = c.wanted-wanted.ensures.answer;
   core =
-      sym (slid-none g.K.PartialEq.eq g.K.CacheKey.word g.V.Weighs.weight c.wanted-wanted.result c.args.now c.args.core.now);
+      sym (slid-none g.K.PartialEq.eq g.K.CacheKey.word g.V.Weighs.measure c.wanted-wanted.result c.args.now c.args.core.now);
   same = refl;
 }

@@ -9,7 +9,7 @@ invariant-loop-slides g l = record {
   few : l.slides ≤ 4;
   adviser : l.adviser ≡ saw_by g.K.PartialEq.eq g.K.CacheKey.word l.seen l.fn.key l.fn.adviser;
   wanted : l.wanted ≡ wanted l.adviser;
-  core : l.core ≡ slid_by g.K.PartialEq.eq g.K.CacheKey.word g.V.Weighs.weight l.slides l.wanted l.fn.now l.fn.core;
+  core : l.core ≡ slid_by g.K.PartialEq.eq g.K.CacheKey.word g.V.Weighs.measure l.slides l.wanted l.fn.now l.fn.core;
   same : KeepsAllButWindow l.fn.core.regions.caps l.core.regions.caps;
 }
 

@@ -4,4 +4,4 @@ use Rattle.wt_shards.proofs.laws.sharers_are_counted.Goals as goal
 pub returns : goal.returns
 returns g c = λ config. counts-joins g.K.PartialEq.eq
     (g.met.K.CacheKey g.world.𝓛 g.world.𝓜 g.world.𝓡 ((λ s x. x), (λ x. x), (λ x. x), λ x. x)).same
-    g.K.CacheKey.word g.V.Weighs.weight config
+    g.K.CacheKey.word g.V.Weighs.measure config

@@ -8,7 +8,7 @@ returns g c =
     handed-over g.K.PartialEq.eq (g.met.K.CacheKey g.world.𝓛 g.world.𝓜 g.world.𝓡
     ((λ s x. x), (λ x. x), (λ x. x), λ x. x)).same
     (g.met.K.Eq g.world.𝓛 g.world.𝓜 g.world.𝓡 ((λ s x. x), (λ x. x), (λ x. x), λ x. x)).laws
-    g.K.CacheKey.word g.V.Weighs.weight g.V.Answers.answers
+    g.K.CacheKey.word g.V.Weighs.measure g.V.Answers.answers
     (home_at g.K.CacheKey.word c.args.key c.args.shards.now) c.args.key c.args.value c.args.now c.args.now _
     _ _ _ _ _ _ _ _ _ _ _
     c.in_ok-stored.ensures.made.step (c.meet.ensures.that home) c.in_ok-found.ensures.made.step

@@ -12,7 +12,7 @@ loop-slides-preserved g c =
     let before = c.loop-slides.invariant in
     let wider = nat_lt c.loop-slides.self.window c.wanted-wanted.result in
     let IsMadeFrom = λ (from to : NoticeList g.row.K.Denot g.row.V.Denot). IsHomeCall
-    (members_by g.K.PartialEq.eq g.K.CacheKey.word g.V.Weighs.weight g.V.Answers.answers)
+    (members_by g.K.PartialEq.eq g.K.CacheKey.word g.V.Weighs.measure g.V.Answers.answers)
     (home_at g.K.CacheKey.word c.args.key c.args.cache.now.layout) (Slide wider c.args.now) Slid c.loop-slides.pass
     c.slide.new.pass from to (Ok c.in_ok-done.done) in
     let test = c.loop-slides-test.true in

@@ -8,7 +8,7 @@ abbrev pub invariant-loop-slides : goal.invariant-loop-slides
 invariant-loop-slides g l = record {
   few : l.slides ≤ 4;
   same : l.notices ≡ l.initial.notices;
-  made : AreSlides (members_by g.K.PartialEq.eq g.K.CacheKey.word g.V.Weighs.weight g.V.Answers.answers)
+  made : AreSlides (members_by g.K.PartialEq.eq g.K.CacheKey.word g.V.Weighs.measure g.V.Answers.answers)
       (home_at g.K.CacheKey.word l.key l.cache.layout) l.now l.initial.notices l.slides l.initial.pass l.pass;
 }
 

@@ -18,7 +18,7 @@ overflow_add-self g c =
     let told : c.evicted_since.result ≡ evictions (cleared c.max-now.result i.regions).1 =
     told-since (cleared c.max-now.result i.regions).1 c.list-from.result.now c.args.notices.now c.clear.new.notices
     c.evicted_since.result c.clear.ensures.notices c.list-from.ensures c.evicted_since.ensures in
-    let law = counted-step g.K.PartialEq.eq g.K.CacheKey.word g.V.Weighs.weight s call c.self.invariant.0
+    let law = counted-step g.K.PartialEq.eq g.K.CacheKey.word g.V.Weighs.measure s call c.self.invariant.0
     (unspent-is s c.in_ok-unspent.ensures.ok) in
     let now : evictions (cleared c.max-now.result i.regions).1
     ≡ evictions (cleared (max i.latest c.args.now) i.regions).1 =
@@ -30,7 +30,7 @@ returns-clause-whole g c =
     let i = c.self.inside in
     let room : i.regions.caps.entries ≤ c.args.notices.now.room = rw (← c.self.view_is) at c.requires.room in
     whole-told (cleared c.max-now.result i.regions).1 c.args.notices.now c.clear.new.notices c.clear.ensures.notices
-    (balanced-told g.K.PartialEq.eq g.V.Weighs.weight i.regions
+    (balanced-told g.K.PartialEq.eq g.V.Weighs.measure i.regions
     (cleared c.max-now.result i.regions) c.args.notices.now.room c.len-len.ensures.lawful
     (cleared-balanced c.max-now.result i.regions) room)
 
@@ -42,6 +42,6 @@ invariant_of-self g c =
     let told : c.evicted_since.result ≡ evictions (cleared c.max-now.result i.regions).1 =
     told-since (cleared c.max-now.result i.regions).1 c.list-from.result.now c.args.notices.now c.clear.new.notices
     c.evicted_since.result c.clear.ensures.notices c.list-from.ensures c.evicted_since.ensures in
-    let law = counted-step g.K.PartialEq.eq g.K.CacheKey.word g.V.Weighs.weight s call c.self.invariant.0
+    let law = counted-step g.K.PartialEq.eq g.K.CacheKey.word g.V.Weighs.measure s call c.self.invariant.0
     (unspent-is s c.in_ok-unspent.ensures.ok) in
     rw (c.clear.ensures.state, c.forget_all.ensures, told, c.max-now.ensures) (law, c.self.invariant.1, c.self.invariant.2)

@@ -17,6 +17,6 @@ invariant_of-self g c =
     told-since (removed g.K.PartialEq.eq c.args.key c.max-now.result i.regions).1 c.list-from.result.now
     c.args.notices.now c.remove-left.new.notices c.evicted_since.result c.remove-left.ensures.notices
     c.list-from.ensures c.evicted_since.ensures in
-    let law = counted-step g.K.PartialEq.eq g.K.CacheKey.word g.V.Weighs.weight s call c.self.invariant.0
+    let law = counted-step g.K.PartialEq.eq g.K.CacheKey.word g.V.Weighs.measure s call c.self.invariant.0
     (unspent-is s c.in_ok-unspent.ensures.ok) in
     rw (c.remove-left.ensures.state, c.forget.ensures.state, told, c.max-now.ensures) (law, c.self.invariant.1, c.self.invariant.2)

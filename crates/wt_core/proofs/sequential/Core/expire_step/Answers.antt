@@ -18,7 +18,7 @@ returns-clause-state g c =
     let evicted = told-since (without_expired g.K.PartialEq.eq c.args.key c.max-now.result i.regions).1
     c.list-from.result.now c.args.notices.now c.expire.new.notices c.evicted_since.result c.expire.ensures.notices
     c.list-from.ensures c.evicted_since.ensures in
-    rw (← c.self.view_is) (own_expired-state g.K.PartialEq.eq g.K.CacheKey.word g.V.Weighs.weight s c.args.key
+    rw (← c.self.view_is) (own_expired-state g.K.PartialEq.eq g.K.CacheKey.word g.V.Weighs.measure s c.args.key
     c.args.now c.max-now.result c.max-now.ensures c.expire.new.regions c.evicted_since.result c.expire.ensures.state
     evicted)
 
@@ -29,10 +29,10 @@ invariant_of-self g c =
     let evicted = told-since (without_expired g.K.PartialEq.eq c.args.key c.max-now.result i.regions).1
     c.list-from.result.now c.args.notices.now c.expire.new.notices c.evicted_since.result c.expire.ensures.notices
     c.list-from.ensures c.evicted_since.ensures in
-    let is = own_expired-state g.K.PartialEq.eq g.K.CacheKey.word g.V.Weighs.weight s c.args.key c.args.now
+    let is = own_expired-state g.K.PartialEq.eq g.K.CacheKey.word g.V.Weighs.measure s c.args.key c.args.now
     c.max-now.result c.max-now.ensures c.expire.new.regions c.evicted_since.result c.expire.ensures.state evicted in
     let left : i.step + length i.flights.rows < 2 ^ 60 + 4096 = rw (← c.self.view_is) at c.requires.left in (
-      subst IsCounted (sym is) (own_expired-counted g.K.PartialEq.eq g.K.CacheKey.word g.V.Weighs.weight s
+      subst IsCounted (sym is) (own_expired-counted g.K.PartialEq.eq g.K.CacheKey.word g.V.Weighs.measure s
           c.self.invariant.0 c.args.now c.args.key left),
       c.self.invariant.1 ∙ ap (λ (x : Caps). x.bound)
           (sym (without_expired-balanced g.K.PartialEq.eq c.args.key c.max-now.result i.regions).caps)

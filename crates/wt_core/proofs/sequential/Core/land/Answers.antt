@@ -20,43 +20,43 @@ overflow_add-self-in-Keep g c =
     let s : State g.row.K.Denot g.row.V.Denot = state_of i.regions i.sketch i.flights i.counts i.latest i.step in
     let at : row_of g.K.PartialEq.eq c.args.key c.args.id i.flights ≡ Some c.in-Some.row = sym c.row_of.ensures ∙ c.in-Some.is in
     let told : Told g.row.K.Denot g.row.V.Denot =
-    told_at g.K.PartialEq.eq g.K.CacheKey.word g.V.Weighs.weight s c.args.key c.args.now c.max-now.result
+    told_at g.K.PartialEq.eq g.K.CacheKey.word g.V.Weighs.measure s c.args.key c.args.now c.max-now.result
     c.max-now.ensures c.in-Keep.value c.max-now.result in
-    let low : g.V.Weighs.weight c.in-Keep.value ≤ i.regions.caps.bound =
-    rw (c.weight.ensures, c.self.invariant.1) at c.if-weight-self.true in
+    let low : (g.V.Weighs.measure c.in-Keep.value).weight ≤ i.regions.caps.bound =
+    rw (c.measure.ensures, c.self.invariant.1) at c.if-measure-self.true in
     let call' : Call g.row.K.Denot g.row.V.Denot = Land c.args.id c.args.key (land.Keep c.in-Keep.value) c.args.now in
-    let taken = land-taken g.K.PartialEq.eq g.K.CacheKey.word g.V.Weighs.weight s c.args.key c.args.now c.max-now.result
+    let taken = land-taken g.K.PartialEq.eq g.K.CacheKey.word g.V.Weighs.measure s c.args.key c.args.now c.max-now.result
     c.max-now.ensures c.args.id c.in-Some.row at (land.Keep c.in-Keep.value) in
     let evicted : c.evicted_since.result ≡ evictions told.1 =
     told-since told.1 c.list-from.result.now c.args.notices.now c.store.new.notices c.evicted_since.result
     c.in_ok-store-in-Keep.ensures.notices c.list-from.ensures c.evicted_since.ensures in
-    let is = kept-state g.K.PartialEq.eq g.K.CacheKey.word g.V.Weighs.weight s c.args.key c.args.now c.max-now.result
+    let is = kept-state g.K.PartialEq.eq g.K.CacheKey.word g.V.Weighs.measure s c.args.key c.args.now c.max-now.result
     c.max-now.ensures c.args.id c.in-Some.row at c.in-Keep.value c.if-row.true low c.store.new.self c.land.new.self
     c.evicted_since.result c.in_ok-store-in-Keep.ensures.state c.land.ensures.state evicted in
-    let law = (counted-after g.K.PartialEq.eq g.K.CacheKey.word g.V.Weighs.weight s call' c.self.invariant.0 taken _ is).evicted in
+    let law = (counted-after g.K.PartialEq.eq g.K.CacheKey.word g.V.Weighs.measure s call' c.self.invariant.0 taken _ is).evicted in
     let steps = c.self.invariant.0.steps in
     omega (arith, law, steps)
 
-pub invariant_of-self-then-weight-self : goal.invariant_of-self-then-weight-self
-invariant_of-self-then-weight-self g c =
+pub invariant_of-self-then-measure-self : goal.invariant_of-self-then-measure-self
+invariant_of-self-then-measure-self g c =
     let i = c.self.inside in
     let s : State g.row.K.Denot g.row.V.Denot = state_of i.regions i.sketch i.flights i.counts i.latest i.step in
     let at : row_of g.K.PartialEq.eq c.args.key c.args.id i.flights ≡ Some c.in-Some.row = sym c.row_of.ensures ∙ c.in-Some.is in
     let told : Told g.row.K.Denot g.row.V.Denot =
-    told_at g.K.PartialEq.eq g.K.CacheKey.word g.V.Weighs.weight s c.args.key c.args.now c.max-now.result
+    told_at g.K.PartialEq.eq g.K.CacheKey.word g.V.Weighs.measure s c.args.key c.args.now c.max-now.result
     c.max-now.ensures c.in-Keep.value c.max-now.result in
-    let low : g.V.Weighs.weight c.in-Keep.value ≤ i.regions.caps.bound =
-    rw (c.weight.ensures, c.self.invariant.1) at c.if-weight-self.true in
+    let low : (g.V.Weighs.measure c.in-Keep.value).weight ≤ i.regions.caps.bound =
+    rw (c.measure.ensures, c.self.invariant.1) at c.if-measure-self.true in
     let call' : Call g.row.K.Denot g.row.V.Denot = Land c.args.id c.args.key (land.Keep c.in-Keep.value) c.args.now in
-    let taken = land-taken g.K.PartialEq.eq g.K.CacheKey.word g.V.Weighs.weight s c.args.key c.args.now c.max-now.result
+    let taken = land-taken g.K.PartialEq.eq g.K.CacheKey.word g.V.Weighs.measure s c.args.key c.args.now c.max-now.result
     c.max-now.ensures c.args.id c.in-Some.row at (land.Keep c.in-Keep.value) in
     let evicted : c.evicted_since.result ≡ evictions told.1 =
     told-since told.1 c.list-from.result.now c.args.notices.now c.store.new.notices c.evicted_since.result
     c.in_ok-store-in-Keep.ensures.notices c.list-from.ensures c.evicted_since.ensures in
-    let is = kept-state g.K.PartialEq.eq g.K.CacheKey.word g.V.Weighs.weight s c.args.key c.args.now c.max-now.result
+    let is = kept-state g.K.PartialEq.eq g.K.CacheKey.word g.V.Weighs.measure s c.args.key c.args.now c.max-now.result
     c.max-now.ensures c.args.id c.in-Some.row at c.in-Keep.value c.if-row.true low c.store.new.self c.land.new.self
     c.evicted_since.result c.in_ok-store-in-Keep.ensures.state c.land.ensures.state evicted in (
-      counted-after g.K.PartialEq.eq g.K.CacheKey.word g.V.Weighs.weight s call' c.self.invariant.0 taken _ is,
+      counted-after g.K.PartialEq.eq g.K.CacheKey.word g.V.Weighs.measure s call' c.self.invariant.0 taken _ is,
       c.self.invariant.1 ∙ ap (λ (x : Caps). x.bound) (sym c.in_ok-store-in-Keep.ensures.same),
       rw c.land.ensures.state c.self.invariant.2,
     )
@@ -103,17 +103,17 @@ returns-in_ok-store-in-Keep-clause-state g c =
     let s : State g.row.K.Denot g.row.V.Denot = state_of i.regions i.sketch i.flights i.counts i.latest i.step in
     let at : row_of g.K.PartialEq.eq c.args.key c.args.id i.flights ≡ Some c.in-Some.row = sym c.row_of.ensures ∙ c.in-Some.is in
     let told : Told g.row.K.Denot g.row.V.Denot =
-    told_at g.K.PartialEq.eq g.K.CacheKey.word g.V.Weighs.weight s c.args.key c.args.now c.max-now.result
+    told_at g.K.PartialEq.eq g.K.CacheKey.word g.V.Weighs.measure s c.args.key c.args.now c.max-now.result
     c.max-now.ensures c.in-Keep.value c.max-now.result in
-    let low : g.V.Weighs.weight c.in-Keep.value ≤ i.regions.caps.bound =
-    rw (c.weight.ensures, c.self.invariant.1) at c.if-weight-self.true in
+    let low : (g.V.Weighs.measure c.in-Keep.value).weight ≤ i.regions.caps.bound =
+    rw (c.measure.ensures, c.self.invariant.1) at c.if-measure-self.true in
     let call' : Call g.row.K.Denot g.row.V.Denot = Land c.args.id c.args.key (land.Keep c.in-Keep.value) c.args.now in
-    let taken = land-taken g.K.PartialEq.eq g.K.CacheKey.word g.V.Weighs.weight s c.args.key c.args.now c.max-now.result
+    let taken = land-taken g.K.PartialEq.eq g.K.CacheKey.word g.V.Weighs.measure s c.args.key c.args.now c.max-now.result
     c.max-now.ensures c.args.id c.in-Some.row at (land.Keep c.in-Keep.value) in
     let evicted : c.evicted_since.result ≡ evictions told.1 =
     told-since told.1 c.list-from.result.now c.args.notices.now c.store.new.notices c.evicted_since.result
     c.in_ok-store-in-Keep.ensures.notices c.list-from.ensures c.evicted_since.ensures in
-    let is = kept-state g.K.PartialEq.eq g.K.CacheKey.word g.V.Weighs.weight s c.args.key c.args.now c.max-now.result
+    let is = kept-state g.K.PartialEq.eq g.K.CacheKey.word g.V.Weighs.measure s c.args.key c.args.now c.max-now.result
     c.max-now.ensures c.args.id c.in-Some.row at c.in-Keep.value c.if-row.true low c.store.new.self c.land.new.self
     c.evicted_since.result c.in_ok-store-in-Keep.ensures.state c.land.ensures.state evicted in
     rw (← c.self.view_is, c.in-Keep.is) is
@@ -124,15 +124,15 @@ returns-in_ok-store-in-Keep-clause-notices g c =
     let s : State g.row.K.Denot g.row.V.Denot = state_of i.regions i.sketch i.flights i.counts i.latest i.step in
     let at : row_of g.K.PartialEq.eq c.args.key c.args.id i.flights ≡ Some c.in-Some.row = sym c.row_of.ensures ∙ c.in-Some.is in
     let told : Told g.row.K.Denot g.row.V.Denot =
-    told_at g.K.PartialEq.eq g.K.CacheKey.word g.V.Weighs.weight s c.args.key c.args.now c.max-now.result
+    told_at g.K.PartialEq.eq g.K.CacheKey.word g.V.Weighs.measure s c.args.key c.args.now c.max-now.result
     c.max-now.ensures c.in-Keep.value c.max-now.result in
-    let low : g.V.Weighs.weight c.in-Keep.value ≤ i.regions.caps.bound =
-    rw (c.weight.ensures, c.self.invariant.1) at c.if-weight-self.true in
+    let low : (g.V.Weighs.measure c.in-Keep.value).weight ≤ i.regions.caps.bound =
+    rw (c.measure.ensures, c.self.invariant.1) at c.if-measure-self.true in
     let call' : Call g.row.K.Denot g.row.V.Denot = Land c.args.id c.args.key (land.Keep c.in-Keep.value) c.args.now in
-    let taken = land-taken g.K.PartialEq.eq g.K.CacheKey.word g.V.Weighs.weight s c.args.key c.args.now c.max-now.result
+    let taken = land-taken g.K.PartialEq.eq g.K.CacheKey.word g.V.Weighs.measure s c.args.key c.args.now c.max-now.result
     c.max-now.ensures c.args.id c.in-Some.row at (land.Keep c.in-Keep.value) in
     rw (← c.self.view_is, c.in-Keep.is)
-    (kept-notices g.K.PartialEq.eq g.K.CacheKey.word g.V.Weighs.weight s c.args.key c.args.now c.max-now.result
+    (kept-notices g.K.PartialEq.eq g.K.CacheKey.word g.V.Weighs.measure s c.args.key c.args.now c.max-now.result
     c.max-now.ensures c.args.id c.in-Some.row at c.in-Keep.value c.if-row.true low c.args.notices.now
     c.store.new.notices c.in_ok-store-in-Keep.ensures.notices)
 
@@ -142,16 +142,16 @@ returns-in_ok-store-in-Keep-clause-whole g c =
     let s : State g.row.K.Denot g.row.V.Denot = state_of i.regions i.sketch i.flights i.counts i.latest i.step in
     let at : row_of g.K.PartialEq.eq c.args.key c.args.id i.flights ≡ Some c.in-Some.row = sym c.row_of.ensures ∙ c.in-Some.is in
     let told : Told g.row.K.Denot g.row.V.Denot =
-    told_at g.K.PartialEq.eq g.K.CacheKey.word g.V.Weighs.weight s c.args.key c.args.now c.max-now.result
+    told_at g.K.PartialEq.eq g.K.CacheKey.word g.V.Weighs.measure s c.args.key c.args.now c.max-now.result
     c.max-now.ensures c.in-Keep.value c.max-now.result in
-    let low : g.V.Weighs.weight c.in-Keep.value ≤ i.regions.caps.bound =
-    rw (c.weight.ensures, c.self.invariant.1) at c.if-weight-self.true in
+    let low : (g.V.Weighs.measure c.in-Keep.value).weight ≤ i.regions.caps.bound =
+    rw (c.measure.ensures, c.self.invariant.1) at c.if-measure-self.true in
     let call' : Call g.row.K.Denot g.row.V.Denot = Land c.args.id c.args.key (land.Keep c.in-Keep.value) c.args.now in
-    let taken = land-taken g.K.PartialEq.eq g.K.CacheKey.word g.V.Weighs.weight s c.args.key c.args.now c.max-now.result
+    let taken = land-taken g.K.PartialEq.eq g.K.CacheKey.word g.V.Weighs.measure s c.args.key c.args.now c.max-now.result
     c.max-now.ensures c.args.id c.in-Some.row at (land.Keep c.in-Keep.value) in
     let laws = (g.met.K.Eq g.world.𝓛 g.world.𝓜 g.world.𝓡 ((λ s x. x), (λ x. x), (λ x. x), λ x. x)).laws in
     let room : i.regions.caps.entries ≤ c.args.notices.now.room = rw (← c.self.view_is) at c.requires.room in
     whole-told told.1 c.args.notices.now c.store.new.notices c.in_ok-store-in-Keep.ensures.notices
     (stored-told g.K.PartialEq.eq laws
-    (λ k. estimate_of i.sketch (g.K.CacheKey.word k)) g.V.Weighs.weight c.max-now.result
+    (λ k. estimate_of i.sketch (g.K.CacheKey.word k)) g.V.Weighs.measure c.max-now.result
     (i.step + 1) c.args.key c.in-Keep.value i.regions c.args.notices.now.room c.len-len.ensures.lawful low room)

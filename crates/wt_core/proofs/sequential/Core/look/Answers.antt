@@ -21,10 +21,10 @@ invariant_of-self-in-Hit g c =
     let i = c.self.inside in
     let s : State g.row.K.Denot g.row.V.Denot = state_of i.regions i.sketch i.flights i.counts i.latest i.step in
     let call : Call g.row.K.Denot g.row.V.Denot = Look c.args.key c.args.now in
-    let is = hit-state g.K.PartialEq.eq g.K.CacheKey.word g.V.Weighs.weight s c.args.key c.args.now c.max-now.result
+    let is = hit-state g.K.PartialEq.eq g.K.CacheKey.word g.V.Weighs.measure s c.args.key c.args.now c.max-now.result
     c.max-now.ensures c.in-Hit.value c.get.new.self c.count_key.new.sketch
     (sym c.in_ok-missed.ensures.found ∙ c.in-Hit.is) c.in_ok-missed.ensures.state c.count_key.ensures in (
-      counted-after g.K.PartialEq.eq g.K.CacheKey.word g.V.Weighs.weight s call c.self.invariant.0
+      counted-after g.K.PartialEq.eq g.K.CacheKey.word g.V.Weighs.measure s call c.self.invariant.0
           (unspent-is s c.in_ok-unspent.ensures.ok) _ is,
       c.self.invariant.1 ∙ ap (λ (x : Caps). x.bound) (sym c.in_ok-missed.ensures.same),
       c.self.invariant.2,
@@ -51,14 +51,14 @@ invariant_of-self-in_default g c =
     ≡ evictions (without_expired g.K.PartialEq.eq c.args.key c.max-now.result i.regions).1 =
     c.expire_missed-evicted.ensures.answer
     ∙ ap (λ (r : Lists g.row.K.Denot g.row.V.Denot). evictions (without_expired g.K.PartialEq.eq c.args.key c.max-now.result r).1) still in
-    let is = miss-state g.K.PartialEq.eq g.K.CacheKey.word g.V.Weighs.weight s c.args.key c.args.now c.max-now.result
+    let is = miss-state g.K.PartialEq.eq g.K.CacheKey.word g.V.Weighs.measure s c.args.key c.args.now c.max-now.result
     c.max-now.ensures c.in_ok-missed.missed c.expire_missed-evicted.new.regions c.count_key-in_default.new.sketch
     c.expire_missed-evicted.result
     c.in_ok-missed.ensures.found miss expire c.count_key-in_default.ensures evicted in
     let call : Call g.row.K.Denot g.row.V.Denot = Look c.args.key c.args.now in
     let taken = unspent-is s c.in_ok-unspent.ensures.ok in (
-      counted-after g.K.PartialEq.eq g.K.CacheKey.word g.V.Weighs.weight s call c.self.invariant.0 taken _ is,
-      bound-after g.K.PartialEq.eq g.K.CacheKey.word g.V.Weighs.weight s call c.self.invariant.0 taken _ is i.bound c.self.invariant.1,
+      counted-after g.K.PartialEq.eq g.K.CacheKey.word g.V.Weighs.measure s call c.self.invariant.0 taken _ is,
+      bound-after g.K.PartialEq.eq g.K.CacheKey.word g.V.Weighs.measure s call c.self.invariant.0 taken _ is i.bound c.self.invariant.1,
       c.self.invariant.2,
     )
 
@@ -83,7 +83,7 @@ returns-in_default g c =
     ≡ evictions (without_expired g.K.PartialEq.eq c.args.key c.max-now.result i.regions).1 =
     c.expire_missed-evicted.ensures.answer
     ∙ ap (λ (r : Lists g.row.K.Denot g.row.V.Denot). evictions (without_expired g.K.PartialEq.eq c.args.key c.max-now.result r).1) still in
-    let is = miss-state g.K.PartialEq.eq g.K.CacheKey.word g.V.Weighs.weight s c.args.key c.args.now c.max-now.result
+    let is = miss-state g.K.PartialEq.eq g.K.CacheKey.word g.V.Weighs.measure s c.args.key c.args.now c.max-now.result
     c.max-now.ensures c.in_ok-missed.missed c.expire_missed-evicted.new.regions c.count_key-in_default.new.sketch
     c.expire_missed-evicted.result
     c.in_ok-missed.ensures.found miss expire c.count_key-in_default.ensures evicted in
@@ -92,18 +92,18 @@ returns-in_default g c =
     record {
       state = rw (← c.self.view_is) is;
       answer = rw (← c.self.view_is) (sym
-          (miss-reply g.K.PartialEq.eq g.K.CacheKey.word g.V.Weighs.weight s c.args.key c.args.now c.max-now.result
+          (miss-reply g.K.PartialEq.eq g.K.CacheKey.word g.V.Weighs.measure s c.args.key c.args.now c.max-now.result
           c.max-now.ensures c.in_ok-missed.missed c.in_ok-missed.ensures.found miss));
       notices = rw (← c.self.view_is)
           (told ∙ ap (λ (ns : List (Notice g.row.K.Denot g.row.V.Denot)). appended ns c.args.notices.now)
-          (sym (miss-notices g.K.PartialEq.eq g.K.CacheKey.word g.V.Weighs.weight s c.args.key c.args.now
+          (sym (miss-notices g.K.PartialEq.eq g.K.CacheKey.word g.V.Weighs.measure s c.args.key c.args.now
           c.max-now.result c.max-now.ensures c.in_ok-missed.missed c.in_ok-missed.ensures.found miss)));
       refusal = rw (← c.self.view_is, left) tt;
       same = rw (← c.self.view_is) (ap (λ (r : Lists g.row.K.Denot g.row.V.Denot). r.caps) expire
           ∙ (without_expired-balanced g.K.PartialEq.eq c.args.key c.max-now.result i.regions).caps);
       whole = whole-told (without_expired g.K.PartialEq.eq c.args.key c.max-now.result i.regions).1 c.args.notices.now
           c.expire_missed-evicted.new.notices told
-          (balanced-told g.K.PartialEq.eq g.V.Weighs.weight i.regions
+          (balanced-told g.K.PartialEq.eq g.V.Weighs.measure i.regions
           (without_expired g.K.PartialEq.eq c.args.key c.max-now.result i.regions) c.args.notices.now.room
           c.len-len.ensures.lawful (without_expired-balanced g.K.PartialEq.eq c.args.key c.max-now.result i.regions)
           room);
@@ -117,6 +117,6 @@ returns-in_err-missed-clause-none_succeeds g c = λ takes allowed.
     let i = c.self.inside in
     let s : State g.row.K.Denot g.row.V.Denot = state_of i.regions i.sketch i.flights i.counts i.latest i.step in
     let free = rw (← c.self.view_is) at takes in
-    let never : false ≡ true = free-look g.V.Share.is_copied g.K.PartialEq.eq g.V.Weighs.weight c.args.key s c.args.now
+    let never : false ≡ true = free-look g.V.Share.is_copied g.K.PartialEq.eq g.V.Weighs.measure c.args.key s c.args.now
     c.max-now.result c.max-now.ensures free
     (false ≡ true) c.in_err-missed.ensures.miss_succeeds c.in_err-missed.ensures.hit_succeeds in cc

@@ -18,21 +18,21 @@ overflow_add-self g c =
     let i = c.self.inside in
     let s : State g.row.K.Denot g.row.V.Denot = state_of i.regions i.sketch i.flights i.counts i.latest i.step in
     let told : Told g.row.K.Denot g.row.V.Denot =
-    told_at g.K.PartialEq.eq g.K.CacheKey.word g.V.Weighs.weight s c.args.key c.args.now c.max-now.result
+    told_at g.K.PartialEq.eq g.K.CacheKey.word g.V.Weighs.measure s c.args.key c.args.now c.max-now.result
     c.max-now.ensures c.args.value c.max-now.result in
-    let low : g.V.Weighs.weight c.args.value ≤ i.regions.caps.bound =
-    rw (c.weight.ensures, c.self.invariant.1) at c.in_ok-within.ensures.ok in
+    let low : (g.V.Weighs.measure c.args.value).weight ≤ i.regions.caps.bound =
+    rw (c.measure.ensures, c.self.invariant.1) at c.in_ok-within.ensures.ok in
     let evicted : c.evicted_since.result ≡ evictions told.1 =
     told-since told.1 c.list-from.result.now c.args.notices.now c.store.new.notices c.evicted_since.result
     c.in_ok-store.ensures.notices c.list-from.ensures c.evicted_since.ensures in
     let call : Call g.row.K.Denot g.row.V.Denot = Put c.args.key c.args.value c.args.now in
-    let taken = put-taken g.K.PartialEq.eq g.K.CacheKey.word g.V.Weighs.weight s c.args.key c.args.now c.max-now.result
+    let taken = put-taken g.K.PartialEq.eq g.K.CacheKey.word g.V.Weighs.measure s c.args.key c.args.now c.max-now.result
     c.max-now.ensures c.args.value low c.in_ok-unspent.ensures.ok in
-    let law = (counted-step g.K.PartialEq.eq g.K.CacheKey.word g.V.Weighs.weight s call c.self.invariant.0 taken).evicted in
+    let law = (counted-step g.K.PartialEq.eq g.K.CacheKey.word g.V.Weighs.measure s call c.self.invariant.0 taken).evicted in
     let told' : evictions told.1 ≡ evictions
-    (told_at g.K.PartialEq.eq g.K.CacheKey.word g.V.Weighs.weight s c.args.key c.args.now c.max-now.result
+    (told_at g.K.PartialEq.eq g.K.CacheKey.word g.V.Weighs.measure s c.args.key c.args.now c.max-now.result
     c.max-now.ensures c.args.value (max i.latest c.args.now)).1 =
-    ap (λ (m : ℕ). evictions (told_at g.K.PartialEq.eq g.K.CacheKey.word g.V.Weighs.weight s c.args.key c.args.now
+    ap (λ (m : ℕ). evictions (told_at g.K.PartialEq.eq g.K.CacheKey.word g.V.Weighs.measure s c.args.key c.args.now
     c.max-now.result c.max-now.ensures c.args.value m).1) c.max-now.ensures in
     omega (arith, law, told', evicted, c.in_ok-unspent.ensures.ok)
 
@@ -41,20 +41,20 @@ invariant_of-self-2 g c =
     let i = c.self.inside in
     let s : State g.row.K.Denot g.row.V.Denot = state_of i.regions i.sketch i.flights i.counts i.latest i.step in
     let told : Told g.row.K.Denot g.row.V.Denot =
-    told_at g.K.PartialEq.eq g.K.CacheKey.word g.V.Weighs.weight s c.args.key c.args.now c.max-now.result
+    told_at g.K.PartialEq.eq g.K.CacheKey.word g.V.Weighs.measure s c.args.key c.args.now c.max-now.result
     c.max-now.ensures c.args.value c.max-now.result in
-    let low : g.V.Weighs.weight c.args.value ≤ i.regions.caps.bound =
-    rw (c.weight.ensures, c.self.invariant.1) at c.in_ok-within.ensures.ok in
+    let low : (g.V.Weighs.measure c.args.value).weight ≤ i.regions.caps.bound =
+    rw (c.measure.ensures, c.self.invariant.1) at c.in_ok-within.ensures.ok in
     let evicted : c.evicted_since.result ≡ evictions told.1 =
     told-since told.1 c.list-from.result.now c.args.notices.now c.store.new.notices c.evicted_since.result
     c.in_ok-store.ensures.notices c.list-from.ensures c.evicted_since.ensures in
     let call : Call g.row.K.Denot g.row.V.Denot = Put c.args.key c.args.value c.args.now in
-    let taken = put-taken g.K.PartialEq.eq g.K.CacheKey.word g.V.Weighs.weight s c.args.key c.args.now c.max-now.result
+    let taken = put-taken g.K.PartialEq.eq g.K.CacheKey.word g.V.Weighs.measure s c.args.key c.args.now c.max-now.result
     c.max-now.ensures c.args.value low c.in_ok-unspent.ensures.ok in
-    let is = put-state g.K.PartialEq.eq g.K.CacheKey.word g.V.Weighs.weight s c.args.key c.args.now c.max-now.result
+    let is = put-state g.K.PartialEq.eq g.K.CacheKey.word g.V.Weighs.measure s c.args.key c.args.now c.max-now.result
     c.max-now.ensures c.args.value c.store.new.self c.count_key.new.sketch c.forget.new.self c.evicted_since.result
     c.in_ok-store.ensures.state c.count_key.ensures c.forget.ensures.state evicted in (
-      counted-after g.K.PartialEq.eq g.K.CacheKey.word g.V.Weighs.weight s call c.self.invariant.0 taken _ is,
+      counted-after g.K.PartialEq.eq g.K.CacheKey.word g.V.Weighs.measure s call c.self.invariant.0 taken _ is,
       c.self.invariant.1 ∙ ap (λ (x : Caps). x.bound) (sym c.in_ok-store.ensures.same),
       rw c.forget.ensures.state c.self.invariant.2,
     )
@@ -64,17 +64,17 @@ returns-clause-state g c =
     let i = c.self.inside in
     let s : State g.row.K.Denot g.row.V.Denot = state_of i.regions i.sketch i.flights i.counts i.latest i.step in
     let told : Told g.row.K.Denot g.row.V.Denot =
-    told_at g.K.PartialEq.eq g.K.CacheKey.word g.V.Weighs.weight s c.args.key c.args.now c.max-now.result
+    told_at g.K.PartialEq.eq g.K.CacheKey.word g.V.Weighs.measure s c.args.key c.args.now c.max-now.result
     c.max-now.ensures c.args.value c.max-now.result in
-    let low : g.V.Weighs.weight c.args.value ≤ i.regions.caps.bound =
-    rw (c.weight.ensures, c.self.invariant.1) at c.in_ok-within.ensures.ok in
+    let low : (g.V.Weighs.measure c.args.value).weight ≤ i.regions.caps.bound =
+    rw (c.measure.ensures, c.self.invariant.1) at c.in_ok-within.ensures.ok in
     let evicted : c.evicted_since.result ≡ evictions told.1 =
     told-since told.1 c.list-from.result.now c.args.notices.now c.store.new.notices c.evicted_since.result
     c.in_ok-store.ensures.notices c.list-from.ensures c.evicted_since.ensures in
     let call : Call g.row.K.Denot g.row.V.Denot = Put c.args.key c.args.value c.args.now in
-    let taken = put-taken g.K.PartialEq.eq g.K.CacheKey.word g.V.Weighs.weight s c.args.key c.args.now c.max-now.result
+    let taken = put-taken g.K.PartialEq.eq g.K.CacheKey.word g.V.Weighs.measure s c.args.key c.args.now c.max-now.result
     c.max-now.ensures c.args.value low c.in_ok-unspent.ensures.ok in
-    let is = put-state g.K.PartialEq.eq g.K.CacheKey.word g.V.Weighs.weight s c.args.key c.args.now c.max-now.result
+    let is = put-state g.K.PartialEq.eq g.K.CacheKey.word g.V.Weighs.measure s c.args.key c.args.now c.max-now.result
     c.max-now.ensures c.args.value c.store.new.self c.count_key.new.sketch c.forget.new.self c.evicted_since.result
     c.in_ok-store.ensures.state c.count_key.ensures c.forget.ensures.state evicted in
     rw (← c.self.view_is) is
@@ -83,7 +83,7 @@ pub returns-clause-notices : goal.returns-clause-notices
 returns-clause-notices g c =
     let i = c.self.inside in
     let s : State g.row.K.Denot g.row.V.Denot = state_of i.regions i.sketch i.flights i.counts i.latest i.step in
-    rw (← c.self.view_is) (put-notices g.K.PartialEq.eq g.K.CacheKey.word g.V.Weighs.weight s c.args.key c.args.now
+    rw (← c.self.view_is) (put-notices g.K.PartialEq.eq g.K.CacheKey.word g.V.Weighs.measure s c.args.key c.args.now
     c.max-now.result c.max-now.ensures c.args.value c.args.notices.now c.store.new.notices
     c.in_ok-store.ensures.notices)
 
@@ -92,13 +92,13 @@ returns-clause-whole g c =
     let i = c.self.inside in
     let s : State g.row.K.Denot g.row.V.Denot = state_of i.regions i.sketch i.flights i.counts i.latest i.step in
     let told : Told g.row.K.Denot g.row.V.Denot =
-    told_at g.K.PartialEq.eq g.K.CacheKey.word g.V.Weighs.weight s c.args.key c.args.now c.max-now.result
+    told_at g.K.PartialEq.eq g.K.CacheKey.word g.V.Weighs.measure s c.args.key c.args.now c.max-now.result
     c.max-now.ensures c.args.value c.max-now.result in
-    let low : g.V.Weighs.weight c.args.value ≤ i.regions.caps.bound =
-    rw (c.weight.ensures, c.self.invariant.1) at c.in_ok-within.ensures.ok in
+    let low : (g.V.Weighs.measure c.args.value).weight ≤ i.regions.caps.bound =
+    rw (c.measure.ensures, c.self.invariant.1) at c.in_ok-within.ensures.ok in
     let laws = (g.met.K.Eq g.world.𝓛 g.world.𝓜 g.world.𝓡 ((λ s x. x), (λ x. x), (λ x. x), λ x. x)).laws in
     let room : i.regions.caps.entries ≤ c.args.notices.now.room = rw (← c.self.view_is) at c.requires.room in
     whole-told told.1 c.args.notices.now c.store.new.notices c.in_ok-store.ensures.notices
     (stored-told g.K.PartialEq.eq laws
-    (λ k. estimate_of i.sketch (g.K.CacheKey.word k)) g.V.Weighs.weight c.max-now.result
+    (λ k. estimate_of i.sketch (g.K.CacheKey.word k)) g.V.Weighs.measure c.max-now.result
     (i.step + 1) c.args.key c.args.value i.regions c.args.notices.now.room c.len-len.ensures.lawful low room)

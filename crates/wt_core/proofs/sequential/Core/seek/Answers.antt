@@ -26,12 +26,12 @@ invariant_of-self-then-refreshes g c =
     let s : State g.row.K.Denot g.row.V.Denot = state_of i.regions i.sketch i.flights i.counts i.latest i.step in
     let call : Call g.row.K.Denot g.row.V.Denot = Seek c.args.key c.args.now in
     let opens = sym c.refreshes.ensures ∙ c.if-refreshes.true in
-    let is = lead-state g.K.PartialEq.eq c.args.key g.K.CacheKey.word g.V.Weighs.weight s c.args.now c.max-now.result
+    let is = lead-state g.K.PartialEq.eq c.args.key g.K.CacheKey.word g.V.Weighs.measure s c.args.now c.max-now.result
     c.max-now.ensures c.in_ok-value.value c.in_ok-value.ensures.found opens c.open_beside.new.regions
     c.count_key.new.sketch c.open_beside.new.flights c.in_ok-value.ensures.regions c.count_key.ensures
     c.in_ok-value.ensures.flights in (
-      counted-after g.K.PartialEq.eq g.K.CacheKey.word g.V.Weighs.weight s call c.self.invariant.0
-          (lead-taken g.K.PartialEq.eq c.args.key g.K.CacheKey.word g.V.Weighs.weight s c.args.now c.max-now.result
+      counted-after g.K.PartialEq.eq g.K.CacheKey.word g.V.Weighs.measure s call c.self.invariant.0
+          (lead-taken g.K.PartialEq.eq c.args.key g.K.CacheKey.word g.V.Weighs.measure s c.args.now c.max-now.result
           c.max-now.ensures c.in_ok-value.value c.in_ok-value.ensures.found opens c.in_ok-unspent.ensures.ok) _ is,
       c.self.invariant.1 ∙ ap (λ (x : Caps). x.bound) (sym c.in_ok-value.ensures.same),
       rw c.in_ok-value.ensures.flights c.self.invariant.2,
@@ -44,11 +44,11 @@ invariant_of-self-in-Hit g c =
     let call : Call g.row.K.Denot g.row.V.Denot = Seek c.args.key c.args.now in
     let closed = sym c.refreshes.ensures ∙ c.if-refreshes.false in
     let at = sym c.in_ok-missed.ensures.found ∙ c.in-Hit.is in
-    let is = hit-state g.K.PartialEq.eq c.args.key g.K.CacheKey.word g.V.Weighs.weight s c.args.now c.max-now.result
+    let is = hit-state g.K.PartialEq.eq c.args.key g.K.CacheKey.word g.V.Weighs.measure s c.args.now c.max-now.result
     c.max-now.ensures c.in-Hit.value at closed c.get.new.self c.count_key-in-Hit.new.sketch
     c.in_ok-missed.ensures.state c.count_key-in-Hit.ensures in (
-      counted-after g.K.PartialEq.eq g.K.CacheKey.word g.V.Weighs.weight s call c.self.invariant.0
-          (hit-taken g.K.PartialEq.eq c.args.key g.K.CacheKey.word g.V.Weighs.weight s c.args.now c.max-now.result
+      counted-after g.K.PartialEq.eq g.K.CacheKey.word g.V.Weighs.measure s call c.self.invariant.0
+          (hit-taken g.K.PartialEq.eq c.args.key g.K.CacheKey.word g.V.Weighs.measure s c.args.now c.max-now.result
           c.max-now.ensures c.in-Hit.value at closed c.in_ok-unspent.ensures.ok) _ is,
       c.self.invariant.1 ∙ ap (λ (x : Caps). x.bound) (sym c.in_ok-missed.ensures.same),
       c.self.invariant.2,
@@ -82,18 +82,18 @@ invariant_of-self-in_default g c =
     ≡ evictions (without_expired g.K.PartialEq.eq c.args.key c.max-now.result i.regions).1 =
     c.expire_missed-evicted.ensures.answer
     ∙ ap (λ (r : Lists g.row.K.Denot g.row.V.Denot). evictions (without_expired g.K.PartialEq.eq c.args.key c.max-now.result r).1) still in
-    let is = miss-state g.K.PartialEq.eq c.args.key g.K.CacheKey.word g.V.Weighs.weight s c.args.now c.max-now.result
+    let is = miss-state g.K.PartialEq.eq c.args.key g.K.CacheKey.word g.V.Weighs.measure s c.args.now c.max-now.result
     c.max-now.ensures c.in_ok-missed.missed c.in_ok-missed.ensures.found miss c.expire_missed-evicted.new.regions
     c.count_key-in_default.new.sketch c.join_or_begin.new.flights c.expire_missed-evicted.result
     expire c.count_key-in_default.ensures c.in_ok-reply-in_default.ensures.state evicted in
     let fine : fault_met g.K.PartialEq.eq c.args.key i.flights ≡ None =
     met-none (fault_met g.K.PartialEq.eq c.args.key i.flights) _ c.in_ok-reply-in_default.reply
     c.in_ok-reply-in_default.ensures.refusal in
-    let taken = miss-refusal g.K.PartialEq.eq c.args.key g.K.CacheKey.word g.V.Weighs.weight s c.args.now
+    let taken = miss-refusal g.K.PartialEq.eq c.args.key g.K.CacheKey.word g.V.Weighs.measure s c.args.now
     c.max-now.result c.max-now.ensures c.in_ok-missed.missed c.in_ok-missed.ensures.found miss
     c.in_ok-unspent.ensures.ok ∙ fine in (
-      counted-after g.K.PartialEq.eq g.K.CacheKey.word g.V.Weighs.weight s call c.self.invariant.0 taken _ is,
-      bound-after g.K.PartialEq.eq g.K.CacheKey.word g.V.Weighs.weight s call c.self.invariant.0 taken _ is i.bound c.self.invariant.1,
+      counted-after g.K.PartialEq.eq g.K.CacheKey.word g.V.Weighs.measure s call c.self.invariant.0 taken _ is,
+      bound-after g.K.PartialEq.eq g.K.CacheKey.word g.V.Weighs.measure s call c.self.invariant.0 taken _ is i.bound c.self.invariant.1,
       c.self.invariant.2 ∙ limit-met g.K.PartialEq.eq c.args.key i.flights c.join_or_begin.new.flights
           c.in_ok-reply-in_default.ensures.state,
     )
@@ -120,32 +120,32 @@ returns-in_ok-reply-in_default g c =
     ≡ evictions (without_expired g.K.PartialEq.eq c.args.key c.max-now.result i.regions).1 =
     c.expire_missed-evicted.ensures.answer
     ∙ ap (λ (r : Lists g.row.K.Denot g.row.V.Denot). evictions (without_expired g.K.PartialEq.eq c.args.key c.max-now.result r).1) still in
-    let is = miss-state g.K.PartialEq.eq c.args.key g.K.CacheKey.word g.V.Weighs.weight s c.args.now c.max-now.result
+    let is = miss-state g.K.PartialEq.eq c.args.key g.K.CacheKey.word g.V.Weighs.measure s c.args.now c.max-now.result
     c.max-now.ensures c.in_ok-missed.missed c.in_ok-missed.ensures.found miss c.expire_missed-evicted.new.regions
     c.count_key-in_default.new.sketch c.join_or_begin.new.flights c.expire_missed-evicted.result
     expire c.count_key-in_default.ensures c.in_ok-reply-in_default.ensures.state evicted in
     let fine : fault_met g.K.PartialEq.eq c.args.key i.flights ≡ None =
     met-none (fault_met g.K.PartialEq.eq c.args.key i.flights) _ c.in_ok-reply-in_default.reply
     c.in_ok-reply-in_default.ensures.refusal in
-    let taken = miss-refusal g.K.PartialEq.eq c.args.key g.K.CacheKey.word g.V.Weighs.weight s c.args.now
+    let taken = miss-refusal g.K.PartialEq.eq c.args.key g.K.CacheKey.word g.V.Weighs.measure s c.args.now
     c.max-now.result c.max-now.ensures c.in_ok-missed.missed c.in_ok-missed.ensures.found miss
     c.in_ok-unspent.ensures.ok ∙ fine in
     let room : i.regions.caps.entries ≤ c.args.notices.now.room = rw (← c.self.view_is) at c.requires.room in
     record {
       state = rw (← c.self.view_is) is;
       answer = rw (← c.self.view_is) (c.in_ok-reply-in_default.ensures.answer
-          ∙ sym (miss-reply g.K.PartialEq.eq c.args.key g.K.CacheKey.word g.V.Weighs.weight s c.args.now
+          ∙ sym (miss-reply g.K.PartialEq.eq c.args.key g.K.CacheKey.word g.V.Weighs.measure s c.args.now
           c.max-now.result c.max-now.ensures c.in_ok-missed.missed c.in_ok-missed.ensures.found miss));
       notices = rw (← c.self.view_is)
           (told ∙ ap (λ (ns : List (Notice g.row.K.Denot g.row.V.Denot)). appended ns c.args.notices.now)
-          (sym (miss-notices g.K.PartialEq.eq c.args.key g.K.CacheKey.word g.V.Weighs.weight s c.args.now
+          (sym (miss-notices g.K.PartialEq.eq c.args.key g.K.CacheKey.word g.V.Weighs.measure s c.args.now
           c.max-now.result c.max-now.ensures c.in_ok-missed.missed c.in_ok-missed.ensures.found miss)));
       refusal = rw (← c.self.view_is, taken) tt;
       same = rw (← c.self.view_is) (ap (λ (r : Lists g.row.K.Denot g.row.V.Denot). r.caps) expire
           ∙ (without_expired-balanced g.K.PartialEq.eq c.args.key c.max-now.result i.regions).caps);
       whole = whole-told (without_expired g.K.PartialEq.eq c.args.key c.max-now.result i.regions).1 c.args.notices.now
           c.expire_missed-evicted.new.notices told
-          (balanced-told g.K.PartialEq.eq g.V.Weighs.weight i.regions
+          (balanced-told g.K.PartialEq.eq g.V.Weighs.measure i.regions
           (without_expired g.K.PartialEq.eq c.args.key c.max-now.result i.regions) c.args.notices.now.room
           c.len-len.ensures.lawful (without_expired-balanced g.K.PartialEq.eq c.args.key c.max-now.result i.regions)
           room);
@@ -159,7 +159,7 @@ returns-in_err-value-clause-none_succeeds g c = λ takes allowed.
     let s : State g.row.K.Denot g.row.V.Denot = state_of i.regions i.sketch i.flights i.counts i.latest i.step in
     let opens = sym c.refreshes.ensures ∙ c.if-refreshes.true in
     let free = rw (← c.self.view_is) at takes in
-    absurd (free-alone g.V.Share.is_copied g.K.PartialEq.eq g.V.Weighs.weight c.args.key s c.args.now c.max-now.result
+    absurd (free-alone g.V.Share.is_copied g.K.PartialEq.eq g.V.Weighs.measure c.args.key s c.args.now c.max-now.result
     c.max-now.ensures free opens)
 
 pub returns-in_err-missed-clause-none_succeeds : goal.returns-in_err-missed-clause-none_succeeds
@@ -167,7 +167,7 @@ returns-in_err-missed-clause-none_succeeds g c = λ takes allowed.
     let i = c.self.inside in
     let s : State g.row.K.Denot g.row.V.Denot = state_of i.regions i.sketch i.flights i.counts i.latest i.step in
     let free = rw (← c.self.view_is) at takes in
-    let never : false ≡ true = free-seek g.V.Share.is_copied g.K.PartialEq.eq g.V.Weighs.weight c.args.key s c.args.now
+    let never : false ≡ true = free-seek g.V.Share.is_copied g.K.PartialEq.eq g.V.Weighs.measure c.args.key s c.args.now
     c.max-now.result c.max-now.ensures free
     (false ≡ true) c.in_err-missed.ensures.miss_succeeds c.in_err-missed.ensures.hit_succeeds in cc
 
@@ -179,5 +179,5 @@ returns-in_err-reply-in_default-clause-none_succeeds g c = λ takes allowed.
     let miss : has_at g.K.PartialEq.eq c.args.key c.max-now.result i.regions ≡ false =
     ap is_hit (sym c.in_ok-missed.ensures.found) ∙ is_miss c.in_ok-missed.missed c.in_default.not-Hit in
     let never : false ≡ true = c.in_err-reply-in_default.ensures.join_succeeds
-    (free-joins g.V.Share.is_copied g.K.PartialEq.eq g.V.Weighs.weight c.args.key s c.args.now c.max-now.result
+    (free-joins g.V.Share.is_copied g.K.PartialEq.eq g.V.Weighs.measure c.args.key s c.args.now c.max-now.result
     c.max-now.ensures free miss) in cc

@@ -7,7 +7,7 @@ clean_in-weight-requires-2-clause-room g c κs within =
     let i = c.self.inside in
     let placed = rw (← c.self.view_is) at c.requires.placed in
     let room : i.caps.entries ≤ c.args.notices.now.room = rw (← c.self.view_is) at c.requires.room in
-    clean-room-1 g.K.PartialEq.eq g.V.Weighs.weight c.args.now i.caps i.window.entries i.probation.entries
+    clean-room-1 g.K.PartialEq.eq g.V.Weighs.measure c.args.now i.caps i.window.entries i.probation.entries
     i.protected.entries placed c.args.notices.now c.clean_in-weight.new.notices c.clean_in-weight.new.notices room
     c.clean_in-weight.ensures.notices
 
@@ -16,6 +16,6 @@ clean_in-requires-clause-room g c κs within =
     let i = c.self.inside in
     let placed = rw (← c.self.view_is) at c.requires.placed in
     let room : i.caps.entries ≤ c.args.notices.now.room = rw (← c.self.view_is) at c.requires.room in
-    clean-room-2 g.K.PartialEq.eq g.V.Weighs.weight c.args.now i.caps i.window.entries i.probation.entries
+    clean-room-2 g.K.PartialEq.eq g.V.Weighs.measure c.args.now i.caps i.window.entries i.probation.entries
     i.protected.entries placed c.args.notices.now c.clean_in-weight.new.notices c.clean_in-weight-2.new.notices room
     c.clean_in-weight.ensures.notices c.clean_in-weight-2.ensures.notices

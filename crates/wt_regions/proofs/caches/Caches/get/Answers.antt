@@ -9,11 +9,11 @@ returns-in_err-promote-in-InProbation-clause-miss_succeeds g c =
     let look = subst (IsLook g.K.PartialEq.eq
     (g.met.K.Eq g.world.𝓛 g.world.𝓜 g.world.𝓡 ((λ s x. x), (λ x. x), (λ x. x), λ x. x)).laws
     (g.met.K.CacheKey g.world.𝓛 g.world.𝓜 g.world.𝓡 ((λ s x. x), (λ x. x), (λ x. x), λ x. x)).same c.args.key
-    c.args.now r.caps r.window r.probation r.protected c.requires.distinct) is
+    c.args.now r.caps r.window r.probation r.protected c.requires.placed.distinct) is
     (look-is g.K.PartialEq.eq (g.met.K.Eq g.world.𝓛 g.world.𝓜 g.world.𝓡
     ((λ s x. x), (λ x. x), (λ x. x), λ x. x)).laws
     (g.met.K.CacheKey g.world.𝓛 g.world.𝓜 g.world.𝓡 ((λ s x. x), (λ x. x), (λ x. x), λ x. x)).same c.args.key
-    c.args.now r.caps r.window r.probation r.protected c.requires.distinct) in
+    c.args.now r.caps r.window r.probation r.protected c.requires.placed.distinct) in
     λ miss. let never = rw look.0 at miss in cc
 
 pub returns-in_err-promote-in-InProbation-clause-hit_succeeds : goal.returns-in_err-promote-in-InProbation-clause-hit_succeeds
@@ -23,11 +23,11 @@ returns-in_err-promote-in-InProbation-clause-hit_succeeds g c =
     let look = subst (IsLook g.K.PartialEq.eq
     (g.met.K.Eq g.world.𝓛 g.world.𝓜 g.world.𝓡 ((λ s x. x), (λ x. x), (λ x. x), λ x. x)).laws
     (g.met.K.CacheKey g.world.𝓛 g.world.𝓜 g.world.𝓡 ((λ s x. x), (λ x. x), (λ x. x), λ x. x)).same c.args.key
-    c.args.now r.caps r.window r.probation r.protected c.requires.distinct) is
+    c.args.now r.caps r.window r.probation r.protected c.requires.placed.distinct) is
     (look-is g.K.PartialEq.eq (g.met.K.Eq g.world.𝓛 g.world.𝓜 g.world.𝓡
     ((λ s x. x), (λ x. x), (λ x. x), λ x. x)).laws
     (g.met.K.CacheKey g.world.𝓛 g.world.𝓜 g.world.𝓡 ((λ s x. x), (λ x. x), (λ x. x), λ x. x)).same c.args.key
-    c.args.now r.caps r.window r.probation r.protected c.requires.distinct) in
+    c.args.now r.caps r.window r.probation r.protected c.requires.placed.distinct) in
     let there = look.3 in
     λ copied outside. let never = rw outside at there in cc
 
@@ -38,17 +38,17 @@ returns-in-InWindow-clause-found g c =
     let look = subst (IsLook g.K.PartialEq.eq
     (g.met.K.Eq g.world.𝓛 g.world.𝓜 g.world.𝓡 ((λ s x. x), (λ x. x), (λ x. x), λ x. x)).laws
     (g.met.K.CacheKey g.world.𝓛 g.world.𝓜 g.world.𝓡 ((λ s x. x), (λ x. x), (λ x. x), λ x. x)).same c.args.key
-    c.args.now r.caps r.window r.probation r.protected c.requires.distinct) is
+    c.args.now r.caps r.window r.probation r.protected c.requires.placed.distinct) is
     (look-is g.K.PartialEq.eq (g.met.K.Eq g.world.𝓛 g.world.𝓜 g.world.𝓡
     ((λ s x. x), (λ x. x), (λ x. x), λ x. x)).laws
     (g.met.K.CacheKey g.world.𝓛 g.world.𝓜 g.world.𝓡 ((λ s x. x), (λ x. x), (λ x. x), λ x. x)).same c.args.key
-    c.args.now r.caps r.window r.probation r.protected c.requires.distinct) in
+    c.args.now r.caps r.window r.probation r.protected c.requires.placed.distinct) in
     rw look.0 refl
 
 pub returns-in-InWindow-clause-state : goal.returns-in-InWindow-clause-state
 returns-in-InWindow-clause-state g c =
     let i = c.self-2.inside in
-    let once = (rw (← c.self-2.view_is) at c.requires).distinct in
+    let once = (rw (← c.self-2.view_is) at c.requires.placed).distinct in
     let is = rw (← c.self-2.view_is) at (sym c.in_ok-value.ensures.found ∙ c.in-InWindow.is) in
     let look = subst (IsLook g.K.PartialEq.eq
     (g.met.K.Eq g.world.𝓛 g.world.𝓜 g.world.𝓡 ((λ s x. x), (λ x. x), (λ x. x), λ x. x)).laws
@@ -67,17 +67,17 @@ returns-in-InProtected-clause-found g c =
     let look = subst (IsLook g.K.PartialEq.eq
     (g.met.K.Eq g.world.𝓛 g.world.𝓜 g.world.𝓡 ((λ s x. x), (λ x. x), (λ x. x), λ x. x)).laws
     (g.met.K.CacheKey g.world.𝓛 g.world.𝓜 g.world.𝓡 ((λ s x. x), (λ x. x), (λ x. x), λ x. x)).same c.args.key
-    c.args.now r.caps r.window r.probation r.protected c.requires.distinct) is
+    c.args.now r.caps r.window r.probation r.protected c.requires.placed.distinct) is
     (look-is g.K.PartialEq.eq (g.met.K.Eq g.world.𝓛 g.world.𝓜 g.world.𝓡
     ((λ s x. x), (λ x. x), (λ x. x), λ x. x)).laws
     (g.met.K.CacheKey g.world.𝓛 g.world.𝓜 g.world.𝓡 ((λ s x. x), (λ x. x), (λ x. x), λ x. x)).same c.args.key
-    c.args.now r.caps r.window r.probation r.protected c.requires.distinct) in
+    c.args.now r.caps r.window r.probation r.protected c.requires.placed.distinct) in
     rw look.0 refl
 
 pub returns-in-InProtected-clause-state : goal.returns-in-InProtected-clause-state
 returns-in-InProtected-clause-state g c =
     let i = c.self-2.inside in
-    let once = (rw (← c.self-2.view_is) at c.requires).distinct in
+    let once = (rw (← c.self-2.view_is) at c.requires.placed).distinct in
     let is = rw (← c.self-2.view_is) at (sym c.in_ok-value.ensures.found ∙ c.in-InProtected.is) in
     let look = subst (IsLook g.K.PartialEq.eq
     (g.met.K.Eq g.world.𝓛 g.world.𝓜 g.world.𝓡 ((λ s x. x), (λ x. x), (λ x. x), λ x. x)).laws
@@ -96,11 +96,11 @@ returns-in_ok-promote-in-InProbation-clause-found g c =
     let look = subst (IsLook g.K.PartialEq.eq
     (g.met.K.Eq g.world.𝓛 g.world.𝓜 g.world.𝓡 ((λ s x. x), (λ x. x), (λ x. x), λ x. x)).laws
     (g.met.K.CacheKey g.world.𝓛 g.world.𝓜 g.world.𝓡 ((λ s x. x), (λ x. x), (λ x. x), λ x. x)).same c.args.key
-    c.args.now r.caps r.window r.probation r.protected c.requires.distinct) is
+    c.args.now r.caps r.window r.probation r.protected c.requires.placed.distinct) is
     (look-is g.K.PartialEq.eq (g.met.K.Eq g.world.𝓛 g.world.𝓜 g.world.𝓡
     ((λ s x. x), (λ x. x), (λ x. x), λ x. x)).laws
     (g.met.K.CacheKey g.world.𝓛 g.world.𝓜 g.world.𝓡 ((λ s x. x), (λ x. x), (λ x. x), λ x. x)).same c.args.key
-    c.args.now r.caps r.window r.probation r.protected c.requires.distinct) in
+    c.args.now r.caps r.window r.probation r.protected c.requires.placed.distinct) in
     rw look.0 refl
 
 pub returns-in_ok-promote-in-InProbation-clause-state : goal.returns-in_ok-promote-in-InProbation-clause-state
@@ -110,11 +110,11 @@ returns-in_ok-promote-in-InProbation-clause-state g c =
     let look = subst (IsLook g.K.PartialEq.eq
     (g.met.K.Eq g.world.𝓛 g.world.𝓜 g.world.𝓡 ((λ s x. x), (λ x. x), (λ x. x), λ x. x)).laws
     (g.met.K.CacheKey g.world.𝓛 g.world.𝓜 g.world.𝓡 ((λ s x. x), (λ x. x), (λ x. x), λ x. x)).same c.args.key
-    c.args.now r.caps r.window r.probation r.protected c.requires.distinct) is
+    c.args.now r.caps r.window r.probation r.protected c.requires.placed.distinct) is
     (look-is g.K.PartialEq.eq (g.met.K.Eq g.world.𝓛 g.world.𝓜 g.world.𝓡
     ((λ s x. x), (λ x. x), (λ x. x), λ x. x)).laws
     (g.met.K.CacheKey g.world.𝓛 g.world.𝓜 g.world.𝓡 ((λ s x. x), (λ x. x), (λ x. x), λ x. x)).same c.args.key
-    c.args.now r.caps r.window r.probation r.protected c.requires.distinct) in
+    c.args.now r.caps r.window r.probation r.protected c.requires.placed.distinct) in
     c.in_ok-promote-in-InProbation.ensures.state ∙ sym look.1
 
 pub returns-in-Nowhere-clause-found : goal.returns-in-Nowhere-clause-found
@@ -124,11 +124,11 @@ returns-in-Nowhere-clause-found g c =
     let look = subst (IsLook g.K.PartialEq.eq
     (g.met.K.Eq g.world.𝓛 g.world.𝓜 g.world.𝓡 ((λ s x. x), (λ x. x), (λ x. x), λ x. x)).laws
     (g.met.K.CacheKey g.world.𝓛 g.world.𝓜 g.world.𝓡 ((λ s x. x), (λ x. x), (λ x. x), λ x. x)).same c.args.key
-    c.args.now r.caps r.window r.probation r.protected c.requires.distinct) is
+    c.args.now r.caps r.window r.probation r.protected c.requires.placed.distinct) is
     (look-is g.K.PartialEq.eq (g.met.K.Eq g.world.𝓛 g.world.𝓜 g.world.𝓡
     ((λ s x. x), (λ x. x), (λ x. x), λ x. x)).laws
     (g.met.K.CacheKey g.world.𝓛 g.world.𝓜 g.world.𝓡 ((λ s x. x), (λ x. x), (λ x. x), λ x. x)).same c.args.key
-    c.args.now r.caps r.window r.probation r.protected c.requires.distinct) in
+    c.args.now r.caps r.window r.probation r.protected c.requires.placed.distinct) in
     rw look.0 refl
 
 pub returns-in-Nowhere-clause-state : goal.returns-in-Nowhere-clause-state
@@ -138,11 +138,11 @@ returns-in-Nowhere-clause-state g c =
     let look = subst (IsLook g.K.PartialEq.eq
     (g.met.K.Eq g.world.𝓛 g.world.𝓜 g.world.𝓡 ((λ s x. x), (λ x. x), (λ x. x), λ x. x)).laws
     (g.met.K.CacheKey g.world.𝓛 g.world.𝓜 g.world.𝓡 ((λ s x. x), (λ x. x), (λ x. x), λ x. x)).same c.args.key
-    c.args.now r.caps r.window r.probation r.protected c.requires.distinct) is
+    c.args.now r.caps r.window r.probation r.protected c.requires.placed.distinct) is
     (look-is g.K.PartialEq.eq (g.met.K.Eq g.world.𝓛 g.world.𝓜 g.world.𝓡
     ((λ s x. x), (λ x. x), (λ x. x), λ x. x)).laws
     (g.met.K.CacheKey g.world.𝓛 g.world.𝓜 g.world.𝓡 ((λ s x. x), (λ x. x), (λ x. x), λ x. x)).same c.args.key
-    c.args.now r.caps r.window r.probation r.protected c.requires.distinct) in
+    c.args.now r.caps r.window r.probation r.protected c.requires.placed.distinct) in
     sym look.1
 
 pub returns-in-Expired-clause-found : goal.returns-in-Expired-clause-found
@@ -152,11 +152,11 @@ returns-in-Expired-clause-found g c =
     let look = subst (IsLook g.K.PartialEq.eq
     (g.met.K.Eq g.world.𝓛 g.world.𝓜 g.world.𝓡 ((λ s x. x), (λ x. x), (λ x. x), λ x. x)).laws
     (g.met.K.CacheKey g.world.𝓛 g.world.𝓜 g.world.𝓡 ((λ s x. x), (λ x. x), (λ x. x), λ x. x)).same c.args.key
-    c.args.now r.caps r.window r.probation r.protected c.requires.distinct) is
+    c.args.now r.caps r.window r.probation r.protected c.requires.placed.distinct) is
     (look-is g.K.PartialEq.eq (g.met.K.Eq g.world.𝓛 g.world.𝓜 g.world.𝓡
     ((λ s x. x), (λ x. x), (λ x. x), λ x. x)).laws
     (g.met.K.CacheKey g.world.𝓛 g.world.𝓜 g.world.𝓡 ((λ s x. x), (λ x. x), (λ x. x), λ x. x)).same c.args.key
-    c.args.now r.caps r.window r.probation r.protected c.requires.distinct) in
+    c.args.now r.caps r.window r.probation r.protected c.requires.placed.distinct) in
     rw look.0 refl
 
 pub returns-in-Expired-clause-state : goal.returns-in-Expired-clause-state
@@ -166,11 +166,11 @@ returns-in-Expired-clause-state g c =
     let look = subst (IsLook g.K.PartialEq.eq
     (g.met.K.Eq g.world.𝓛 g.world.𝓜 g.world.𝓡 ((λ s x. x), (λ x. x), (λ x. x), λ x. x)).laws
     (g.met.K.CacheKey g.world.𝓛 g.world.𝓜 g.world.𝓡 ((λ s x. x), (λ x. x), (λ x. x), λ x. x)).same c.args.key
-    c.args.now r.caps r.window r.probation r.protected c.requires.distinct) is
+    c.args.now r.caps r.window r.probation r.protected c.requires.placed.distinct) is
     (look-is g.K.PartialEq.eq (g.met.K.Eq g.world.𝓛 g.world.𝓜 g.world.𝓡
     ((λ s x. x), (λ x. x), (λ x. x), λ x. x)).laws
     (g.met.K.CacheKey g.world.𝓛 g.world.𝓜 g.world.𝓡 ((λ s x. x), (λ x. x), (λ x. x), λ x. x)).same c.args.key
-    c.args.now r.caps r.window r.probation r.protected c.requires.distinct) in
+    c.args.now r.caps r.window r.probation r.protected c.requires.placed.distinct) in
     sym look.1
 
 pub promote-requires-clause-elsewhere : goal.promote-requires-clause-elsewhere
@@ -180,9 +180,9 @@ promote-requires-clause-elsewhere g c κs within =
     let look = subst (IsLook g.K.PartialEq.eq
     (g.met.K.Eq g.world.𝓛 g.world.𝓜 g.world.𝓡 ((λ s x. x), (λ x. x), (λ x. x), λ x. x)).laws
     (g.met.K.CacheKey g.world.𝓛 g.world.𝓜 g.world.𝓡 ((λ s x. x), (λ x. x), (λ x. x), λ x. x)).same c.args.key
-    c.args.now r.caps r.window r.probation r.protected c.requires.distinct) is
+    c.args.now r.caps r.window r.probation r.protected c.requires.placed.distinct) is
     (look-is g.K.PartialEq.eq (g.met.K.Eq g.world.𝓛 g.world.𝓜 g.world.𝓡
     ((λ s x. x), (λ x. x), (λ x. x), λ x. x)).laws
     (g.met.K.CacheKey g.world.𝓛 g.world.𝓜 g.world.𝓡 ((λ s x. x), (λ x. x), (λ x. x), λ x. x)).same c.args.key
-    c.args.now r.caps r.window r.probation r.protected c.requires.distinct) in
+    c.args.now r.caps r.window r.probation r.protected c.requires.placed.distinct) in
     look.2

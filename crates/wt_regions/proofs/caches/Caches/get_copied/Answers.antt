@@ -8,10 +8,11 @@ returns-in-Some-clause-found g c =
     let i = c.self.inside in
     let once = (rw (← c.self.view_is) at c.requires.placed).distinct in
     let unaging = rw (← c.self.view_is) at c.requires.unaging in
+    let lasting = rw (← c.self.view_is) at c.requires.lasting in
     let look = copied-protected g.K.PartialEq.eq
     (g.met.K.Eq g.world.𝓛 g.world.𝓜 g.world.𝓡 ((λ s x. x), (λ x. x), (λ x. x), λ x. x)).laws
     (g.met.K.CacheKey g.world.𝓛 g.world.𝓜 g.world.𝓡 ((λ s x. x), (λ x. x), (λ x. x), λ x. x)).same c.args.key
-    c.args.now i.caps i.window.entries i.probation.entries i.protected.entries once unaging c.in-Some.value
+    c.args.now i.caps i.window.entries i.probation.entries i.protected.entries once unaging lasting c.in-Some.value
     (sym c.in-Some.ensures.answer) in
     rw (← c.self.view_is) (sym look.0)
 
@@ -20,10 +21,11 @@ returns-in-Some-clause-state g c =
     let i = c.self.inside in
     let once = (rw (← c.self.view_is) at c.requires.placed).distinct in
     let unaging = rw (← c.self.view_is) at c.requires.unaging in
+    let lasting = rw (← c.self.view_is) at c.requires.lasting in
     let look = copied-protected g.K.PartialEq.eq
     (g.met.K.Eq g.world.𝓛 g.world.𝓜 g.world.𝓡 ((λ s x. x), (λ x. x), (λ x. x), λ x. x)).laws
     (g.met.K.CacheKey g.world.𝓛 g.world.𝓜 g.world.𝓡 ((λ s x. x), (λ x. x), (λ x. x), λ x. x)).same c.args.key
-    c.args.now i.caps i.window.entries i.probation.entries i.protected.entries once unaging c.in-Some.value
+    c.args.now i.caps i.window.entries i.probation.entries i.protected.entries once unaging lasting c.in-Some.value
     (sym c.in-Some.ensures.answer) in
     rw (c.in-Some.ensures.state, ← c.self.view_is) (sym look.1)
 
@@ -38,11 +40,12 @@ promote-requires-clause-elsewhere g c κs within =
     let i = c.self.inside in
     let once = (rw (← c.self.view_is) at c.requires.placed).distinct in
     let unaging = rw (← c.self.view_is) at c.requires.unaging in
+    let lasting = rw (← c.self.view_is) at c.requires.lasting in
     let at : lookup (g.K.PartialEq.eq c.args.key) i.probation.entries ≡ Some c.in-Some-held_in.held.now = search rules in
     let look = copied-probation g.K.PartialEq.eq
     (g.met.K.Eq g.world.𝓛 g.world.𝓜 g.world.𝓡 ((λ s x. x), (λ x. x), (λ x. x), λ x. x)).laws
     (g.met.K.CacheKey g.world.𝓛 g.world.𝓜 g.world.𝓡 ((λ s x. x), (λ x. x), (λ x. x), λ x. x)).same c.args.key
-    c.args.now i.caps i.window.entries i.probation.entries i.protected.entries once unaging
+    c.args.now i.caps i.window.entries i.probation.entries i.protected.entries once unaging lasting
     c.in-Some-held_in.held.now at in
     look.2
 
@@ -51,11 +54,12 @@ returns-in_err-promote-clause-miss_succeeds g c =
     let i = c.self.inside in
     let once = (rw (← c.self.view_is) at c.requires.placed).distinct in
     let unaging = rw (← c.self.view_is) at c.requires.unaging in
+    let lasting = rw (← c.self.view_is) at c.requires.lasting in
     let at : lookup (g.K.PartialEq.eq c.args.key) i.probation.entries ≡ Some c.in-Some-held_in.held.now = search rules in
     let look = copied-probation g.K.PartialEq.eq
     (g.met.K.Eq g.world.𝓛 g.world.𝓜 g.world.𝓡 ((λ s x. x), (λ x. x), (λ x. x), λ x. x)).laws
     (g.met.K.CacheKey g.world.𝓛 g.world.𝓜 g.world.𝓡 ((λ s x. x), (λ x. x), (λ x. x), λ x. x)).same c.args.key
-    c.args.now i.caps i.window.entries i.probation.entries i.protected.entries once unaging
+    c.args.now i.caps i.window.entries i.probation.entries i.protected.entries once unaging lasting
     c.in-Some-held_in.held.now at in
     λ miss. let never = rw (← c.self.view_is, look.0) at miss in cc
 
@@ -77,11 +81,12 @@ returns-in-Some-held_in-clause-found g c =
     let i = c.self.inside in
     let once = (rw (← c.self.view_is) at c.requires.placed).distinct in
     let unaging = rw (← c.self.view_is) at c.requires.unaging in
+    let lasting = rw (← c.self.view_is) at c.requires.lasting in
     let at : lookup (g.K.PartialEq.eq c.args.key) i.probation.entries ≡ Some c.in-Some-held_in.held.now = search rules in
     let look = copied-probation g.K.PartialEq.eq
     (g.met.K.Eq g.world.𝓛 g.world.𝓜 g.world.𝓡 ((λ s x. x), (λ x. x), (λ x. x), λ x. x)).laws
     (g.met.K.CacheKey g.world.𝓛 g.world.𝓜 g.world.𝓡 ((λ s x. x), (λ x. x), (λ x. x), λ x. x)).same c.args.key
-    c.args.now i.caps i.window.entries i.probation.entries i.protected.entries once unaging
+    c.args.now i.caps i.window.entries i.probation.entries i.protected.entries once unaging lasting
     c.in-Some-held_in.held.now at in
     rw (c.in_ok-value.ensures.answer, ← c.self.view_is) (sym look.0)
 
@@ -90,12 +95,13 @@ returns-in-Some-held_in-clause-state g c =
     let i = c.self.inside in
     let once = (rw (← c.self.view_is) at c.requires.placed).distinct in
     let unaging = rw (← c.self.view_is) at c.requires.unaging in
+    let lasting = rw (← c.self.view_is) at c.requires.lasting in
     let gone : c.use_in.new.cache ≡ i.protected = c.in_default.ensures.missed refl in
     let at : lookup (g.K.PartialEq.eq c.args.key) i.probation.entries ≡ Some c.in-Some-held_in.held.now = search rules in
     let look = copied-probation g.K.PartialEq.eq
     (g.met.K.Eq g.world.𝓛 g.world.𝓜 g.world.𝓡 ((λ s x. x), (λ x. x), (λ x. x), λ x. x)).laws
     (g.met.K.CacheKey g.world.𝓛 g.world.𝓜 g.world.𝓡 ((λ s x. x), (λ x. x), (λ x. x), λ x. x)).same c.args.key
-    c.args.now i.caps i.window.entries i.probation.entries i.protected.entries once unaging
+    c.args.now i.caps i.window.entries i.probation.entries i.protected.entries once unaging lasting
     c.in-Some-held_in.held.now at in
     rw (c.in_ok-promote.ensures.state, c.in_ok-moved.ensures.answer, gone, ← c.self.view_is) (sym look.1)
 
@@ -104,10 +110,11 @@ returns-in-Some-use_in-clause-found g c =
     let i = c.self.inside in
     let once = (rw (← c.self.view_is) at c.requires.placed).distinct in
     let unaging = rw (← c.self.view_is) at c.requires.unaging in
+    let lasting = rw (← c.self.view_is) at c.requires.lasting in
     let look = copied-window g.K.PartialEq.eq
     (g.met.K.Eq g.world.𝓛 g.world.𝓜 g.world.𝓡 ((λ s x. x), (λ x. x), (λ x. x), λ x. x)).laws
     (g.met.K.CacheKey g.world.𝓛 g.world.𝓜 g.world.𝓡 ((λ s x. x), (λ x. x), (λ x. x), λ x. x)).same c.args.key
-    c.args.now i.caps i.window.entries i.probation.entries i.protected.entries once unaging c.in-Some-use_in.value
+    c.args.now i.caps i.window.entries i.probation.entries i.protected.entries once unaging lasting c.in-Some-use_in.value
     (sym c.in-Some-use_in.ensures.answer) in
     rw (← c.self.view_is) (sym look.0)
 
@@ -116,11 +123,12 @@ returns-in-Some-use_in-clause-state g c =
     let i = c.self.inside in
     let once = (rw (← c.self.view_is) at c.requires.placed).distinct in
     let unaging = rw (← c.self.view_is) at c.requires.unaging in
+    let lasting = rw (← c.self.view_is) at c.requires.lasting in
     let gone : c.use_in.new.cache ≡ i.protected = c.in_default.ensures.missed refl in
     let look = copied-window g.K.PartialEq.eq
     (g.met.K.Eq g.world.𝓛 g.world.𝓜 g.world.𝓡 ((λ s x. x), (λ x. x), (λ x. x), λ x. x)).laws
     (g.met.K.CacheKey g.world.𝓛 g.world.𝓜 g.world.𝓡 ((λ s x. x), (λ x. x), (λ x. x), λ x. x)).same c.args.key
-    c.args.now i.caps i.window.entries i.probation.entries i.protected.entries once unaging c.in-Some-use_in.value
+    c.args.now i.caps i.window.entries i.probation.entries i.protected.entries once unaging lasting c.in-Some-use_in.value
     (sym c.in-Some-use_in.ensures.answer) in
     rw (c.in-Some-use_in.ensures.state, gone, ← c.self.view_is) (sym look.1)
 

@@ -16,7 +16,7 @@ push_new-requires-clause-fresh g c κs within =
     let turned = distinct_turned g.K.PartialEq.eq laws i.window.entries i.probation.entries i.protected.entries placed.distinct in
     rw c.resize.ensures
     (last_apart g.K.PartialEq.eq laws i.window.entries i.probation.entries (c.in-Some.key.now, c.in-Some.last.now)
-    (distinct-comm g.K.PartialEq.eq laws g.V.Weighs.weight i.probation.entries i.window.entries turned) last)
+    (distinct-comm g.K.PartialEq.eq laws g.V.Weighs.measure i.probation.entries i.window.entries turned) last)
 
 pub move_past-requires-clause-fresh : goal.move_past-requires-clause-fresh
 move_past-requires-clause-fresh g c κs within =

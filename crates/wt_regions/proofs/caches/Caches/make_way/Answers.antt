@@ -33,3 +33,13 @@ returns-clause-state g c =
     let there = last_below x i.window.entries l last in
     let young : is_expired i.caps c.args.held.written c.in-Some.last.now ≡ false = sym c.is_expired.ensures ∙ c.if-is_expired.false in
     rw (c.in_ok-pass_on.ensures.state, ← c.self.view_is, there, last, young) refl
+
+pub returns-clause-left : goal.returns-clause-left
+returns-clause-left g c =
+    let i = c.self.inside in
+    let x : Entry g.row.K.Denot g.row.V.Denot = (c.args.key, c.args.held) in
+    let l : Entry g.row.K.Denot g.row.V.Denot = (c.in-Some.field-0-0.now, c.in-Some.last.now) in
+    let last : last_entry i.window.entries ≡ Some (c.in-Some.field-0-0.now, c.in-Some.last.now) = search rules in
+    let there = last_below x i.window.entries l last in
+    let young : is_expired i.caps c.args.held.written c.in-Some.last.now ≡ false = sym c.is_expired.ensures ∙ c.if-is_expired.false in
+    rw (← c.self.view_is, there, young) refl

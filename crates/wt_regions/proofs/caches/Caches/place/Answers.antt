@@ -38,7 +38,7 @@ returns-then-is_expired-clause-state g c =
     rw (← c.self.view_is) (on_ok c.settle_past.result
     (λ is. is ∙ past-in-lists g.K.PartialEq.eq
     (g.met.K.Eq g.world.𝓛 g.world.𝓜 g.world.𝓡 ((λ s x. x), (λ x. x), (λ x. x), λ x. x)).laws
-    (g.met.K.CacheKey g.world.𝓛 g.world.𝓜 g.world.𝓡 ((λ s x. x), (λ x. x), (λ x. x), λ x. x)).same g.V.Weighs.weight
+    (g.met.K.CacheKey g.world.𝓛 g.world.𝓜 g.world.𝓡 ((λ s x. x), (λ x. x), (λ x. x), λ x. x)).same g.V.Weighs.measure
     (λ k. estimate_of c.args.sketch.now (g.K.CacheKey.word k)) c.args.held.written c.args.key c.args.held i.caps
     i.window.entries i.probation.entries i.protected.entries placed off.0 c.in-Some.own.now on old)
     (rw (← c.self.view_is) at c.settle_past.ensures.state))
@@ -63,7 +63,7 @@ returns-then-is_expired-clause-notices g c =
     (λ is. is ∙ (ap (λ (ns : List (Notice g.row.K.Denot g.row.V.Denot)). appended ns c.args.notices.now)
     (past-in-told g.K.PartialEq.eq (g.met.K.Eq g.world.𝓛 g.world.𝓜 g.world.𝓡
     ((λ s x. x), (λ x. x), (λ x. x), λ x. x)).laws
-    (g.met.K.CacheKey g.world.𝓛 g.world.𝓜 g.world.𝓡 ((λ s x. x), (λ x. x), (λ x. x), λ x. x)).same g.V.Weighs.weight
+    (g.met.K.CacheKey g.world.𝓛 g.world.𝓜 g.world.𝓡 ((λ s x. x), (λ x. x), (λ x. x), λ x. x)).same g.V.Weighs.measure
     (λ k. estimate_of c.args.sketch.now (g.K.CacheKey.word k)) c.args.held.written c.args.key c.args.held i.caps
     i.window.entries i.probation.entries i.protected.entries placed off.0 c.in-Some.own.now on old)))
     (rw (← c.self.view_is) at c.settle_past.ensures.notices))
@@ -80,7 +80,7 @@ returns-in-Some-clause-state g c =
     rw (c.replace_in-old.ensures.state, ← c.self.view_is)
     (protected-lists g.K.PartialEq.eq
     (g.met.K.Eq g.world.𝓛 g.world.𝓜 g.world.𝓡 ((λ s x. x), (λ x. x), (λ x. x), λ x. x)).laws
-    (g.met.K.CacheKey g.world.𝓛 g.world.𝓜 g.world.𝓡 ((λ s x. x), (λ x. x), (λ x. x), λ x. x)).same g.V.Weighs.weight
+    (g.met.K.CacheKey g.world.𝓛 g.world.𝓜 g.world.𝓡 ((λ s x. x), (λ x. x), (λ x. x), λ x. x)).same g.V.Weighs.measure
     (λ k. estimate_of c.args.sketch.now (g.K.CacheKey.word k)) c.args.held.written c.args.key c.args.held i.caps
     i.window.entries i.probation.entries i.protected.entries placed off.0 off.1 c.in-Some.own.now at fresh)
 
@@ -97,7 +97,7 @@ returns-in-Some-clause-notices g c =
     (ap (λ (ns : List (Notice g.row.K.Denot g.row.V.Denot)). appended ns c.args.notices.now)
     (protected-told g.K.PartialEq.eq
     (g.met.K.Eq g.world.𝓛 g.world.𝓜 g.world.𝓡 ((λ s x. x), (λ x. x), (λ x. x), λ x. x)).laws
-    (g.met.K.CacheKey g.world.𝓛 g.world.𝓜 g.world.𝓡 ((λ s x. x), (λ x. x), (λ x. x), λ x. x)).same g.V.Weighs.weight
+    (g.met.K.CacheKey g.world.𝓛 g.world.𝓜 g.world.𝓡 ((λ s x. x), (λ x. x), (λ x. x), λ x. x)).same g.V.Weighs.measure
     (λ k. estimate_of c.args.sketch.now (g.K.CacheKey.word k)) c.args.held.written c.args.key c.args.held i.caps
     i.window.entries i.probation.entries i.protected.entries placed off.0 off.1 c.in-Some.own.now at fresh))
 
@@ -112,7 +112,7 @@ returns-in-Some-clause-weight g c =
     rw (c.tell_held.ensures.weight, c.replace_in-old.ensures.old, c.replace_in-old.ensures.state, at, ← c.self.view_is)
     (protected-weight g.K.PartialEq.eq
     (g.met.K.Eq g.world.𝓛 g.world.𝓜 g.world.𝓡 ((λ s x. x), (λ x. x), (λ x. x), λ x. x)).laws
-    (g.met.K.CacheKey g.world.𝓛 g.world.𝓜 g.world.𝓡 ((λ s x. x), (λ x. x), (λ x. x), λ x. x)).same g.V.Weighs.weight
+    (g.met.K.CacheKey g.world.𝓛 g.world.𝓜 g.world.𝓡 ((λ s x. x), (λ x. x), (λ x. x), λ x. x)).same g.V.Weighs.measure
     (λ k. estimate_of c.args.sketch.now (g.K.CacheKey.word k)) c.args.held.written c.args.key c.args.held i.caps
     i.window.entries i.probation.entries i.protected.entries placed off.0 off.1 c.in-Some.own.now at)
 
@@ -138,7 +138,7 @@ returns-then-is_expired-2-clause-state g c =
     rw (← c.self.view_is) (on_ok c.settle_past-then-is_expired-2.result
     (λ is. is ∙ past-in-lists g.K.PartialEq.eq
     (g.met.K.Eq g.world.𝓛 g.world.𝓜 g.world.𝓡 ((λ s x. x), (λ x. x), (λ x. x), λ x. x)).laws
-    (g.met.K.CacheKey g.world.𝓛 g.world.𝓜 g.world.𝓡 ((λ s x. x), (λ x. x), (λ x. x), λ x. x)).same g.V.Weighs.weight
+    (g.met.K.CacheKey g.world.𝓛 g.world.𝓜 g.world.𝓡 ((λ s x. x), (λ x. x), (λ x. x), λ x. x)).same g.V.Weighs.measure
     (λ k. estimate_of c.args.sketch.now (g.K.CacheKey.word k)) c.args.held.written c.args.key c.args.held i.caps
     i.window.entries i.probation.entries i.protected.entries placed nw c.in-Some-held_in.own.now on old)
     (rw (← c.self.view_is) at c.settle_past-then-is_expired-2.ensures.state))
@@ -160,7 +160,7 @@ returns-then-is_expired-2-clause-notices g c =
     (λ is. is ∙ (ap (λ (ns : List (Notice g.row.K.Denot g.row.V.Denot)). appended ns c.args.notices.now)
     (past-in-told g.K.PartialEq.eq (g.met.K.Eq g.world.𝓛 g.world.𝓜 g.world.𝓡
     ((λ s x. x), (λ x. x), (λ x. x), λ x. x)).laws
-    (g.met.K.CacheKey g.world.𝓛 g.world.𝓜 g.world.𝓡 ((λ s x. x), (λ x. x), (λ x. x), λ x. x)).same g.V.Weighs.weight
+    (g.met.K.CacheKey g.world.𝓛 g.world.𝓜 g.world.𝓡 ((λ s x. x), (λ x. x), (λ x. x), λ x. x)).same g.V.Weighs.measure
     (λ k. estimate_of c.args.sketch.now (g.K.CacheKey.word k)) c.args.held.written c.args.key c.args.held i.caps
     i.window.entries i.probation.entries i.protected.entries placed nw c.in-Some-held_in.own.now on old)))
     (rw (← c.self.view_is) at c.settle_past-then-is_expired-2.ensures.notices))
@@ -178,7 +178,7 @@ returns-in-Some-held_in-clause-state g c =
     rw (c.in_ok-old.ensures.state, ← c.self.view_is)
     (probation-lists g.K.PartialEq.eq
     (g.met.K.Eq g.world.𝓛 g.world.𝓜 g.world.𝓡 ((λ s x. x), (λ x. x), (λ x. x), λ x. x)).laws
-    (g.met.K.CacheKey g.world.𝓛 g.world.𝓜 g.world.𝓡 ((λ s x. x), (λ x. x), (λ x. x), λ x. x)).same g.V.Weighs.weight
+    (g.met.K.CacheKey g.world.𝓛 g.world.𝓜 g.world.𝓡 ((λ s x. x), (λ x. x), (λ x. x), λ x. x)).same g.V.Weighs.measure
     (λ k. estimate_of c.args.sketch.now (g.K.CacheKey.word k)) c.args.held.written c.args.key c.args.held i.caps
     i.window.entries i.probation.entries i.protected.entries placed nw c.in-Some-held_in.own.now at fresh)
 
@@ -196,7 +196,7 @@ returns-in-Some-held_in-clause-notices g c =
     (ap (λ (ns : List (Notice g.row.K.Denot g.row.V.Denot)). appended ns c.args.notices.now)
     (probation-told g.K.PartialEq.eq
     (g.met.K.Eq g.world.𝓛 g.world.𝓜 g.world.𝓡 ((λ s x. x), (λ x. x), (λ x. x), λ x. x)).laws
-    (g.met.K.CacheKey g.world.𝓛 g.world.𝓜 g.world.𝓡 ((λ s x. x), (λ x. x), (λ x. x), λ x. x)).same g.V.Weighs.weight
+    (g.met.K.CacheKey g.world.𝓛 g.world.𝓜 g.world.𝓡 ((λ s x. x), (λ x. x), (λ x. x), λ x. x)).same g.V.Weighs.measure
     (λ k. estimate_of c.args.sketch.now (g.K.CacheKey.word k)) c.args.held.written c.args.key c.args.held i.caps
     i.window.entries i.probation.entries i.protected.entries placed nw c.in-Some-held_in.own.now at fresh))
 
@@ -216,7 +216,7 @@ returns-in-Some-held_in-clause-weight g c =
       at,
     ) (probation-weight g.K.PartialEq.eq
     (g.met.K.Eq g.world.𝓛 g.world.𝓜 g.world.𝓡 ((λ s x. x), (λ x. x), (λ x. x), λ x. x)).laws
-    (g.met.K.CacheKey g.world.𝓛 g.world.𝓜 g.world.𝓡 ((λ s x. x), (λ x. x), (λ x. x), λ x. x)).same g.V.Weighs.weight
+    (g.met.K.CacheKey g.world.𝓛 g.world.𝓜 g.world.𝓡 ((λ s x. x), (λ x. x), (λ x. x), λ x. x)).same g.V.Weighs.measure
     (λ k. estimate_of c.args.sketch.now (g.K.CacheKey.word k)) c.args.held.written c.args.key c.args.held i.caps
     i.window.entries i.probation.entries i.protected.entries placed nw c.in-Some-held_in.own.now at)
 
@@ -228,7 +228,7 @@ returns-in-Some-peek-clause-state g c =
     rw (c.replace_in-old-in-Some-peek.ensures.state, ← c.self.view_is)
     (window-lists g.K.PartialEq.eq (g.met.K.Eq g.world.𝓛 g.world.𝓜 g.world.𝓡
     ((λ s x. x), (λ x. x), (λ x. x), λ x. x)).laws
-    (g.met.K.CacheKey g.world.𝓛 g.world.𝓜 g.world.𝓡 ((λ s x. x), (λ x. x), (λ x. x), λ x. x)).same g.V.Weighs.weight
+    (g.met.K.CacheKey g.world.𝓛 g.world.𝓜 g.world.𝓡 ((λ s x. x), (λ x. x), (λ x. x), λ x. x)).same g.V.Weighs.measure
     (λ k. estimate_of c.args.sketch.now (g.K.CacheKey.word k)) c.args.held.written c.args.key c.args.held i.caps
     i.window.entries i.probation.entries i.protected.entries placed c.in-Some-peek.own.now at)
 
@@ -247,7 +247,7 @@ returns-in-Some-peek-clause-notices g c =
     (ap (λ (ns : List (Notice g.row.K.Denot g.row.V.Denot)). appended ns c.args.notices.now)
     (window-told g.K.PartialEq.eq (g.met.K.Eq g.world.𝓛 g.world.𝓜 g.world.𝓡
     ((λ s x. x), (λ x. x), (λ x. x), λ x. x)).laws
-    (g.met.K.CacheKey g.world.𝓛 g.world.𝓜 g.world.𝓡 ((λ s x. x), (λ x. x), (λ x. x), λ x. x)).same g.V.Weighs.weight
+    (g.met.K.CacheKey g.world.𝓛 g.world.𝓜 g.world.𝓡 ((λ s x. x), (λ x. x), (λ x. x), λ x. x)).same g.V.Weighs.measure
     (λ k. estimate_of c.args.sketch.now (g.K.CacheKey.word k)) c.args.held.written c.args.key c.args.held i.caps
     i.window.entries i.probation.entries i.protected.entries placed c.in-Some-peek.own.now at))
 
@@ -265,7 +265,7 @@ returns-in-Some-peek-clause-weight g c =
     )
     (window-weight g.K.PartialEq.eq
     (g.met.K.Eq g.world.𝓛 g.world.𝓜 g.world.𝓡 ((λ s x. x), (λ x. x), (λ x. x), λ x. x)).laws
-    (g.met.K.CacheKey g.world.𝓛 g.world.𝓜 g.world.𝓡 ((λ s x. x), (λ x. x), (λ x. x), λ x. x)).same g.V.Weighs.weight
+    (g.met.K.CacheKey g.world.𝓛 g.world.𝓜 g.world.𝓡 ((λ s x. x), (λ x. x), (λ x. x), λ x. x)).same g.V.Weighs.measure
     (λ k. estimate_of c.args.sketch.now (g.K.CacheKey.word k)) c.args.held.written c.args.key c.args.held i.caps
     i.window.entries i.probation.entries i.protected.entries placed c.in-Some-peek.own.now at)
 
@@ -295,7 +295,7 @@ returns-clause-state g c =
     rw (← c.self.view_is) (on_ok c.settle.result
     (λ is. is ∙ new-lists g.K.PartialEq.eq
     (g.met.K.Eq g.world.𝓛 g.world.𝓜 g.world.𝓡 ((λ s x. x), (λ x. x), (λ x. x), λ x. x)).laws
-    (g.met.K.CacheKey g.world.𝓛 g.world.𝓜 g.world.𝓡 ((λ s x. x), (λ x. x), (λ x. x), λ x. x)).same g.V.Weighs.weight
+    (g.met.K.CacheKey g.world.𝓛 g.world.𝓜 g.world.𝓡 ((λ s x. x), (λ x. x), (λ x. x), λ x. x)).same g.V.Weighs.measure
     (λ k. estimate_of c.args.sketch.now (g.K.CacheKey.word k)) c.args.held.written c.args.key c.args.held i.caps
     i.window.entries i.probation.entries i.protected.entries placed nw np nq)
     (rw (← c.self.view_is) at c.settle.ensures.state))
@@ -311,7 +311,7 @@ returns-clause-notices g c =
     (λ is. is ∙ (ap (λ (ns : List (Notice g.row.K.Denot g.row.V.Denot)). appended ns c.args.notices.now)
     (new-told g.K.PartialEq.eq (g.met.K.Eq g.world.𝓛 g.world.𝓜 g.world.𝓡
     ((λ s x. x), (λ x. x), (λ x. x), λ x. x)).laws
-    (g.met.K.CacheKey g.world.𝓛 g.world.𝓜 g.world.𝓡 ((λ s x. x), (λ x. x), (λ x. x), λ x. x)).same g.V.Weighs.weight
+    (g.met.K.CacheKey g.world.𝓛 g.world.𝓜 g.world.𝓡 ((λ s x. x), (λ x. x), (λ x. x), λ x. x)).same g.V.Weighs.measure
     (λ k. estimate_of c.args.sketch.now (g.K.CacheKey.word k)) c.args.held.written c.args.key c.args.held i.caps
     i.window.entries i.probation.entries i.protected.entries placed nw np nq)))
     (rw (← c.self.view_is) at c.settle.ensures.notices))

@@ -11,7 +11,7 @@ returns-then-len-self-clause-state g c =
     let laws = (g.met.K.Eq g.world.𝓛 g.world.𝓜 g.world.𝓡 ((λ s x. x), (λ x. x), (λ x. x), λ x. x)).laws in
     let less : length i.window.entries < i.caps.window = rw c.len.ensures.len at c.if-len-self.true in
     let le : length ((c.args.key, c.args.held) ∷ i.window.entries) ≤ i.caps.window = omega (arith, less) in
-    let p = past-fits g.K.PartialEq.eq laws g.V.Weighs.weight
+    let p = past-fits g.K.PartialEq.eq laws g.V.Weighs.measure
     (λ _. 0) c.args.held.written c.args.key c.args.held i.caps i.window.entries i.probation.entries
     i.protected.entries placed off on le in
     rw (c.take_below-own.ensures.state, c.in_ok-push_new.ensures.state, ← c.self.view_is) (rw p refl)
@@ -25,7 +25,7 @@ returns-then-len-self-clause-notices g c =
     let laws = (g.met.K.Eq g.world.𝓛 g.world.𝓜 g.world.𝓡 ((λ s x. x), (λ x. x), (λ x. x), λ x. x)).laws in
     let less : length i.window.entries < i.caps.window = rw c.len.ensures.len at c.if-len-self.true in
     let le : length ((c.args.key, c.args.held) ∷ i.window.entries) ≤ i.caps.window = omega (arith, less) in
-    rw (← c.self.view_is) (past-notices-fits g.K.PartialEq.eq laws g.V.Weighs.weight
+    rw (← c.self.view_is) (past-notices-fits g.K.PartialEq.eq laws g.V.Weighs.measure
     (λ _. 0) c.args.held.written c.args.key c.args.held i.caps i.window.entries i.probation.entries
     i.protected.entries placed off on
     c.args.notices.now c.tell_held.new.notices c.take_below-own.result le c.take_below-own.ensures.held c.tell_held.ensures.notices)
@@ -37,7 +37,7 @@ returns-then-len-self-clause-weight g c =
     let off = rw (← c.self.view_is) at c.requires.elsewhere in
     let on = rw (← c.self.view_is) at c.requires.there in
     let laws = (g.met.K.Eq g.world.𝓛 g.world.𝓜 g.world.𝓡 ((λ s x. x), (λ x. x), (λ x. x), λ x. x)).laws in
-    let p = past-weight-fits g.K.PartialEq.eq laws g.V.Weighs.weight
+    let p = past-weight-fits g.K.PartialEq.eq laws g.V.Weighs.measure
     (λ _. 0) c.args.held.written c.args.key c.args.held i.caps i.window.entries i.probation.entries
     i.protected.entries placed off on in
     rw (
@@ -58,7 +58,7 @@ returns-clause-state g c =
     let whole : i.caps.window ≤ length i.window.entries = omega (arith, c.len.ensures.len, c.if-len-self.false) in
     let full : i.caps.window < length ((c.args.key, c.args.held) ∷ i.window.entries) = omega (arith, whole) in
     rw (c.take_below-own-2.ensures.state, c.in_ok-left.ensures.state, ← c.self.view_is)
-    (past-lists g.K.PartialEq.eq laws g.V.Weighs.weight
+    (past-lists g.K.PartialEq.eq laws g.V.Weighs.measure
     (λ _. 0) c.args.held.written c.args.key c.args.held i.caps i.window.entries i.probation.entries
     i.protected.entries placed off on full)
 
@@ -73,7 +73,7 @@ returns-clause-notices g c =
     let full : i.caps.window < length ((c.args.key, c.args.held) ∷ i.window.entries) = omega (arith, whole) in
     let own = rw (c.in_ok-left.ensures.state, ← c.self.view_is) at c.take_below-own-2.ensures.held in
     let left = rw (← c.self.view_is) at c.in_ok-left.ensures.left in
-    rw (← c.self.view_is) (past-notices g.K.PartialEq.eq laws g.V.Weighs.weight
+    rw (← c.self.view_is) (past-notices g.K.PartialEq.eq laws g.V.Weighs.measure
     (λ _. 0) c.args.held.written c.args.key c.args.held i.caps i.window.entries i.probation.entries
     i.protected.entries placed off on
     c.args.notices.now c.tell_held-gone.new.notices c.tell_left.new.notices c.take_below-own-2.result c.in_ok-left.left
@@ -88,10 +88,10 @@ returns-clause-weight g c =
     let laws = (g.met.K.Eq g.world.𝓛 g.world.𝓜 g.world.𝓡 ((λ s x. x), (λ x. x), (λ x. x), λ x. x)).laws in
     let whole : i.caps.window ≤ length i.window.entries = omega (arith, c.len.ensures.len, c.if-len-self.false) in
     let full : i.caps.window < length ((c.args.key, c.args.held) ∷ i.window.entries) = omega (arith, whole) in
-    let p = past-weight g.K.PartialEq.eq laws g.V.Weighs.weight
+    let p = past-weight g.K.PartialEq.eq laws g.V.Weighs.measure
     (λ _. 0) c.args.held.written c.args.key c.args.held i.caps i.window.entries i.probation.entries
     i.protected.entries placed off on full in
-    let o = past-own g.K.PartialEq.eq laws g.V.Weighs.weight
+    let o = past-own g.K.PartialEq.eq laws g.V.Weighs.measure
     (λ _. 0) c.args.held.written c.args.key c.args.held i.caps i.window.entries i.probation.entries
     i.protected.entries placed off on full in
     rw (

@@ -12,10 +12,10 @@ returns-clause-whole g c =
     let V = g.row.V.Denot in
     let eq = g.K.PartialEq.eq in
     let word = g.K.CacheKey.word in
-    let weight = g.V.Weighs.weight in
+    let measure = g.V.Weighs.measure in
     let answers = g.V.Answers.answers in
     let place = g.S.ShardLedger.place in
-    subst (λ (calls : List (Call K V)). IsHistory (members_by eq word weight answers) place calls) c.self.view_is (record {
-      lawful = subst (λ (s : State K V). IsStateAt (members_by eq word weight answers) place s) c.self.invariant.0 c.close.ensures.lawful;
+    subst (λ (calls : List (Call K V)). IsHistory (members_by eq word measure answers) place calls) c.self.view_is (record {
+      lawful = subst (λ (s : State K V). IsStateAt (members_by eq word measure answers) place s) c.self.invariant.0 c.close.ensures.lawful;
       counted = ap (λ (s : State K V). s.step) (sym c.self.invariant.0) ∙ c.self.invariant.1;
     })

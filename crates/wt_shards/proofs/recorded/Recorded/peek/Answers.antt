@@ -12,7 +12,7 @@ returns-in-Ok-clause-made g c =
     let calls : List (Call K V) = c.self.inside.history in
     let before = subst (λ (w : List (Call K V)). IsPrefix w calls) (ap (λ (m : Mine K V). m.front) c.mine.view_is) c.show.ensures.before in
     record {
-      made = peek-behind g.K.PartialEq.eq g.K.CacheKey.word g.V.Weighs.weight g.V.Answers.answers g.S.ShardLedger.place
+      made = peek-behind g.K.PartialEq.eq g.K.CacheKey.word g.V.Weighs.measure g.V.Answers.answers g.S.ShardLedger.place
           c.args.key c.args.now c.self.inside.shard.core calls _ _ _ c.self.invariant.0 c.self.invariant.1
           c.steps-step.ensures.lawful before c.show.ensures.seen c.in-Ok.ensures.answer;
       memory = tt;

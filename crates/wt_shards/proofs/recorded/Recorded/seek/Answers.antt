@@ -20,11 +20,11 @@ invariant_of-self g c =
     let grown : c.write.new.self ≡ calls ++ call ∷ [] = c.write.ensures.state
     ∙ ap (λ (e : Call K V). calls ++ e ∷ []) c.ask-asked.ensures in
     let after = ap (λ (x : Audited K V). x.core) made.state in
-    let kept = recorded-after g.K.PartialEq.eq g.K.CacheKey.word g.V.Weighs.weight config calls
+    let kept = recorded-after g.K.PartialEq.eq g.K.CacheKey.word g.V.Weighs.measure config calls
     c.self.inside.shard.core c.seek.new.self.core call c.self.invariant.0 c.self.invariant.1 made.allowed
     after in
     subst (λ (w : List (Call K V)).
-    (c.seek.new.self.core ≡ state_after g.K.PartialEq.eq g.K.CacheKey.word g.V.Weighs.weight config w)
+    (c.seek.new.self.core ≡ state_after g.K.PartialEq.eq g.K.CacheKey.word g.V.Weighs.measure config w)
     × (c.seek.new.self.core.step ≡ length w)) (sym grown) kept
 
 pub returns-in-Ok-clause-made : goal.returns-in-Ok-clause-made
@@ -40,7 +40,7 @@ returns-in-Ok-clause-made g c =
     record {
       moved = search rules;
       later = search rules;
-      step = made-behind g.K.PartialEq.eq g.K.CacheKey.word g.V.Weighs.weight g.V.Answers.answers
+      step = made-behind g.K.PartialEq.eq g.K.CacheKey.word g.V.Weighs.measure g.V.Answers.answers
           g.S.ShardLedger.place call c.self.inside.shard.core calls _ _ _ _ _ _ c.self.invariant.0
           c.self.invariant.1 c.steps-step.ensures.lawful
           before grown made.allowed made.answer made.notices (search rules);
@@ -63,11 +63,11 @@ returns-in-Err-clause-made g c =
       later = tt;
       step = tt;
       faults = made.faults;
-      cause = refused-behind g.K.PartialEq.eq g.K.CacheKey.word g.V.Weighs.weight g.V.Answers.answers
+      cause = refused-behind g.K.PartialEq.eq g.K.CacheKey.word g.V.Weighs.measure g.V.Answers.answers
           g.S.ShardLedger.place call c.self.inside.shard.core calls _ _ c.in-Err.fault c.self.invariant.0
           c.self.invariant.1 c.steps-step.ensures.lawful
           before c.show.ensures.seen (cause-of _ _
-          (refusal_of g.K.PartialEq.eq g.K.CacheKey.word g.V.Weighs.weight c.self.inside.shard.core call)
+          (refusal_of g.K.PartialEq.eq g.K.CacheKey.word g.V.Weighs.measure c.self.inside.shard.core call)
           c.in-Err.fault made.refusal);
       told = made.told;
       err = (made.err.1 ∙ ap (λ (m : Mine K V). m.counts) c.mine.view_is, made.err.2);

@@ -27,15 +27,15 @@ make_room-requires-clause-rows g c κs within =
     let V = g.row.V.Denot in
     let eq = g.K.PartialEq.eq in
     let word = g.K.CacheKey.word in
-    let weight = g.V.Weighs.weight in
+    let measure = g.V.Weighs.measure in
     let answers = g.V.Answers.answers in
     let shards = g.S.ShardLedger.place.shards in
     let index = g.S.ShardLedger.place.index in
     let call = c.args.call in
     let now = c.args.self.now in
-    let whole : IsAudited (members_by eq word weight answers) shards index now = c.steps-steps.ensures.audited in
+    let whole : IsAudited (members_by eq word measure answers) shards index now = c.steps-steps.ensures.audited in
     let same = (g.met.K.CacheKey g.world.𝓛 g.world.𝓜 g.world.𝓡 ((λ s x. x), (λ x. x), (λ x. x), λ x. x)).same in
-    let fit = rows-fit eq same word weight answers shards index now call
+    let fit = rows-fit eq same word measure answers shards index now call
     (c.steps_keep_counts.ensures now.core call) whole c.requires.allowed in
     omega (arith, fit, c.requires.rows)
 
@@ -51,7 +51,7 @@ change-requires-clause-room g c κs within =
     let V = g.row.V.Denot in
     let eq = g.K.PartialEq.eq in
     let word = g.K.CacheKey.word in
-    let weight = g.V.Weighs.weight in
+    let measure = g.V.Weighs.measure in
     let answers = g.V.Answers.answers in
     let shards = g.S.ShardLedger.place.shards in
     let index = g.S.ShardLedger.place.index in
@@ -69,22 +69,22 @@ change-requires-clause-room g c κs within =
       landings = b.landings.items;
       given = b.given;
     } in
-    let e2 : s2 ≡ moved eq word weight (need c.args.rows now) now = c.self.view_is ∙ c.in-Ok.ensures.ok in
+    let e2 : s2 ≡ moved eq word measure (need c.args.rows now) now = c.self.view_is ∙ c.in-Ok.ensures.ok in
     let core2 : s2.core ≡ now.core = ap (λ (x : Audited K V). x.core) e2 in
-    let allowed2 : refusal_of eq word weight s2.core call ≡ None =
-    ap (λ (x : State K V). refusal_of eq word weight x call) core2 ∙ c.requires.allowed in
+    let allowed2 : refusal_of eq word measure s2.core call ≡ None =
+    ap (λ (x : State K V). refusal_of eq word measure x call) core2 ∙ c.requires.allowed in
     let landed : map load_at (still_open eq call s2.landings ++ opened)
-    ≡ map load_of (step eq word weight s2.core call).state.flights.rows =
+    ≡ map load_of (step eq word measure s2.core call).state.flights.rows =
     subst (λ (x : Audited K V). map load_at (still_open eq call x.landings ++ opened)
-    ≡ map load_of (step eq word weight x.core call).state.flights.rows) (sym e2)
+    ≡ map load_of (step eq word measure x.core call).state.flights.rows) (sym e2)
     (c.requires.landed c.steps-steps.ensures.audited) in
     let same = (g.met.K.CacheKey g.world.𝓛 g.world.𝓜 g.world.𝓡 ((λ s x. x), (λ x. x), (λ x. x), λ x. x)).same in
-    let fit = rows-fit eq same word weight answers shards index s2 call (c.steps_keep_counts.ensures s2.core call) inv.0 allowed2 in
-    let count = landings-fit (still_open eq call s2.landings ++ opened) (step eq word weight s2.core call).state.flights.rows landed in
+    let fit = rows-fit eq same word measure answers shards index s2 call (c.steps_keep_counts.ensures s2.core call) inv.0 allowed2 in
+    let count = landings-fit (still_open eq call s2.landings ++ opened) (step eq word measure s2.core call).state.flights.rows landed in
     let as_noted : length (still_open eq c.shaded-noted.result b.landings.items ++ opened)
     ≡ length (still_open eq call b.landings.items ++ opened) =
     (λ i. length (still_open eq (c.shaded-noted.ensures i) b.landings.items ++ opened))
-    ∙ (λ i. length (outline-still_open eq weight call b.landings.items i ++ opened)) in
+    ∙ (λ i. length (outline-still_open eq measure call b.landings.items i ++ opened)) in
     omega (arith, fit, count, as_noted, inv.2)
 
 pub invariant_of-self-2 : goal.invariant_of-self-2
@@ -93,7 +93,7 @@ invariant_of-self-2 g c =
     let V = g.row.V.Denot in
     let eq = g.K.PartialEq.eq in
     let word = g.K.CacheKey.word in
-    let weight = g.V.Weighs.weight in
+    let measure = g.V.Weighs.measure in
     let answers = g.V.Answers.answers in
     let shards = g.S.ShardLedger.place.shards in
     let index = g.S.ShardLedger.place.index in
@@ -111,21 +111,21 @@ invariant_of-self-2 g c =
       landings = b.landings.items;
       given = b.given;
     } in
-    let e2 : s2 ≡ moved eq word weight (need c.args.rows now) now = c.self.view_is ∙ c.in-Ok.ensures.ok in
+    let e2 : s2 ≡ moved eq word measure (need c.args.rows now) now = c.self.view_is ∙ c.in-Ok.ensures.ok in
     let core2 : s2.core ≡ now.core = ap (λ (x : Audited K V). x.core) e2 in
-    let allowed2 : refusal_of eq word weight s2.core call ≡ None =
-    ap (λ (x : State K V). refusal_of eq word weight x call) core2 ∙ c.requires.allowed in
+    let allowed2 : refusal_of eq word measure s2.core call ≡ None =
+    ap (λ (x : State K V). refusal_of eq word measure x call) core2 ∙ c.requires.allowed in
     let landed : map load_at (still_open eq call s2.landings ++ opened)
-    ≡ map load_of (step eq word weight s2.core call).state.flights.rows =
+    ≡ map load_of (step eq word measure s2.core call).state.flights.rows =
     subst (λ (x : Audited K V). map load_at (still_open eq call x.landings ++ opened)
-    ≡ map load_of (step eq word weight x.core call).state.flights.rows) (sym e2)
+    ≡ map load_of (step eq word measure x.core call).state.flights.rows) (sym e2)
     (c.requires.landed c.steps-steps.ensures.audited) in
-    let made = c.in-Ok-take.ensures.state ∙ ap (λ (m : Made K V). m.state) (taken-made eq word weight s2.core call allowed2) in
-    let told = c.in-Ok-take.ensures.answer ∙ ap (λ (m : Made K V). m.reply) (taken-made eq word weight s2.core call allowed2) in
-    let to = step-to eq word weight s2.core call in
-    let rows : c.args.rows ≡ length (step eq word weight s2.core call).state.flights.rows = c.requires.rows
-    ∙ ap (λ (x : State K V). length (step eq word weight x call).state.flights.rows) (sym core2) in
-    let room : length s2.records + 1 + length (step eq word weight s2.core call).state.flights.rows ≤ places s2 =
+    let made = c.in-Ok-take.ensures.state ∙ ap (λ (m : Made K V). m.state) (taken-made eq word measure s2.core call allowed2) in
+    let told = c.in-Ok-take.ensures.answer ∙ ap (λ (m : Made K V). m.reply) (taken-made eq word measure s2.core call allowed2) in
+    let to = step-to eq word measure s2.core call in
+    let rows : c.args.rows ≡ length (step eq word measure s2.core call).state.flights.rows = c.requires.rows
+    ∙ ap (λ (x : State K V). length (step eq word measure x call).state.flights.rows) (sym core2) in
+    let room : length s2.records + 1 + length (step eq word measure s2.core call).state.flights.rows ≤ places s2 =
     omega (
       arith,
       c.in-Ok.ensures.room,
@@ -138,8 +138,8 @@ invariant_of-self-2 g c =
     ∙ (λ i. keep_last (inv.1 i) (b.ring.items ++ c.shaded-noted.ensures i ∷ [])) in
     let landings = c.change.ensures.items
     ∙ (λ i. still_open eq (c.shaded-noted.ensures i) b.landings.items ++ opened)
-    ∙ (λ i. outline-still_open eq weight call b.landings.items i ++ opened) in
-    let whole = noted eq word weight answers shards index s2
+    ∙ (λ i. outline-still_open eq measure call b.landings.items i ++ opened) in
+    let whole = noted eq word measure answers shards index s2
     (record {
       config = b.config;
       core = c.take.new.self;
@@ -151,12 +151,12 @@ invariant_of-self-2 g c =
     }) call
     opened some refl made refl records landings refl in
     let same = (g.met.K.CacheKey g.world.𝓛 g.world.𝓜 g.world.𝓡 ((λ s x. x), (λ x. x), (λ x. x), λ x. x)).same in
-    let law = subst (λ (x : State K V). IsLawful eq weight x) made c.stats-stats.ensures.lawful in
-    let state = shard_state-step eq same word weight answers shards index s2.core call inv.0.state c.requires.asked.0 law in
-    let limit = limit-step eq word weight s2.core call ∙ inv.0.limit in
+    let law = subst (λ (x : State K V). IsLawful eq measure x) made c.stats-stats.ensures.lawful in
+    let state = shard_state-step eq same word measure answers shards index s2.core call inv.0.state c.requires.asked.0 law in
+    let limit = limit-step eq word measure s2.core call ∙ inv.0.limit in
     let caps = subst (λ (x : State K V). KeepsAllButWindow s2.core.regions.caps x.regions.caps) made c.in-Ok-take.ensures.same in (
-      subst (IsAudited (members_by eq word weight answers) shards index) (sym whole)
-          (audited-recorded eq word weight answers shards index s2 call opened inv.0 allowed2 room state limit
+      subst (IsAudited (members_by eq word measure answers) shards index) (sym whole)
+          (audited-recorded eq word measure answers shards index s2 call opened inv.0 allowed2 room state limit
           caps landed),
       ap (λ (x : Buffer (Call K Shade)). x.capacity) c.push_back-dropped.ensures.items ∙ inv.1,
       omega (arith, c.change.ensures.capacity, inv.2),
@@ -177,7 +177,7 @@ returns-clause-state g c =
     let V = g.row.V.Denot in
     let eq = g.K.PartialEq.eq in
     let word = g.K.CacheKey.word in
-    let weight = g.V.Weighs.weight in
+    let measure = g.V.Weighs.measure in
     let answers = g.V.Answers.answers in
     let shards = g.S.ShardLedger.place.shards in
     let index = g.S.ShardLedger.place.index in
@@ -195,14 +195,14 @@ returns-clause-state g c =
       landings = b.landings.items;
       given = b.given;
     } in
-    let e2 : s2 ≡ moved eq word weight (need c.args.rows now) now = c.self.view_is ∙ c.in-Ok.ensures.ok in
+    let e2 : s2 ≡ moved eq word measure (need c.args.rows now) now = c.self.view_is ∙ c.in-Ok.ensures.ok in
     let core2 : s2.core ≡ now.core = ap (λ (x : Audited K V). x.core) e2 in
-    let allowed2 : refusal_of eq word weight s2.core call ≡ None =
-    ap (λ (x : State K V). refusal_of eq word weight x call) core2 ∙ c.requires.allowed in
-    let made = c.in-Ok-take.ensures.state ∙ ap (λ (m : Made K V). m.state) (taken-made eq word weight s2.core call allowed2) in
-    let rows : c.args.rows ≡ length (step eq word weight s2.core call).state.flights.rows = c.requires.rows
-    ∙ ap (λ (x : State K V). length (step eq word weight x call).state.flights.rows) (sym core2) in
-    let room : length s2.records + 1 + length (step eq word weight s2.core call).state.flights.rows ≤ places s2 =
+    let allowed2 : refusal_of eq word measure s2.core call ≡ None =
+    ap (λ (x : State K V). refusal_of eq word measure x call) core2 ∙ c.requires.allowed in
+    let made = c.in-Ok-take.ensures.state ∙ ap (λ (m : Made K V). m.state) (taken-made eq word measure s2.core call allowed2) in
+    let rows : c.args.rows ≡ length (step eq word measure s2.core call).state.flights.rows = c.requires.rows
+    ∙ ap (λ (x : State K V). length (step eq word measure x call).state.flights.rows) (sym core2) in
+    let room : length s2.records + 1 + length (step eq word measure s2.core call).state.flights.rows ≤ places s2 =
     omega (
       arith,
       c.in-Ok.ensures.room,
@@ -215,8 +215,8 @@ returns-clause-state g c =
     ∙ (λ i. keep_last (inv.1 i) (b.ring.items ++ c.shaded-noted.ensures i ∷ [])) in
     let landings = c.change.ensures.items
     ∙ (λ i. still_open eq (c.shaded-noted.ensures i) b.landings.items ++ opened)
-    ∙ (λ i. outline-still_open eq weight call b.landings.items i ++ opened) in
-    let whole = noted eq word weight answers shards index s2
+    ∙ (λ i. outline-still_open eq measure call b.landings.items i ++ opened) in
+    let whole = noted eq word measure answers shards index s2
     (record {
       config = b.config;
       core = c.take.new.self;
@@ -227,7 +227,7 @@ returns-clause-state g c =
       given = b.given;
     }) call
     opened some refl made refl records landings refl in
-    whole ∙ ap (recorded eq word weight call opened) (e2 ∙ ap (λ k. moved eq word weight (need k now) now) c.requires.rows)
+    whole ∙ ap (recorded eq word measure call opened) (e2 ∙ ap (λ k. moved eq word measure (need k now) now) c.requires.rows)
 
 pub returns-clause-answers : goal.returns-clause-answers
 returns-clause-answers g c =
@@ -235,7 +235,7 @@ returns-clause-answers g c =
     let V = g.row.V.Denot in
     let eq = g.K.PartialEq.eq in
     let word = g.K.CacheKey.word in
-    let weight = g.V.Weighs.weight in
+    let measure = g.V.Weighs.measure in
     let answers = g.V.Answers.answers in
     let shards = g.S.ShardLedger.place.shards in
     let index = g.S.ShardLedger.place.index in
@@ -252,70 +252,70 @@ returns-clause-answers g c =
       landings = b.landings.items;
       given = b.given;
     } in
-    let e2 : s2 ≡ moved eq word weight (need c.args.rows now) now = c.self.view_is ∙ c.in-Ok.ensures.ok in
+    let e2 : s2 ≡ moved eq word measure (need c.args.rows now) now = c.self.view_is ∙ c.in-Ok.ensures.ok in
     let core2 : s2.core ≡ now.core = ap (λ (x : Audited K V). x.core) e2 in
-    let allowed2 : refusal_of eq word weight s2.core call ≡ None =
-    ap (λ (x : State K V). refusal_of eq word weight x call) core2 ∙ c.requires.allowed in
-    let told = c.in-Ok-take.ensures.answer ∙ ap (λ (m : Made K V). m.reply) (taken-made eq word weight s2.core call allowed2) in
+    let allowed2 : refusal_of eq word measure s2.core call ≡ None =
+    ap (λ (x : State K V). refusal_of eq word measure x call) core2 ∙ c.requires.allowed in
+    let told = c.in-Ok-take.ensures.answer ∙ ap (λ (m : Made K V). m.reply) (taken-made eq word measure s2.core call allowed2) in
     let same = (g.met.K.CacheKey g.world.𝓛 g.world.𝓜 g.world.𝓡 ((λ s x. x), (λ x. x), (λ x. x), λ x. x)).same in
-    subst (AnswersAsked answers call) (sym told) (reply-answers eq same word weight answers shards index s2.core call inv.0.state.values)
+    subst (AnswersAsked answers call) (sym told) (reply-answers eq same word measure answers shards index s2.core call inv.0.state.values)
 
 pub returns-clause-place : goal.returns-clause-place
 returns-clause-place g c =
     let eq = g.K.PartialEq.eq in
     let word = g.K.CacheKey.word in
-    let weight = g.V.Weighs.weight in
+    let measure = g.V.Weighs.measure in
     let answers = g.V.Answers.answers in
     let shards = g.S.ShardLedger.place.shards in
     let index = g.S.ShardLedger.place.index in
     let call = c.args.call in
     let now = c.args.self.now in
-    let whole : IsAudited (members_by eq word weight answers) shards index now = c.steps-steps.ensures.audited in
-    λ landing. landing-place eq word weight now.core call (length now.records)
+    let whole : IsAudited (members_by eq word measure answers) shards index now = c.steps-steps.ensures.audited in
+    λ landing. landing-place eq word measure now.core call (length now.records)
     (places now) landing whole.state.lawful.flights.rising whole.room
 
 pub returns-in_default-clause-place : goal.returns-in_default-clause-place
 returns-in_default-clause-place g c =
     let eq = g.K.PartialEq.eq in
     let word = g.K.CacheKey.word in
-    let weight = g.V.Weighs.weight in
+    let measure = g.V.Weighs.measure in
     let answers = g.V.Answers.answers in
     let shards = g.S.ShardLedger.place.shards in
     let index = g.S.ShardLedger.place.index in
     let call = c.args.call in
     let now = c.args.self.now in
-    let whole : IsAudited (members_by eq word weight answers) shards index now = c.steps-steps.ensures.audited in
-    λ landing. landing-place eq word weight now.core call (length now.records)
+    let whole : IsAudited (members_by eq word measure answers) shards index now = c.steps-steps.ensures.audited in
+    λ landing. landing-place eq word measure now.core call (length now.records)
     (places now) landing whole.state.lawful.flights.rising whole.room
 
 pub returns-in_default-take-clause-place : goal.returns-in_default-take-clause-place
 returns-in_default-take-clause-place g c =
     let eq = g.K.PartialEq.eq in
     let word = g.K.CacheKey.word in
-    let weight = g.V.Weighs.weight in
+    let measure = g.V.Weighs.measure in
     let answers = g.V.Answers.answers in
     let shards = g.S.ShardLedger.place.shards in
     let index = g.S.ShardLedger.place.index in
     let call = c.args.call in
     let now = c.args.self.now in
-    let whole : IsAudited (members_by eq word weight answers) shards index now = c.steps-steps.ensures.audited in
-    λ landing. landing-place eq word weight now.core call (length now.records)
+    let whole : IsAudited (members_by eq word measure answers) shards index now = c.steps-steps.ensures.audited in
+    λ landing. landing-place eq word measure now.core call (length now.records)
     (places now) landing whole.state.lawful.flights.rising whole.room
 
 pub returns-in_default-clause-empty_succeeds : goal.returns-in_default-clause-empty_succeeds
 returns-in_default-clause-empty_succeeds g c =
     let eq = g.K.PartialEq.eq in
     let word = g.K.CacheKey.word in
-    let weight = g.V.Weighs.weight in
+    let measure = g.V.Weighs.measure in
     let answers = g.V.Answers.answers in
     let shards = g.S.ShardLedger.place.shards in
     let index = g.S.ShardLedger.place.index in
     let call = c.args.call in
     let now = c.args.self.now in
-    let whole : IsAudited (members_by eq word weight answers) shards index now = c.steps-steps.ensures.audited in
+    let whole : IsAudited (members_by eq word measure answers) shards index now = c.steps-steps.ensures.audited in
     λ empty.
-    let none = landing-place eq word weight now.core call (length now.records) (places now)
-    (empty-landing eq word weight now.core call empty) whole.state.lawful.flights.rising whole.room in
+    let none = landing-place eq word measure now.core call (length now.records) (places now)
+    (empty-landing eq word measure now.core call empty) whole.state.lawful.flights.rising whole.room in
     let made = c.make_room.ensures.none_succeeds (ap (λ k. need k now) c.requires.rows ∙ none) in
     sym (ap is_ok c.in_default.is) ∙ made
 
@@ -325,7 +325,7 @@ returns-clause-later g c =
     let V = g.row.V.Denot in
     let eq = g.K.PartialEq.eq in
     let word = g.K.CacheKey.word in
-    let weight = g.V.Weighs.weight in
+    let measure = g.V.Weighs.measure in
     let call = c.args.call in
     let now = c.args.self.now in
     let b = c.self.inside in
@@ -339,12 +339,12 @@ returns-clause-later g c =
       landings = b.landings.items;
       given = b.given;
     } in
-    let e2 : s2 ≡ moved eq word weight (need c.args.rows now) now = c.self.view_is ∙ c.in-Ok.ensures.ok in
+    let e2 : s2 ≡ moved eq word measure (need c.args.rows now) now = c.self.view_is ∙ c.in-Ok.ensures.ok in
     let core2 : s2.core ≡ now.core = ap (λ (x : Audited K V). x.core) e2 in
-    let allowed2 : refusal_of eq word weight s2.core call ≡ None =
-    ap (λ (x : State K V). refusal_of eq word weight x call) core2 ∙ c.requires.allowed in
-    let made = c.in-Ok-take.ensures.state ∙ ap (λ (m : Made K V). m.state) (taken-made eq word weight s2.core call allowed2) in
-    let to = step-to eq word weight s2.core call in
+    let allowed2 : refusal_of eq word measure s2.core call ≡ None =
+    ap (λ (x : State K V). refusal_of eq word measure x call) core2 ∙ c.requires.allowed in
+    let made = c.in-Ok-take.ensures.state ∙ ap (λ (m : Made K V). m.state) (taken-made eq word measure s2.core call allowed2) in
+    let to = step-to eq word measure s2.core call in
     let core_step : s2.core.step ≡ now.core.step = ap (λ (x : State K V). x.step) core2 in
     (omega (arith, c.count.ensures.later, inv.4, core_step), omega (arith, ap (λ (x : State K V). x.step) made, to.number, core_step))
 
@@ -354,7 +354,7 @@ returns-clause-told g c =
     let V = g.row.V.Denot in
     let eq = g.K.PartialEq.eq in
     let word = g.K.CacheKey.word in
-    let weight = g.V.Weighs.weight in
+    let measure = g.V.Weighs.measure in
     let call = c.args.call in
     let now = c.args.self.now in
     let b = c.self.inside in
@@ -368,17 +368,17 @@ returns-clause-told g c =
       landings = b.landings.items;
       given = b.given;
     } in
-    let e2 : s2 ≡ moved eq word weight (need c.args.rows now) now = c.self.view_is ∙ c.in-Ok.ensures.ok in
+    let e2 : s2 ≡ moved eq word measure (need c.args.rows now) now = c.self.view_is ∙ c.in-Ok.ensures.ok in
     let core2 : s2.core ≡ now.core = ap (λ (x : Audited K V). x.core) e2 in
-    let allowed2 : refusal_of eq word weight s2.core call ≡ None =
-    ap (λ (x : State K V). refusal_of eq word weight x call) core2 ∙ c.requires.allowed in
+    let allowed2 : refusal_of eq word measure s2.core call ≡ None =
+    ap (λ (x : State K V). refusal_of eq word measure x call) core2 ∙ c.requires.allowed in
     let few = c.steps_tell_few.ensures s2.core call inv.0.state.lawful allowed2 in
     told_by _ _ _ _ c.in-Ok-take.ensures.notices
     (omega (
       arith,
       few,
       ap (λ (m : Made K V). length m.notices)
-          (taken-made eq word weight s2.core call allowed2),
+          (taken-made eq word measure s2.core call allowed2),
       ap (λ (x : Caps). x.entries) inv.0.caps,
       ap (λ (x : Config). x.entries) inv.10,
     )) c.in-Ok-take.ensures.whole

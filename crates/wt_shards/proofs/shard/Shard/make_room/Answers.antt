@@ -28,7 +28,7 @@ invariant_of-self g c =
       ap
           (λ (a : Audited g.row.K.Denot g.row.V.Denot). a.config.flights) c.self.view_is,
     ) in
-    let all = few_records g.K.PartialEq.eq g.K.CacheKey.word g.V.Weighs.weight g.V.Answers.answers
+    let all = few_records g.K.PartialEq.eq g.K.CacheKey.word g.V.Weighs.measure g.V.Answers.answers
     g.S.ShardLedger.place.shards g.S.ShardLedger.place.index s c.args.rows inv.0 rows in
     let few : m.0 ≤ length inside.ring.items =
     omega (
@@ -40,7 +40,7 @@ invariant_of-self g c =
       inv.1,
       all,
     ) in (
-      lagged g.K.PartialEq.eq g.K.CacheKey.word g.V.Weighs.weight g.V.Answers.answers
+      lagged g.K.PartialEq.eq g.K.CacheKey.word g.V.Weighs.measure g.V.Answers.answers
           g.S.ShardLedger.place.shards g.S.ShardLedger.place.index s _ m.0 inv.0 few refl refl m.3
           (ap (λ (b : Buffer (Call g.row.K.Denot Shade)). b.items) m.4) refl refl,
       ap (λ (b : Buffer (Call g.row.K.Denot Shade)). b.capacity) m.4 ∙ inv.1,
@@ -77,7 +77,7 @@ invariant_of-self-2 g c =
       ap
           (λ (a : Audited g.row.K.Denot g.row.V.Denot). a.config.flights) c.self.view_is,
     ) in
-    let all = few_records g.K.PartialEq.eq g.K.CacheKey.word g.V.Weighs.weight g.V.Answers.answers
+    let all = few_records g.K.PartialEq.eq g.K.CacheKey.word g.V.Weighs.measure g.V.Answers.answers
     g.S.ShardLedger.place.shards g.S.ShardLedger.place.index s c.args.rows inv.0 rows in
     let few : m.0 ≤ length inside.ring.items =
     omega (
@@ -89,7 +89,7 @@ invariant_of-self-2 g c =
       inv.1,
       all,
     ) in (
-      lagged g.K.PartialEq.eq g.K.CacheKey.word g.V.Weighs.weight g.V.Answers.answers
+      lagged g.K.PartialEq.eq g.K.CacheKey.word g.V.Weighs.measure g.V.Answers.answers
           g.S.ShardLedger.place.shards g.S.ShardLedger.place.index s _ m.0 inv.0 few refl refl m.3
           (ap (λ (b : Buffer (Call g.row.K.Denot Shade)). b.items) m.4) refl refl,
       ap (λ (b : Buffer (Call g.row.K.Denot Shade)). b.capacity) m.4 ∙ inv.1,

@@ -31,7 +31,7 @@ invariant_of-result g c =
     let V = g.row.V.Denot in
     let eq = g.K.PartialEq.eq in
     let word = g.K.CacheKey.word in
-    let weight = g.V.Weighs.weight in
+    let measure = g.V.Weighs.measure in
     let config = c.args.config.now in
     let core = c.in-Ok.ensures.0 in
     let lagging = c.in-Ok.ensures.1 in
@@ -48,11 +48,11 @@ invariant_of-result g c =
       given = 0;
     })
     refl core lagging (ap (λ (b : Buffer (Call K Shade)). b.items) ring) c.in-Ok-lists.ensures.1 refl in (
-      subst (IsAudited (members_by eq word weight g.V.Answers.answers) g.S.ShardLedger.place.shards
+      subst (IsAudited (members_by eq word measure g.V.Answers.answers) g.S.ShardLedger.place.shards
           g.S.ShardLedger.place.index) (sym is)
-          (audited-new eq word weight g.V.Answers.answers g.S.ShardLedger.place.shards
+          (audited-new eq word measure g.V.Answers.answers g.S.ShardLedger.place.shards
           g.S.ShardLedger.place.index config c.in_default.ensures.within.ring_over
-          (subst (IsLawful eq weight) core c.stats-stats.ensures.lawful)),
+          (subst (IsLawful eq measure) core c.stats-stats.ensures.lawful)),
       ap (λ (b : Buffer (Call K Shade)). b.capacity) ring,
       c.in-Ok-lists.ensures.2,
       omega (arith, ap (λ (s : State K Shade). s.regions.caps.entries) lagging, ap (λ (n : NoticeList K Shade). n.room) aside),
