@@ -99,6 +99,15 @@ uint64_t rd_shared_put_name_for(rd_caller *caller, const rd_name *key, rd_token 
 uint64_t rd_shared_land_name_for(rd_caller *caller, uint64_t id, const rd_name *key, rd_token value, uint32_t life,
                                  uint64_t now, rd_answer *answer);
 
+/* Writes the answer that rd_shared_look would have right behind all calls up to now, RD_HIT or RD_ABSENT, and is no step: it uses
+ * no entry, counts nothing and has no place, and the notices of this caller's latest call can still be read. The caller's next calls
+ * stand behind all that the peek saw. Takes no memory. RD_BUSY, RD_LOST and the other faults come as of the eleven calls above, and
+ * then it writes nothing. */
+uint64_t rd_shared_peek(rd_caller *caller, uint64_t key, uint64_t now, rd_answer *answer);
+
+/* The same by name. It is refused as the calls by name are. */
+uint64_t rd_shared_peek_name(rd_caller *caller, const rd_name *key, uint64_t now, rd_answer *answer);
+
 /* Writes notice i, from 0, of this caller's latest call that wasn't busy. RD_NO_SUCH_NOTICE if there is none. */
 uint64_t rd_shared_get_notice(rd_caller *caller, uint64_t i, rd_notice *notice);
 
@@ -147,6 +156,8 @@ static inline uint64_t rd_leave(rd_caller *caller, uint64_t fault) {
     RD_CHECKED(c, rd_shared_land_name_for(c, id, key, value, life, now, a))
 #define rd_shared_drop_name(c, key, now, a) RD_CHECKED(c, rd_shared_drop_name(c, key, now, a))
 #define rd_shared_forget_name(c, key, now, a) RD_CHECKED(c, rd_shared_forget_name(c, key, now, a))
+#define rd_shared_peek(c, key, now, a) RD_CHECKED(c, rd_shared_peek(c, key, now, a))
+#define rd_shared_peek_name(c, key, now, a) RD_CHECKED(c, rd_shared_peek_name(c, key, now, a))
 #define rd_shared_clear(c, now, a) RD_CHECKED(c, rd_shared_clear(c, now, a))
 #define rd_shared_clean(c, now, a) RD_CHECKED(c, rd_shared_clean(c, now, a))
 #define rd_shared_slide(c, wider, now, a) RD_CHECKED(c, rd_shared_slide(c, wider, now, a))

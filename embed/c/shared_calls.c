@@ -1,6 +1,7 @@
 /* shared_calls N: four threads make N calls of all kinds on one shared cache, through rookdresser_waiting.h. Each call's place in the
  * history is told once, none is left out, and they rise for each caller. Then the calls, in the order of their places, are made on
- * an rd_cache: each answer and each notice is the same. shared_calls N list prints the calls in that order with their replies, as
+ * an rd_cache: each answer and each notice is the same. Before each third call its thread peeks: what it found is what that cache has
+ * at some place between the thread's call before and this one. shared_calls N list prints the calls in that order with their replies, as
  * same_history.py reads them. */
 #include "keys.h"
 #include "rookdresser_waiting.h"
@@ -23,11 +24,12 @@ typedef struct call {
     uint64_t id, token;
 } call;
 
-/* A call that was made: its place, what it returned, and the sum of its notices. */
+/* A call that was made: its place, what it returned, and the sum of its notices; and what a peek found right before it. */
 typedef struct made {
     call asked;
     uint64_t place, fault, notices;
-    rd_answer answer;
+    rd_answer answer, peeked;
+    bool awaits; /* there was a peek, and the rd_cache hasn't had what it found */
 } made;
 
 typedef struct worker {
@@ -91,6 +93,10 @@ static uint64_t make_shared(rd_caller *caller, const call *c, rd_answer *answer)
     }
 }
 
+static uint64_t peek_shared(rd_caller *caller, uint64_t key, uint64_t now, rd_answer *answer) {
+    return CALL(rd_shared_peek, rd_shared_peek_name)(caller, GIVEN(key), now, answer);
+}
+
 static uint64_t make_alone(rd_cache *cache, const call *c, rd_answer *answer) {
     const rd_token value = {c->token, c->weight};
     switch (c->what) {
@@ -127,6 +133,11 @@ static void *work(void *given) {
             CHECK(rd_shared_meet(&brief, &w->caller) == RD_OK);
         }
         rd_caller *caller = brief.is_open ? &brief : &w->caller;
+        m->awaits = i % 3 == 0;
+        if (m->awaits) {
+            RD_WAITING(&gate, m->fault, peek_shared(caller, m->asked.key, m->asked.now, &m->peeked));
+            CHECK(m->fault == RD_OK);
+        }
         RD_WAITING(&gate, m->fault, make_shared(caller, &m->asked, &m->answer));
         CHECK(rd_shared_get_place(caller, &m->place) == RD_OK);
         CHECK(m->place > w->last);
@@ -160,6 +171,13 @@ static void play(rd_cache *cache, const made *m) {
     CHECK(answer.number == m->answer.number && answer.notices == m->answer.notices && notices == m->notices);
 }
 
+/* Whether the rd_cache has now what the peek found. */
+static bool finds(rd_cache *cache, const made *m) {
+    rd_answer answer;
+    CHECK(PEEK(cache, GIVEN(m->asked.key), m->asked.now, &answer) == RD_OK);
+    return answer.kind == m->peeked.kind && answer.token == m->peeked.token && answer.weight == m->peeked.weight && m->peeked.notices == 0;
+}
+
 static void print(const made *m) {
     static const char *calls[] = {"look", "seek", "land", "land", "land", "put", "drop", "forget", "clear", "clean", "slide"};
     const call *c = &m->asked;
@@ -189,17 +207,49 @@ static uint64_t round_of(size_t count, uint64_t before, rd_cache *cache, bool li
             order[at] = &workers[t].calls[i];
         }
     }
+    size_t next[THREADS] = {0}; /* of each thread, the first call that isn't played yet */
     for (uint64_t at = 0; at < all; at++) {
+        for (int t = 0; t < THREADS; t++) {
+            made *m = &workers[t].calls[next[t]];
+            if (next[t] == workers[t].count) continue;
+            if (m->awaits && finds(cache, m)) m->awaits = false;
+            if (m != order[at]) continue;
+            CHECK(!m->awaits);
+            next[t]++;
+        }
         play(cache, order[at]);
         if (lists) print(order[at]);
     }
     return before + all;
 }
 
+/* A peek finds what a look would hit, uses no entry, and leaves its caller's place and notices. Another caller's peek finds the same. */
+static void peeks_are_no_steps(void) {
+    rd_caller mine = RD_CALLER_INIT, theirs = RD_CALLER_INIT;
+    rd_answer answer;
+    rd_notice notice;
+    uint64_t place;
+    const call first = {put, 1, 0, 2, 0, 7}, second = {put, 1, 0, 3, 0, 8}, third = {look, 1, 400, 0, 0, 0};
+    CHECK(CALL(rd_shared_open, rd_shared_open_names)(&setup, &mine) == RD_OK && rd_shared_another(&mine, &theirs) == RD_OK);
+    CHECK(peek_shared(&mine, 1, 0, &answer) == RD_OK && answer.kind == RD_ABSENT && rd_shared_get_place(&mine, &place) == RD_OK && place == 0);
+    CHECK(make_shared(&mine, &first, &answer) == RD_OK && make_shared(&mine, &second, &answer) == RD_OK && answer.notices == 1);
+    CHECK(peek_shared(&mine, 1, 399, &answer) == RD_OK && answer.kind == RD_HIT && answer.token == 8 && answer.weight == 3);
+    CHECK(answer.number == 0 && answer.notices == 0);
+    CHECK(peek_shared(&mine, 2, 399, &answer) == RD_OK && answer.kind == RD_ABSENT && answer.token == 0);
+    CHECK(get_shared_notice(&mine, 0, &notice) == RD_OK && notice.key == 1 && notice.token == 7 && notice.weight == 2 && notice.cause == RD_REPLACED);
+    CHECK(rd_shared_get_place(&mine, &place) == RD_OK && place == 2);
+    CHECK(peek_shared(&theirs, 1, 399, &answer) == RD_OK && answer.kind == RD_HIT && answer.token == 8);
+    CHECK(rd_shared_get_place(&theirs, &place) == RD_OK && place == 0);
+    /* nobody has used the entry since it was put, so it expires 400 ms later */
+    CHECK(peek_shared(&theirs, 1, 400, &answer) == RD_OK && answer.kind == RD_ABSENT);
+    CHECK(make_shared(&theirs, &third, &answer) == RD_OK && answer.kind == RD_ABSENT && rd_shared_get_place(&theirs, &place) == RD_OK && place == 3);
+    CHECK(rd_shared_close(&mine) == RD_OK && rd_shared_close(&theirs) == RD_OK);
+}
+
 /* A caller that is closed, a name that is too long, and keys of the other kind: nothing happens. */
 static void refuses_other_keys(rd_caller *caller) {
     rd_caller closed = RD_CALLER_INIT;
-    rd_answer answer;
+    rd_answer answer = {77, 0, 0, 0, 0};
     rd_notice notice;
     rd_name_notice name_notice;
     uint64_t place;
@@ -208,15 +258,19 @@ static void refuses_other_keys(rd_caller *caller) {
     CHECK(rd_shared_look_name(&closed, &longer, 0, &answer) == RD_NAME_TOO_LONG);
     CHECK(rd_shared_look_name(&closed, &name, 0, &answer) == RD_CLOSED);
     CHECK(rd_shared_put_name(caller, &longer, (rd_token){1, 1}, 0, &answer) == RD_NAME_TOO_LONG);
+    CHECK(rd_shared_peek(&closed, 1, 0, &answer) == RD_CLOSED && rd_shared_peek_name(&closed, &name, 0, &answer) == RD_CLOSED);
+    CHECK(rd_shared_peek_name(&closed, &longer, 0, &answer) == RD_NAME_TOO_LONG);
 #ifdef NAMES
+    CHECK(rd_shared_peek(caller, 1, 0, &answer) == RD_OTHER_KEYS);
     CHECK(rd_shared_look(caller, 1, 0, &answer) == RD_OTHER_KEYS && rd_shared_get_notice(caller, 0, &notice) == RD_OTHER_KEYS);
     CHECK(rd_shared_get_notice_name(caller, 0, &name_notice) == RD_NO_SUCH_NOTICE);
 #else
     CHECK(rd_shared_look_name(caller, &name, 0, &answer) == RD_OTHER_KEYS);
+    CHECK(rd_shared_peek_name(caller, &name, 0, &answer) == RD_OTHER_KEYS);
     CHECK(rd_shared_get_notice_name(caller, 0, &name_notice) == RD_OTHER_KEYS);
 #endif
     CHECK(CALL(rd_shared_open, rd_shared_open_names)(&setup, caller) == RD_OPEN_ALREADY);
-    CHECK(rd_shared_get_place(caller, &place) == RD_OK && place == 0);
+    CHECK(rd_shared_get_place(caller, &place) == RD_OK && place == 0 && answer.kind == 77);
 }
 
 int main(int argc, char **argv) {
@@ -225,6 +279,7 @@ int main(int argc, char **argv) {
     rd_cache cache = RD_CACHE_INIT;
     CHECK(OPEN(&setup, &cache) == RD_OK && CALL(rd_shared_open, rd_shared_open_names)(&setup, &workers[0].caller) == RD_OK);
     refuses_other_keys(&workers[0].caller);
+    peeks_are_no_steps();
     for (int t = 0; t < THREADS; t++) {
         CHECK(t == 0 || rd_shared_another(&workers[0].caller, &workers[t].caller) == RD_OK);
         workers[t].rng = 88172645463325252ull + (uint64_t)t * 7919;

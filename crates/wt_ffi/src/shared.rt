@@ -7,6 +7,7 @@ mod make;
 pub(crate) mod name_calls;
 pub(crate) mod names;
 pub(crate) mod opening;
+pub(crate) mod peek;
 pub(crate) mod pointer;
 pub(crate) mod reads;
 mod sharing;

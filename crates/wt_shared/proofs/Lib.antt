@@ -1,2 +1,3 @@
+pub mod Peeking
 pub mod Placing
 pub mod Refusals

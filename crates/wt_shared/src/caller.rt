@@ -5,6 +5,8 @@ ghost use Rattle.wt_core.specs.State.{config_fault, opening};
 ghost use Rattle.wt_regions.specs.Lawful.{FailsByField};
 ghost use Rattle.wt_shared.specs.Shared.{Adds, Becomes, IsKept, IsRun};
 
+mod peek;
+
 use crate::kept::Kept;
 use crate::known::Known;
 use crate::slot::{Held, give, take};

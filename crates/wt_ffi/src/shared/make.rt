@@ -19,7 +19,7 @@ pub(crate) const LOST: u64 = 106;
 
 // Writes what became of a call, and returns its number.
 #[inline(always)]
-fn tell(made: &Result<Reply<Timed>, Unmade>, left: u64, answer: &mut Answer) -> u64
+pub(crate) fn tell(made: &Result<Reply<Timed>, Unmade>, left: u64, answer: &mut Answer) -> u64
     ensures answer { answer.new ≡ answer_told made.now left answer.old }
     ensures number { result ≡ number_told made.now }
 {
