@@ -133,6 +133,8 @@ static inline uint64_t rd_leave(rd_caller *caller, uint64_t fault) {
 }
 /* A macro isn't expanded again in its own text, so these call the functions. */
 #define RD_CHECKED(caller, call) (rd_enter(caller), rd_leave(caller, call))
+#define rd_shared_open(setup, c) RD_CHECKED(c, rd_shared_open(setup, c))
+#define rd_shared_open_names(setup, c) RD_CHECKED(c, rd_shared_open_names(setup, c))
 #define rd_shared_close(c) RD_CHECKED(c, rd_shared_close(c))
 #define rd_shared_look(c, key, now, a) RD_CHECKED(c, rd_shared_look(c, key, now, a))
 #define rd_shared_seek(c, key, now, a) RD_CHECKED(c, rd_shared_seek(c, key, now, a))
