@@ -53,7 +53,8 @@ uint64_t rd_shared_open_names(const rd_setup *setup, rd_caller *caller);
 
 /* Opens theirs as another caller of the cache of mine, which has met all that mine has. Faults, in this order: RD_OPEN_ALREADY
  * if theirs is open, RD_CLOSED if mine is closed, RD_OUT_OF_MEMORY. A fault leaves both as they were. A caller takes memory
- * for as many notices as the cache may hold entries, 32 bytes each, which are touched only if they are used. */
+ * for as many notices as the cache may hold entries, 32 bytes each, which are touched only if they are used. Each caller has that
+ * room of its own, since two callers may each still hold what a clear of a full cache left, and a clear is refused no memory. */
 uint64_t rd_shared_another(rd_caller *mine, rd_caller *theirs);
 
 /* Orders the next calls of mine behind the calls that theirs has made or met. Both are callers of one cache. It does nothing
