@@ -1,13 +1,16 @@
 //! The same cache for tasks: a `get` waits by `await`, on any runtime.
 use crate::flight::Joined;
 use crate::get::{shared, Sought};
-use crate::panics::Panics;
+use crate::many::{Batch, Many};
+use crate::panics::{Guarded, Panics};
 use crate::{GetError, OpenError, Setup};
 use std::borrow::Borrow;
 use std::collections::hash_map::RandomState;
+use std::collections::HashMap;
 use std::fmt::{Debug, Formatter};
 use std::future::{poll_fn, Future};
 use std::hash::{BuildHasher, Hash};
+use std::mem::take;
 use std::ops::Deref;
 use std::pin::{pin, Pin};
 use std::sync::Arc;
@@ -193,6 +196,141 @@ impl<K: Hash + Eq, V, E, S: BuildHasher> Loading<K, V, E, S> {
         let mut panics = Panics::default();
         panics.of(|| load.0.set(None));
         panics.checked(got)
+    }
+
+    /// The values of several keys. Those that aren't there and that no other call loads are loaded by one call of `load`.
+    ///
+    /// As [`rookdresser::Loading::get_many`](crate::Loading::get_many), but that `load` returns a future, and that this call waits by
+    /// `await`. It may be dropped at any time, as a call of [`get`](Loading::get): its loads have failed then, and those who share them ask
+    /// again. Errors are those of `get`.
+    ///
+    /// ```
+    /// # use rookdresser::{future::Loading, Setup};
+    /// # mod runtime { include!(concat!(env!("CARGO_MANIFEST_DIR"), "/tests/common/block_on.rs")); }
+    /// # runtime::block_on(async {
+    /// # let cache = Loading::<String, u64, std::io::Error>::open(&Setup::of(100))?;
+    /// cache.store("a", 7.into(), 1)?;
+    /// let found = cache.get_many(["a", "b"], |absent| async move {
+    ///     assert_eq!(absent, ["b"]);
+    ///     Ok([("b".into(), (8, 2))].into()) // weighs 2
+    /// }).await?;
+    /// assert_eq!(found, [("a", 7.into()), ("b", 8.into())].into());
+    /// # Ok::<(), Box<dyn std::error::Error>>(())
+    /// # }).unwrap();
+    /// ```
+    pub async fn get_many<'q, Q, F>(
+        &self,
+        keys: impl IntoIterator<Item = &'q Q>,
+        load: impl FnMut(Vec<&'q Q>) -> F,
+    ) -> Result<HashMap<&'q Q, Arc<V>>, GetError<E>>
+    where
+        K: Borrow<Q>,
+        Q: Hash + Eq + ToOwned<Owned = K> + ?Sized + 'q,
+        F: Future<Output = Result<HashMap<K, (V, u32)>, E>>,
+    {
+        self.get_many_at(keys, self.0.clock.now(), load).await
+    }
+
+    /// As `get_many`, with a loader that returns the values alone, each of which then weighs 1.
+    ///
+    /// ```
+    /// # use rookdresser::{future::Loading, Setup};
+    /// # mod runtime { include!(concat!(env!("CARGO_MANIFEST_DIR"), "/tests/common/block_on.rs")); }
+    /// # runtime::block_on(async {
+    /// # let cache = Loading::<u64, u64, std::io::Error>::open(&Setup::of(100))?;
+    /// let squares = |absent: Vec<&u64>| {
+    ///     let squares = absent.into_iter().map(|&n| (n, n * n)).collect();
+    ///     async { Ok(squares) }
+    /// };
+    /// assert_eq!(*cache.try_get_many_with(&[3, 4], squares).await?[&4], 16);
+    /// # Ok::<(), Box<dyn std::error::Error>>(())
+    /// # }).unwrap();
+    /// ```
+    pub async fn try_get_many_with<'q, Q, F>(
+        &self,
+        keys: impl IntoIterator<Item = &'q Q>,
+        load: impl FnMut(Vec<&'q Q>) -> F,
+    ) -> Result<HashMap<&'q Q, Arc<V>>, GetError<E>>
+    where
+        K: Borrow<Q>,
+        Q: Hash + Eq + ToOwned<Owned = K> + ?Sized + 'q,
+        F: Future<Output = Result<HashMap<K, V>, E>>,
+    {
+        self.got_many(keys, self.0.clock.now(), load, |value| (value, 1)).await
+    }
+
+    /// As `get_many`, at a moment of the caller's clock, in milliseconds.
+    ///
+    /// ```
+    /// # use rookdresser::{future::Loading, Setup};
+    /// # mod runtime { include!(concat!(env!("CARGO_MANIFEST_DIR"), "/tests/common/block_on.rs")); }
+    /// # runtime::block_on(async {
+    /// # let cache = Loading::<u64, u64, std::io::Error>::open(&Setup { after_write: 10, ..Setup::of(100) })?;
+    /// // Entries expire after 10 milliseconds here.
+    /// let load = |_| async { Ok([(1, (7, 1))].into()) };
+    /// assert_eq!(cache.get_many_at(&[1], 1000, load).await?.len(), 1);
+    /// assert_eq!(cache.get_many_at(&[1], 1010, |_| async { Ok([].into()) }).await?.len(), 0);
+    /// # Ok::<(), Box<dyn std::error::Error>>(())
+    /// # }).unwrap();
+    /// ```
+    pub async fn get_many_at<'q, Q, F>(
+        &self,
+        keys: impl IntoIterator<Item = &'q Q>,
+        now: u64,
+        load: impl FnMut(Vec<&'q Q>) -> F,
+    ) -> Result<HashMap<&'q Q, Arc<V>>, GetError<E>>
+    where
+        K: Borrow<Q>,
+        Q: Hash + Eq + ToOwned<Owned = K> + ?Sized + 'q,
+        F: Future<Output = Result<HashMap<K, (V, u32)>, E>>,
+    {
+        self.got_many(keys, now, load, |loaded| loaded).await
+    }
+
+    async fn got_many<'q, Q, T, F>(
+        &self,
+        keys: impl IntoIterator<Item = &'q Q>,
+        now: u64,
+        load: impl FnMut(Vec<&'q Q>) -> F,
+        weighed: impl Fn(T) -> (V, u32),
+    ) -> Result<HashMap<&'q Q, Arc<V>>, GetError<E>>
+    where
+        K: Borrow<Q>,
+        Q: Hash + Eq + ToOwned<Owned = K> + ?Sized + 'q,
+        F: Future<Output = Result<HashMap<K, T>, E>>,
+    {
+        let (mut load, mut many) = (Guarded::of(load), Many::of(keys));
+        // It is dropped behind the loads, so that what it owns may use the cache.
+        let mut made = Loader(pin!(None));
+        let got = 'all: loop {
+            let mut batch = match Batch::begin(&self.0, &mut many, now) {
+                Ok(batch) => batch,
+                Err(fault) => break Err(GetError::Refused(fault)),
+            };
+            if !batch.absent.is_empty() {
+                let absent = batch.absent.clone();
+                made.0.set(Some(load.get_mut()(absent)));
+                batch.pause();
+                let loaded = poll_fn(|context| batch.during(|| made.get().poll(context))).await;
+                let (closed, mut panics) = (batch.close(loaded, &weighed, &mut many), Panics::default());
+                panics.of(|| made.0.set(None));
+                if let Err(error) = panics.checked(closed) {
+                    break Err(error);
+                }
+            }
+            for (key, flight) in take(&mut batch.joined) {
+                let told = Joined::of(flight.take()).await;
+                if let Err(error) = many.add(key, shared(told)) {
+                    break 'all Err(error);
+                }
+            }
+            if many.rest.is_empty() {
+                break Ok(());
+            }
+        };
+        let mut panics = Panics::default();
+        panics.of(|| drop(load));
+        many.end(got, panics)
     }
 }
 

@@ -4,6 +4,7 @@ use crate::lead::Lead;
 use crate::loading::Loading;
 use crate::panics::{Guarded, Panics};
 use crate::plain::are_plain;
+use crate::shard::AllGone;
 use crate::shared::Locked;
 use crate::table::Place;
 use crate::waits::{new_number, Making, WaitsForItself};
@@ -184,9 +185,43 @@ impl<K: Hash + Eq, V, E, S: BuildHasher> Loading<K, V, E, S> {
                 shard.stats.hits += 1;
                 Ok(Sought::Value(self.give_back(shard, value)))
             }
-            Ok(Err(found)) => Ok(self.joined_or_led(shard, hash, place, now, found)),
+            Ok(Err(found)) => Ok(self.joined_or_led(shard, hash, place, now, found, None)),
             Err(fault) => Err(shard.stats.refuse(fault)),
         }
+    }
+
+    /// A seek that is one of several. What left by one that begins no load is added to `held`, so that it is told once all loads
+    /// have landed.
+    pub(crate) fn seek_one<Q>(&self, key: &Q, now: u64, held: &mut AllGone<K, V>) -> Result<Sought<'_, K, V, E>, Fault>
+    where
+        K: Borrow<Q>,
+        Q: Hash + Eq + ToOwned<Owned = K> + ?Sized,
+    {
+        let hash = self.hash(key);
+        let shard = match self.hit(hash, key, now) {
+            Ok(value) => return Ok(Sought::Value(value)),
+            Err(shard) => shard,
+        };
+        let (mut shard, place, cloned) = self.place(shard, hash, key);
+        let sought = match shard.store.seek(&place, now) {
+            Ok(Ok(value)) => {
+                let value = value.clone();
+                shard.stats.hits += 1;
+                held.take_in(shard.store.left());
+                drop(shard);
+                Ok(Sought::Value(value))
+            }
+            Ok(Err(found)) => Ok(self.joined_or_led(shard, hash, place, now, found, Some(held))),
+            Err(fault) => {
+                let fault = shard.stats.refuse(fault);
+                drop(shard);
+                drop(place);
+                Err(fault)
+            }
+        };
+        let mut panics = Panics::default();
+        panics.of(|| drop(cloned));
+        panics.checked(sought)
     }
 
     #[inline(never)]
@@ -197,6 +232,7 @@ impl<K: Hash + Eq, V, E, S: BuildHasher> Loading<K, V, E, S> {
         place: Place<K>,
         now: u64,
         found: Found,
+        held: Option<&mut AllGone<K, V>>,
     ) -> Sought<'a, K, V, E> {
         let (id, old) = match found {
             Found::Lead(id) => {
@@ -212,7 +248,9 @@ impl<K: Hash + Eq, V, E, S: BuildHasher> Loading<K, V, E, S> {
                 shard.stats.misses += 1;
                 shard.stats.joins += 1;
                 let flight = shard.joined(&place);
-                return Sought::Join(self.give_back(shard, flight));
+                let Some(held) = held else { return Sought::Join(self.give_back(shard, flight)) };
+                held.take_in(shard.store.left());
+                return Sought::Join(flight);
             }
         };
         let at = shard.store.table.open(place);

@@ -1,5 +1,5 @@
 //! A load that this caller makes.
-use crate::flight::Outcome;
+use crate::flight::{Flight, Outcome};
 use crate::listener::Listener;
 use crate::panics::Panics;
 use crate::shard::AllGone;
@@ -8,7 +8,7 @@ use crate::store::Ended;
 use crate::waits::Making;
 use crate::{GetError, Landed};
 use std::sync::Arc;
-use std::time::Instant;
+use std::time::{Duration, Instant};
 
 /// A load that this caller makes. If it is dropped before it lands, it lands as failed and those who joined ask again.
 pub(crate) struct Lead<'a, K, V, E> {
@@ -62,6 +62,20 @@ impl<K, V, E> Lead<'_, K, V, E> {
     ) -> Panics {
         self.making.end();
         let took = self.begun.elapsed();
+        let mut landing = self.landed(value, took);
+        let mut panics = Panics::default();
+        if let Some(flight) = landing.flight.take() {
+            flight.tell(outcome(), &mut panics);
+            panics.of(|| drop(flight));
+        }
+        landing.release_into(self.listener, &mut panics);
+        panics.of(|| drop(old));
+        panics
+    }
+
+    /// Closes the load, which took so long, in the cache. Returns who is to be told, and what is to be let go of.
+    #[inline(always)]
+    pub(crate) fn landed(&mut self, value: Option<(Arc<V>, u32)>, took: Duration) -> Landing<K, V, E> {
         let has_value = value.is_some();
         let mut shard = self.shard.take();
         let load = shard.loads.remove(self.load);
@@ -76,16 +90,27 @@ impl<K, V, E> Lead<'_, K, V, E> {
         shard.stats.failed += u64::from(!has_value);
         shard.stats.loose += u64::from(has_value && !matches!(landed, Landed::Kept(_)));
         drop(shard);
-        let mut panics = Panics::default();
-        if let Some(flight) = load.flight {
-            flight.tell(outcome(), &mut panics);
-            panics.of(|| drop(flight));
-        }
-        self.listener.release_into(left, &mut panics);
+        Landing { flight: load.flight, left, value, key }
+    }
+}
+
+/// What is still to be done once a load has landed, with no lock held.
+pub(crate) struct Landing<K, V, E> {
+    /// Those who share the load, if anybody does.
+    pub(crate) flight: Option<Arc<Flight<V, E>>>,
+    left: AllGone<K, V>,
+    value: Option<Arc<V>>,
+    key: Option<Arc<K>>,
+}
+
+impl<K, V, E> Landing<K, V, E> {
+    /// Tells the listener what left, and drops all of it.
+    #[inline(always)]
+    pub(crate) fn release_into(self, listener: &Listener<K, V>, panics: &mut Panics) {
+        let Landing { left, value, key, .. } = self;
+        listener.release_into(left, panics);
         panics.of(|| drop(value));
         panics.of(|| drop(key));
-        panics.of(|| drop(old));
-        panics
     }
 }
 

@@ -4,6 +4,7 @@
 //! dropped one by one here, and what a function owns while it calls the caller's code is `Guarded`. And what a function has returned
 //! already is never dropped if a drop at its end panics: what may panic is dropped before.
 use std::any::Any;
+use std::collections::HashMap;
 use std::panic::{catch_unwind, resume_unwind, AssertUnwindSafe};
 
 /// The first panic of some calls, if one panicked.
@@ -66,6 +67,10 @@ impl<T> Guarded<T> {
         self.0.as_ref().expect("it is taken once")
     }
 
+    pub(crate) fn get_mut(&mut self) -> &mut T {
+        self.0.as_mut().expect("it is taken once")
+    }
+
     #[inline]
     pub(crate) fn take(mut self) -> T {
         let thing = self.0.take().expect("it is taken once");
@@ -83,5 +88,33 @@ impl<T> Drop for Guarded<T> {
             panics.of(|| drop(thing));
             panics.pass_on();
         }
+    }
+}
+
+/// A map of the caller's keys or values, each of which is dropped as if it were `Guarded`.
+pub(crate) struct GuardedMap<K, V>(HashMap<K, V>);
+
+impl<K, V> GuardedMap<K, V> {
+    pub(crate) fn of(map: HashMap<K, V>) -> Self {
+        GuardedMap(map)
+    }
+
+    pub(crate) fn get_mut(&mut self) -> &mut HashMap<K, V> {
+        &mut self.0
+    }
+
+    pub(crate) fn take(mut self) -> HashMap<K, V> {
+        std::mem::take(&mut self.0)
+    }
+}
+
+impl<K, V> Drop for GuardedMap<K, V> {
+    fn drop(&mut self) {
+        let mut panics = Panics::default();
+        for (key, value) in self.0.drain() {
+            panics.of(|| drop(value));
+            panics.of(|| drop(key));
+        }
+        panics.pass_on();
     }
 }

@@ -1,4 +1,4 @@
-//! A store that depends on the value that is there.
+//! The stores that depend on the value that is there.
 use crate::loading::Loading;
 use crate::panics::{Guarded, Panics};
 use crate::shard::AllGone;
@@ -77,5 +77,85 @@ impl<K: Hash + Eq, V, E, S: BuildHasher> Loading<K, V, E, S> {
                 panics.checked(Err(fault))
             }
         }
+    }
+
+    /// The key's value; if there is none, this one, which it stores. Of several callers at once one stores, and all get its value.
+    ///
+    /// It looks and stores in one step, counts as a look-up, and never waits: if a load of the key is open, the load will store nothing.
+    /// To make a value only if it is needed, call [`get_with`](Loading::get_with). The listener is told what left; a value that isn't
+    /// stored is dropped.
+    ///
+    /// If the look-up is refused, nothing has changed. If the store is, by `TooHeavy`, `StepsSpent` or `OutOfMemory` in this order, the
+    /// look-up was made. Takes the lock of the key's shard, or of a part of it. Expected O(1).
+    ///
+    /// ```
+    /// # use rookdresser::{Loading, Setup};
+    /// # let cache = Loading::<String, u64, std::io::Error>::open(&Setup::of(100))?;
+    /// assert_eq!(*cache.get_or_insert("a", 7.into(), 1)?, 7);
+    /// assert_eq!(*cache.get_or_insert("a", 8.into(), 1)?, 7);
+    /// # Ok::<(), Box<dyn std::error::Error>>(())
+    /// ```
+    pub fn get_or_insert<Q>(&self, key: &Q, value: Arc<V>, weight: u32) -> Result<Arc<V>, Fault>
+    where
+        K: Borrow<Q>,
+        Q: Hash + Eq + ToOwned<Owned = K> + ?Sized,
+    {
+        self.get_or_insert_at(key, value, weight, self.clock.now())
+    }
+
+    /// As `get_or_insert`, at a moment of the caller's clock, in milliseconds.
+    ///
+    /// ```
+    /// # use rookdresser::{Loading, Setup};
+    /// # let cache = Loading::<String, u64, std::io::Error>::open(&Setup { after_write: 10, ..Setup::of(100) })?;
+    /// // Entries expire after 10 milliseconds here.
+    /// assert_eq!(*cache.get_or_insert_at("a", 7.into(), 1, 1000)?, 7);
+    /// assert_eq!(*cache.get_or_insert_at("a", 8.into(), 1, 1009)?, 7);
+    /// assert_eq!(*cache.get_or_insert_at("a", 9.into(), 1, 1010)?, 9);
+    /// # Ok::<(), Box<dyn std::error::Error>>(())
+    /// ```
+    pub fn get_or_insert_at<Q>(&self, key: &Q, value: Arc<V>, weight: u32, now: u64) -> Result<Arc<V>, Fault>
+    where
+        K: Borrow<Q>,
+        Q: Hash + Eq + ToOwned<Owned = K> + ?Sized,
+    {
+        let value = Guarded::of(value);
+        let hash = self.hash(key);
+        let mut panics = Panics::default();
+        let shard = match self.hit(hash, key, now) {
+            Ok(there) => {
+                panics.of(|| drop(value));
+                return panics.checked(Ok(there));
+            }
+            Err(shard) => shard,
+        };
+        let (mut shard, place, cloned) = self.place(shard, hash, key);
+        let (at, own) = match place {
+            Place::At(at) => (Some(at), shard.store.table.row(at).key.clone()),
+            Place::New { key, .. } => (None, key),
+        };
+        let found = shard.look(at, hash, now);
+        let mut left = shard.store.left();
+        let (got, spare) = match found {
+            Ok(None) => {
+                // An entry that has expired has left its place.
+                let place = shard.store.table.place_of(hash, own.clone());
+                match shard.store.put(place, value.get().clone(), weight, now, &mut left) {
+                    Ok(()) => (Ok(value.get().clone()), None),
+                    Err((fault, place, value)) => (Err(shard.stats.refuse(fault)), Some((place, value))),
+                }
+            }
+            found => (found.map(|there| there.expect("it was found")), None),
+        };
+        drop(shard);
+        self.listener.release_into(left, &mut panics);
+        if let Some((place, value)) = spare {
+            panics.of(|| drop(place));
+            panics.of(|| drop(value));
+        }
+        panics.of(|| drop(own));
+        panics.of(|| drop(cloned));
+        panics.of(|| drop(value));
+        panics.checked(got)
     }
 }

@@ -20,6 +20,11 @@ impl<T> Several<T> {
         }
     }
 
+    /// Adds others behind its own.
+    pub(crate) fn take_in(&mut self, others: Several<T>) {
+        others.for_each(|one| self.push(one));
+    }
+
     #[inline]
     pub(crate) fn is_empty(&self) -> bool {
         self.first.is_none()
@@ -46,6 +51,12 @@ impl<T> Several<T> {
         all.push(first);
         all.extend(self.more);
         all
+    }
+}
+
+impl<T> Default for Several<T> {
+    fn default() -> Several<T> {
+        Several::none()
     }
 }
 

@@ -9,7 +9,7 @@ use std::time::Duration;
 /// If keys have the same hash, a call may be counted for another key of that hash too, by the library's numbers as well.
 #[derive(Clone, Copy, Debug, Default, PartialEq, Eq)]
 pub struct Stats {
-    /// Calls of `look` and `get` that found a value.
+    /// Calls of `look`, `get` and `get_or_insert`, and keys of a `get_many`, that found a value.
     pub hits: u64,
     /// Those that didn't: `hits + misses` are all that weren't refused.
     pub misses: u64,
@@ -17,11 +17,11 @@ pub struct Stats {
     pub joins: u64,
     /// Loads that returned a value.
     pub loads: u64,
-    /// Loads that returned an error or panicked, or whose task was dropped.
+    /// Loads that returned an error or panicked, whose task was dropped, or whose key a loader of several left out.
     pub failed: u64,
     /// Loads, of both kinds, of a key that was there but due.
     pub refreshes: u64,
-    /// How long the loads took, together.
+    /// How long the loads took, together. A load of several keys counts once.
     pub load_time: Duration,
     /// Loads whose value was not stored, since the key was put, dropped, forgotten or cleared meanwhile, or the value is too
     /// heavy, or memory was refused.

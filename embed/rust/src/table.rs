@@ -111,6 +111,14 @@ impl<K, V> Table<K, V> {
         Place::New { hash, number: self.free(hash), key }
     }
 
+    /// The place of a key that is in use, or was: it is known by its share.
+    pub(crate) fn place_of(&self, hash: u64, key: Arc<K>) -> Place<K> {
+        match self.rows(hash).find(|(_, row)| Arc::ptr_eq(&row.key, &key)) {
+            Some((at, _)) => Place::At(at),
+            None => self.new_place(hash, key),
+        }
+    }
+
     /// The number of the place.
     #[inline]
     pub(crate) fn number(&self, place: &Place<K>) -> u64 {

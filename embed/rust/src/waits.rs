@@ -117,8 +117,9 @@ impl Making {
         making
     }
 
+    /// This thread makes it again.
     #[inline]
-    fn go_on(&mut self) {
+    pub(crate) fn go_on(&mut self) {
         let within = OWN.replace(self.number);
         self.is_on = true;
         if within != self.within {

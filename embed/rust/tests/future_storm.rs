@@ -10,6 +10,7 @@ mod whole;
 use common::within;
 use random::Random;
 use rookdresser::{future, Fault, GetError, Setup};
+use std::collections::HashMap;
 use std::future::{poll_fn, Future};
 use std::panic::{catch_unwind, resume_unwind, AssertUnwindSafe};
 use std::pin::{pin, Pin};
@@ -21,6 +22,8 @@ use whole::holds_exactly;
 
 const KEYS: u64 = 640;
 const TASKS: u64 = 64;
+// The key of an error for several keys.
+const SEVERAL: u64 = KEYS;
 // A million in all, and a tenth of that without optimization.
 const CALLS: u64 = if cfg!(debug_assertions) { 1_562 } else { 15_625 };
 
@@ -110,13 +113,48 @@ fn get<'a>(cache: &'a Cache, source: &'a Source, key: u64, what: u64, polls: u64
         let (least, now) = (source.answered(key), source.moment.load(SeqCst));
         match tried(polls, cache.get_at(&key, now, load(cache, source, key, what))).await {
             Some(Ok(value)) => assert!(value.key == key && value.version >= least, "{value:?} is older than {least}"),
-            Some(Err(GetError::Load(error))) => assert!(error.key == key && error.version >= least),
+            Some(Err(GetError::Load(error))) => {
+                assert!(error.key == SEVERAL || error.key == key && error.version >= least)
+            }
             Some(Err(GetError::Refused(fault))) => assert_eq!(fault, Fault::TooManyFlights),
             Some(Err(GetError::WaitsForItself)) => return true,
             None => {}
         }
         false
     })
+}
+
+// Asks for several keys, and gives up after so many polls.
+async fn get_many(cache: &Cache, source: &Source, keys: [u64; 3], what: u64, polls: u64) {
+    let (least, now) = (keys.map(|key| source.answered(key)), source.moment.load(SeqCst));
+    let load = |absent: Vec<&u64>| {
+        let absent: Vec<_> = absent.into_iter().copied().collect();
+        async move {
+            let mut loaded = HashMap::new();
+            for key in absent {
+                // It leaves some out.
+                if what % 8 < 7 || key % 8 > 0 {
+                    let made = load(cache, source, key, what).await;
+                    loaded.insert(key, made.map_err(|_| Thing::of(SEVERAL, 0))?);
+                }
+            }
+            Ok(loaded)
+        }
+    };
+    match tried(polls, cache.get_many_at(&keys, now, load)).await {
+        Some(Ok(found)) => {
+            let is_fresh =
+                |(key, least)| found.get(key).is_none_or(|value| value.key == *key && value.version >= least);
+            assert!(keys.iter().zip(least).all(is_fresh));
+        }
+        Some(Err(GetError::Load(error))) => {
+            let is_fresh = |(key, least): (&u64, u64)| error.key == *key && error.version >= least;
+            assert!(error.key == SEVERAL || keys.iter().zip(least).any(is_fresh));
+        }
+        Some(Err(GetError::Refused(fault))) => assert_eq!(fault, Fault::TooManyFlights),
+        Some(Err(GetError::WaitsForItself)) => unreachable!("nobody waits for a task that isn't within a load"),
+        None => {}
+    }
 }
 
 type Asked<'a> = Pin<Box<dyn Future<Output = bool> + Send + 'a>>;
@@ -142,6 +180,10 @@ async fn calls(cache: &Cache, source: &Source, task: u64) {
                     .look_at(&key, now)
                     .unwrap()
                     .is_none_or(|value| value.key == key && value.version >= least));
+            }
+            41..=44 => {
+                let polls = if random.below(2) == 0 { random.below(4) } else { u64::MAX };
+                get_many(cache, source, [key, random.below(KEYS), own], random.below(1 << 40), polls).await;
             }
             // Nobody waits for a task that isn't within a load.
             31..=40 => assert!(!get(cache, source, key, random.below(1 << 40), random.below(4)).await),

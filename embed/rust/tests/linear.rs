@@ -43,7 +43,7 @@ fn calls<K: Hash + Eq + Clone>(cache: &Loading<K, u64, ()>, sources: &[Source], 
         let number = random.below(sources.len() as u64);
         let (key, source) = (key_of(number), &sources[number as usize]);
         let before = source.stored.load(SeqCst);
-        match random.below(20) {
+        match random.below(24) {
             0 => source.write(|version| cache.store_at(&key, Arc::new(version), 1, now).unwrap()),
             1 => source.write(|_| drop(cache.drop_key_at(&key, now).unwrap())),
             // The load may join none that began before.
@@ -51,6 +51,23 @@ fn calls<K: Hash + Eq + Clone>(cache: &Loading<K, u64, ()>, sources: &[Source], 
                 cache.forget_at(&key, now).unwrap();
                 drop(cache.put_at(&key, Arc::new(version), 1, now).unwrap());
             }),
+            20 => source.write(|version| {
+                drop(cache.drop_key_at(&key, now).unwrap());
+                assert_eq!(*cache.get_or_insert_at(&key, Arc::new(version), 1, now).unwrap(), version);
+            }),
+            21..=23 => {
+                let numbers = [0, 1, 2].map(|more| (number + more) % sources.len() as u64);
+                let (keys, before) = (numbers.map(key_of), numbers.map(|n| sources[n as usize].stored.load(SeqCst)));
+                let found = cache.get_many_at(&keys, now, |absent| {
+                    let places = absent.iter().map(|&key| keys.iter().position(|other| other == key).unwrap());
+                    let read = |place: usize| sources[numbers[place] as usize].version.load(SeqCst);
+                    let loaded = places.map(|place| (keys[place].clone(), (read(place), 1))).collect();
+                    std::thread::yield_now();
+                    Ok(loaded)
+                });
+                let found = found.unwrap();
+                assert!((0..3).all(|place| *found[&keys[place]] >= before[place]));
+            }
             3..=9 => assert!(cache.look_at(&key, now).unwrap().is_none_or(|version| *version >= before)),
             _ => {
                 let got = cache.get_at(&key, now, || {

@@ -210,6 +210,89 @@ fn what_a_loader_owns_may_panic_as_it_is_dropped() {
     assert_eq!((got, owned.live.load(SeqCst), Arc::strong_count(&value)), (Some("of a drop"), 0, 2));
 }
 
+#[test]
+fn a_loader_of_many_keys_and_the_drops_of_all_that_was_found_may_panic() {
+    let (keys, values) = (Arc::new(Fuse::default()), Arc::new(Fuse::default()));
+    let cache = Loading::<Thing, Thing, ()>::open(&Setup { refresh: 10, after_write: 50, ..Setup::of(8) }).unwrap();
+    let asked: Vec<_> = (0..6).map(|number| keys.thing(number)).collect();
+    for number in 0..4 {
+        cache.store_at(&asked[number as usize], Arc::new(values.thing(number)), 1, 5 * number).unwrap();
+    }
+    // At 20 the first three are due, and the fourth is there; the last two aren't.
+    let got = panic_of(|| {
+        cache.get_many_at(&asked, 20, |absent| {
+            assert_eq!(absent.iter().map(|key| key.number).collect::<Vec<_>>(), [0, 1, 2, 4, 5]);
+            // The call itself has the last share of each value that it found.
+            drop(cache.clear_at(20).unwrap());
+            assert_eq!(values.live.load(SeqCst), 4);
+            keys.light();
+            values.light();
+            panic!("of the loader")
+        })
+    });
+    keys.drops_panic.store(false, SeqCst);
+    values.drops_panic.store(false, SeqCst);
+    assert_eq!((got, values.live.load(SeqCst), keys.live.load(SeqCst)), (Some("of the loader"), 0, 6));
+    assert_eq!((cache.kept(), cache.numbers().flights), ((0, 0), 0));
+}
+
+#[test]
+fn what_a_loader_of_many_keys_returns_may_panic_as_it_is_dropped() {
+    let (keys, values) = (Arc::new(Fuse::default()), Arc::new(Fuse::default()));
+    let cache = Loading::<Thing, Thing, ()>::open(&Setup { bound: 10, ..Setup::of(8) }).unwrap();
+    let asked: Vec<_> = (0..3).map(|number| keys.thing(number)).collect();
+    let got = panic_of(|| {
+        cache.get_many_at(&asked, 0, |_| {
+            // One for each that was asked for, of which the second is too heavy, and one for which nobody asked.
+            let loaded = [(0, 1), (1, 11), (2, 1), (7, 1)];
+            let loaded = loaded.map(|(number, weight)| (keys.thing(number), (values.thing(number), weight)));
+            keys.light();
+            values.light();
+            Ok(loaded.into())
+        })
+    });
+    keys.drops_panic.store(false, SeqCst);
+    values.drops_panic.store(false, SeqCst);
+    // The cache has two keys of its own.
+    assert_eq!((got, values.live.load(SeqCst), keys.live.load(SeqCst)), (Some("of a drop"), 2, 3 + 2));
+    assert_eq!((cache.kept(), cache.numbers().flights), ((2, 2), 0));
+}
+
+#[test]
+fn a_hash_that_panics_among_many_keys_ends_the_loads_that_were_begun() {
+    let (keys, values) = (Arc::new(Fuse::default()), Arc::new(Fuse::default()));
+    let cache = Loading::<Thing, Thing, ()>::open(&Setup::of(8)).unwrap();
+    let asked: Vec<_> = [0, 1, 2, 99].map(|number| keys.thing(number)).into();
+    cache.store_at(&asked[1], Arc::new(values.thing(1)), 1, 0).unwrap();
+    let got = panic_of(|| cache.get_many_at(&asked, 0, |_| unreachable!("not all keys are known")));
+    assert_eq!((got, cache.kept(), cache.numbers().flights), (Some("of the hash"), (1, 1), 0));
+    // This thread makes no load any more: it may wait for one.
+    assert!(cache.get_at(&asked[0], 0, || Err(())).is_err());
+    assert_eq!((cache.stats().failed, keys.live.load(SeqCst)), (3, 4 + 1));
+}
+
+#[test]
+fn an_insert_and_the_drops_of_what_it_replaces_may_panic() {
+    let (keys, values) = (Arc::new(Fuse::default()), Arc::new(Fuse::default()));
+    let cache = Loading::<Thing, Thing, ()>::open(&Setup { after_write: 10, bound: 10, ..Setup::of(8) }).unwrap();
+    let key = keys.thing(1);
+    let insert = |number, weight, now| {
+        let value = Arc::new(values.thing(number));
+        values.light();
+        let got = panic_of(|| cache.get_or_insert_at(&key, value, weight, now));
+        values.drops_panic.store(false, SeqCst);
+        got
+    };
+    assert_eq!(insert(1, 1, 0), None);
+    // What isn't stored is dropped: as one is there, or as it is too heavy.
+    assert_eq!((insert(2, 1, 5), values.live.load(SeqCst)), (Some("of a drop"), 1));
+    // The one that has expired is dropped as this one takes its place.
+    assert_eq!((insert(3, 1, 10), values.live.load(SeqCst)), (Some("of a drop"), 1));
+    assert_eq!(cache.look_at(&key, 10).unwrap().map(|value| value.number), Some(3));
+    assert_eq!((insert(4, 11, 20), values.live.load(SeqCst)), (Some("of a drop"), 0));
+    assert_eq!((cache.kept(), keys.live.load(SeqCst)), ((0, 0), 1));
+}
+
 // Makes a call as it is dropped, and then panics.
 struct Calls<F: FnMut()>(F);
 

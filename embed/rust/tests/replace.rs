@@ -1,5 +1,6 @@
 //! Stores that depend on the value that is there.
 use rookdresser::{Cause, Fault, Loading, Setup};
+use std::hash::{Hash, Hasher};
 use std::sync::{Arc, Mutex};
 
 type Cache = Loading<u64, u64, ()>;
@@ -58,4 +59,87 @@ fn no_change_of_four_threads_is_lost() {
         }
     });
     assert_eq!(cache.look(&1), Ok(Some(Arc::new(20_000))));
+}
+
+#[test]
+fn a_value_is_inserted_if_there_is_none() {
+    let told = Arc::new(Mutex::new(vec![]));
+    let tells = told.clone();
+    let cache = Cache::open(&Setup { after_write: 10, bound: 100, ..Setup::of(8) }).unwrap();
+    let cache = cache.with_listener(move |left| tells.lock().unwrap().push((*left.key, *left.value, left.cause)));
+    let (seven, eight) = (Arc::new(7), Arc::new(8));
+    assert_eq!(cache.get_or_insert_at(&1, seven.clone(), 2, 0), Ok(seven.clone()));
+    assert_eq!(cache.get_or_insert_at(&1, eight.clone(), 3, 9), Ok(seven.clone()));
+    assert_eq!((cache.numbers().weight, Arc::strong_count(&seven), Arc::strong_count(&eight)), (2, 2, 1));
+    // It has expired at 10, and leaves.
+    assert_eq!(cache.get_or_insert_at(&1, eight.clone(), 3, 10), Ok(eight.clone()));
+    assert_eq!((cache.numbers().weight, Arc::strong_count(&seven)), (3, 1));
+    assert_eq!(*told.lock().unwrap(), [(1, 7, Cause::Expired)]);
+    // What is there is returned even if the other value is too heavy.
+    assert_eq!(cache.get_or_insert_at(&1, seven.clone(), 101, 10), Ok(eight.clone()));
+    assert_eq!(cache.get_or_insert_at(&2, seven.clone(), 101, 10), Err(Fault::TooHeavy));
+    assert_eq!((Arc::strong_count(&seven), cache.look_at(&2, 10), cache.kept()), (1, Ok(None), (1, 1)));
+    let (stats, numbers) = (cache.stats(), cache.numbers());
+    assert_eq!((stats.hits, stats.misses, stats.refused[Fault::TooHeavy.place()]), (2, 4, 1));
+    assert_eq!((numbers.hits, numbers.misses), (2, 4));
+}
+
+// A key that isn't of the standard library's, so that it is compared and cloned with no lock held. All have one hash.
+#[derive(Clone, Debug, PartialEq, Eq)]
+struct Alike(u64);
+
+impl Hash for Alike {
+    fn hash<H: Hasher>(&self, state: &mut H) {
+        state.write_u64(1);
+    }
+}
+
+#[test]
+fn keys_of_one_hash_have_their_own_values_as_they_expire_and_are_inserted() {
+    let cache = Loading::<Alike, u64, ()>::open(&Setup { after_write: 10, ..Setup::of(8) }).unwrap();
+    for now in [0, 5, 10, 15, 20] {
+        let round = now / 10;
+        for key in 0..4 {
+            let value = cache.get_or_insert_at(&Alike(key), Arc::new(10 * round + key), 1, now);
+            assert_eq!(value, Ok(Arc::new(10 * round + key)));
+        }
+        // The first of them expires as the others are there, and has the same number or another one.
+        assert_eq!((cache.kept(), cache.numbers().entries), ((4, 4), 4));
+    }
+    assert_eq!((cache.stats().expired, cache.stats().hits), (8, 8));
+}
+
+#[test]
+fn a_load_stores_nothing_over_what_was_inserted_and_waits_for_nothing() {
+    let cache = Cache::open(&Setup::of(8)).unwrap();
+    let got = cache.get_with(&1, || {
+        assert_eq!(cache.get_or_insert(&1, 7.into(), 1), Ok(Arc::new(7)));
+        9
+    });
+    assert_eq!((got, cache.look(&1), cache.stats().loose), (Ok(Arc::new(9)), Ok(Some(Arc::new(7))), 1));
+}
+
+#[test]
+fn an_open_shard_is_asked_for_what_is_there() {
+    let cache = Cache::sharded(1, &Setup::of(8)).unwrap();
+    cache.store(&1, 7.into(), 1).unwrap();
+    // The shard opens after some hundred hits, by these calls too.
+    (0..1000).for_each(|_| assert_eq!(cache.get_or_insert(&1, 8.into(), 1), Ok(Arc::new(7))));
+    assert_eq!(cache.get_or_insert(&2, 8.into(), 1), Ok(Arc::new(8)));
+    assert_eq!((cache.stats().hits, cache.stats().misses, cache.kept()), (1000, 1, (2, 2)));
+}
+
+#[test]
+fn of_four_threads_at_once_one_inserts_and_all_get_its_value() {
+    let cache = Cache::open(&Setup::of(2000)).unwrap();
+    let got: Vec<_> = std::thread::scope(|threads| {
+        let insert = |thread| {
+            let cache = &cache;
+            move || (0..1000).map(|key| *cache.get_or_insert(&key, Arc::new(thread), 1).unwrap()).collect::<Vec<_>>()
+        };
+        let threads: Vec<_> = (0..4).map(|thread| threads.spawn(insert(thread))).collect();
+        threads.into_iter().map(|thread| thread.join().unwrap()).collect()
+    });
+    assert!(got.iter().all(|one| *one == got[0]));
+    assert_eq!((cache.stats().misses, cache.stats().replaced), (1000, 0));
 }

@@ -85,8 +85,12 @@ struct Value(u64);
 
 impl Value {
     fn of(key: &Key) -> Value {
+        Value::numbered(key.0)
+    }
+
+    fn numbered(number: u64) -> Value {
         VALUES.fetch_add(1, SeqCst);
-        Value(key.0)
+        Value(number)
     }
 }
 
@@ -106,6 +110,27 @@ fn call(cache: &Cache) {
         3 => cache.store_at(&key, Arc::new(Value::of(&key)), 1, now).unwrap(),
         4 => assert!(cache.look_at(&key, now).unwrap().is_none_or(|value| value.0 == key.0)),
         5 if below(50) == 0 => drop(cache.clear_at(now).unwrap()),
+        5 => {
+            let value = cache.get_or_insert_at(&key, Arc::new(Value::of(&key)), 1, now);
+            assert_eq!(value.unwrap().0, key.0);
+        }
+        6 => {
+            let keys = [key, Key(below(60)), Key(below(60))];
+            let got = cache.get_many_at(&keys, now, |absent| {
+                strikes();
+                match below(20) {
+                    0 => Err(()),
+                    // It leaves out some, and returns some that nobody asked for.
+                    1 => Ok([61, 62].map(|key| (Key(key), (Value::numbered(key), 1))).into()),
+                    _ => Ok(absent.iter().map(|key| (Key(key.0), (Value::of(key), 1))).collect()),
+                }
+            });
+            // A map whose value panics as it is dropped doesn't drop the others.
+            for (key, value) in got.into_iter().flatten() {
+                assert_eq!(value.0, key.0);
+                drop(catch_unwind(AssertUnwindSafe(|| drop(value))));
+            }
+        }
         _ => {
             let got = cache.get_at(&key, now, || {
                 strikes();
