@@ -489,6 +489,19 @@ class Callbacks(CacheTest):
             self.assertEqual([name for name in named if not re.search(r"(?:fn|def|func) %s\(" % name, tests)], [])
             self.assertGreater(len(named), least)
 
+    def test_the_page_s_names_of_the_same_call_are_those_of_each_language(self):
+        embed = Path(__file__).resolve().parent.parent
+        sources = ["".join(path.read_text() for path in sorted(embed.glob(pattern))) for pattern in ("rust/src/*.rs", "go/*.go", "c/rookdresser_loading.h")]
+        heads = [r"pub (?:async )?fn %s[<(]", r"(?m)^func (?:\(\w+ \*Cache\[K, V\]\) )?%s[\[(]", r"static inline \w+ \**rd_loading_%s\("]
+        rows = re.findall(r"^\| (.*?) \| (.*?) \| (.*?) \| (.*?) \| (.*?) \|$", (embed / "README.md").read_text().split("## One name for one call")[1], re.M)[1:]
+        self.assertEqual(len(rows), 15)
+        for what, rust, go, python, c in rows:
+            for source, head, cell in zip(sources, heads, (rust, go, c)):
+                for name in re.findall(r"`(\w+)`", cell):
+                    self.assertRegex(source, head % name, what)
+            for name in re.findall(r"`(\w+)`", python):
+                self.assertTrue(name in ("in", "on_leave") or callable(getattr(Cache, name)), name)
+
 
 if __name__ == "__main__":
     unittest.main()
