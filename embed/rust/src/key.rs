@@ -1,144 +1,84 @@
-//! The two kinds of keys, each with the calls of `rookdresser.h` that have a key.
-use crate::sys::{self, Answer, Handle, Name, Notice, Settings, Token};
-
-mod sealed {
-    pub trait Sealed {}
-}
+//! The two kinds of keys, each with the functions of `rookdresser.h` for such keys.
+use crate::sys::*;
 
 /// A key of the library's own: a number, or a [`Name`].
-pub trait Key: sealed::Sealed + Copy + Default {
-    // Each call leads to the function of `rookdresser.h` for such keys. The pointers owe what its head says.
+pub trait Key: Kind {}
+
+impl Key for u64 {}
+impl Key for Name {}
+
+/// What makes a type a key. Nobody outside can name it, so nobody can make a further kind.
+pub trait Kind: Copy + Default {
+    /// How a key is handed over.
     #[doc(hidden)]
-    unsafe fn open(settings: *const Settings, cache: *mut Handle) -> u64;
+    type Given;
     #[doc(hidden)]
-    unsafe fn look(cache: *mut Handle, key: Self, now: u64, answer: *mut Answer) -> u64;
+    const CALLS: Calls<Self, Self::Given>;
+
+    /// The key as the functions take it. It is read while the key lives.
     #[doc(hidden)]
-    unsafe fn peek(cache: *mut Handle, key: Self, now: u64, answer: *mut Answer) -> u64;
-    #[doc(hidden)]
-    unsafe fn seek(cache: *mut Handle, key: Self, now: u64, answer: *mut Answer) -> u64;
-    #[doc(hidden)]
-    unsafe fn put(
-        cache: *mut Handle,
-        key: Self,
-        value: Token,
-        now: u64,
-        answer: *mut Answer,
-        first: *mut Notice<Self>,
-    ) -> u64;
-    #[doc(hidden)]
-    unsafe fn land_keep(
-        cache: *mut Handle,
-        id: u64,
-        key: Self,
-        value: Token,
-        now: u64,
-        answer: *mut Answer,
-        first: *mut Notice<Self>,
-    ) -> u64;
-    #[doc(hidden)]
-    unsafe fn land_loose(cache: *mut Handle, id: u64, key: Self, now: u64, answer: *mut Answer) -> u64;
-    #[doc(hidden)]
-    unsafe fn land_failed(cache: *mut Handle, id: u64, key: Self, now: u64, answer: *mut Answer) -> u64;
-    #[doc(hidden)]
-    unsafe fn drop_key(cache: *mut Handle, key: Self, now: u64, answer: *mut Answer, first: *mut Notice<Self>) -> u64;
-    #[doc(hidden)]
-    unsafe fn forget(cache: *mut Handle, key: Self, now: u64, answer: *mut Answer) -> u64;
-    #[doc(hidden)]
-    unsafe fn get_notice(cache: *mut Handle, i: u64, notice: *mut Notice<Self>) -> u64;
+    fn given(&self) -> Self::Given;
 }
 
-// A kind of keys: how one is handed over, and the functions.
-macro_rules! key {
-    ($key:ty, $given:expr, $open:ident, $look:ident, $peek:ident, $seek:ident, $put:ident, $keep:ident, $loose:ident, $failed:ident,
-     $drop:ident, $forget:ident, $notice:ident) => {
-        impl sealed::Sealed for $key {}
+type Cache = *mut Handle;
+type Told = *mut Answer;
 
-        impl Key for $key {
-            unsafe fn open(settings: *const Settings, cache: *mut Handle) -> u64 {
-                sys::$open(settings, cache)
-            }
-            unsafe fn look(cache: *mut Handle, key: Self, now: u64, answer: *mut Answer) -> u64 {
-                sys::$look(cache, $given(&key), now, answer)
-            }
-            unsafe fn peek(cache: *mut Handle, key: Self, now: u64, answer: *mut Answer) -> u64 {
-                sys::$peek(cache, $given(&key), now, answer)
-            }
-            unsafe fn seek(cache: *mut Handle, key: Self, now: u64, answer: *mut Answer) -> u64 {
-                sys::$seek(cache, $given(&key), now, answer)
-            }
-            unsafe fn put(
-                cache: *mut Handle,
-                key: Self,
-                value: Token,
-                now: u64,
-                answer: *mut Answer,
-                first: *mut Notice<Self>,
-            ) -> u64 {
-                sys::$put(cache, $given(&key), value, now, answer, first)
-            }
-            unsafe fn land_keep(
-                cache: *mut Handle,
-                id: u64,
-                key: Self,
-                value: Token,
-                now: u64,
-                answer: *mut Answer,
-                first: *mut Notice<Self>,
-            ) -> u64 {
-                sys::$keep(cache, id, $given(&key), value, now, answer, first)
-            }
-            unsafe fn land_loose(cache: *mut Handle, id: u64, key: Self, now: u64, answer: *mut Answer) -> u64 {
-                sys::$loose(cache, id, $given(&key), now, answer)
-            }
-            unsafe fn land_failed(cache: *mut Handle, id: u64, key: Self, now: u64, answer: *mut Answer) -> u64 {
-                sys::$failed(cache, id, $given(&key), now, answer)
-            }
-            unsafe fn drop_key(
-                cache: *mut Handle,
-                key: Self,
-                now: u64,
-                answer: *mut Answer,
-                first: *mut Notice<Self>,
-            ) -> u64 {
-                sys::$drop(cache, $given(&key), now, answer, first)
-            }
-            unsafe fn forget(cache: *mut Handle, key: Self, now: u64, answer: *mut Answer) -> u64 {
-                sys::$forget(cache, $given(&key), now, answer)
-            }
-            unsafe fn get_notice(cache: *mut Handle, i: u64, notice: *mut Notice<Self>) -> u64 {
-                sys::$notice(cache, i, notice)
-            }
-        }
+/// The functions for keys of a kind. The pointers owe what the head of `rookdresser.h` says.
+#[derive(Debug)]
+pub struct Calls<K, G> {
+    pub(crate) open: unsafe extern "C" fn(*const Settings, Cache) -> u64,
+    pub(crate) look: unsafe extern "C" fn(Cache, G, u64, Told) -> u64,
+    pub(crate) peek: unsafe extern "C" fn(Cache, G, u64, Told) -> u64,
+    pub(crate) seek: unsafe extern "C" fn(Cache, G, u64, Told) -> u64,
+    pub(crate) put: unsafe extern "C" fn(Cache, G, Token, u64, Told, *mut Notice<K>) -> u64,
+    pub(crate) land_keep: unsafe extern "C" fn(Cache, u64, G, Token, u64, Told, *mut Notice<K>) -> u64,
+    pub(crate) land_loose: unsafe extern "C" fn(Cache, u64, G, u64, Told) -> u64,
+    pub(crate) land_failed: unsafe extern "C" fn(Cache, u64, G, u64, Told) -> u64,
+    pub(crate) drop_key: unsafe extern "C" fn(Cache, G, u64, Told, *mut Notice<K>) -> u64,
+    pub(crate) forget: unsafe extern "C" fn(Cache, G, u64, Told) -> u64,
+    pub(crate) get_notice: unsafe extern "C" fn(Cache, u64, *mut Notice<K>) -> u64,
+}
+
+impl Kind for u64 {
+    type Given = u64;
+    const CALLS: Calls<u64, u64> = Calls {
+        open: rd_open,
+        look: rd_look,
+        peek: rd_peek,
+        seek: rd_seek,
+        put: rd_put_with_notice,
+        land_keep: rd_land_keep_with_notice,
+        land_loose: rd_land_loose,
+        land_failed: rd_land_failed,
+        drop_key: rd_drop_key_with_notice,
+        forget: rd_forget,
+        get_notice: rd_get_notice,
     };
+
+    #[inline(always)]
+    fn given(&self) -> u64 {
+        *self
+    }
 }
 
-key!(
-    u64,
-    u64::clone,
-    rd_open,
-    rd_look,
-    rd_peek,
-    rd_seek,
-    rd_put_with_notice,
-    rd_land_keep_with_notice,
-    rd_land_loose,
-    rd_land_failed,
-    rd_drop_key_with_notice,
-    rd_forget,
-    rd_get_notice
-);
-key!(
-    Name,
-    std::ptr::from_ref,
-    rd_open_names,
-    rd_look_name,
-    rd_peek_name,
-    rd_seek_name,
-    rd_put_name_with_notice,
-    rd_land_keep_name_with_notice,
-    rd_land_loose_name,
-    rd_land_failed_name,
-    rd_drop_name_with_notice,
-    rd_forget_name,
-    rd_get_notice_name
-);
+impl Kind for Name {
+    type Given = *const Name;
+    const CALLS: Calls<Name, *const Name> = Calls {
+        open: rd_open_names,
+        look: rd_look_name,
+        peek: rd_peek_name,
+        seek: rd_seek_name,
+        put: rd_put_name_with_notice,
+        land_keep: rd_land_keep_name_with_notice,
+        land_loose: rd_land_loose_name,
+        land_failed: rd_land_failed_name,
+        drop_key: rd_drop_name_with_notice,
+        forget: rd_forget_name,
+        get_notice: rd_get_notice_name,
+    };
+
+    #[inline(always)]
+    fn given(&self) -> *const Name {
+        self
+    }
+}

@@ -206,7 +206,7 @@ impl<K, V> Store<K, V> {
     fn take_each_out(&mut self, old: &mut Option<V>, left: &mut AllLeft<K, V>) {
         for notice in self.library.tokens().notices() {
             let (key, value) = self.table.take(notice.token, old);
-            let cause = CAUSES[(notice.cause as usize).wrapping_sub(1) & 3];
+            let cause = notice.cause;
             self.causes[cause as usize] += 1;
             left.push(Left { key, value, cause });
         }
@@ -240,6 +240,3 @@ pub(crate) struct Ended<K, V> {
     pub(crate) value: Option<V>,
     pub(crate) key: Option<Arc<K>>,
 }
-
-// By their numbers in `rookdresser.h`, which begin at 1.
-const CAUSES: [Cause; 4] = [Cause::Explicit, Cause::Replaced, Cause::Expired, Cause::Size];

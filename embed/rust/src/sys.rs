@@ -127,15 +127,11 @@ impl Name {
 
 /// An entry that left. `cause` is as in `rookdresser.h`: 1 dropped or cleared, 2 replaced, 3 expired, 4 evicted.
 #[repr(C)]
-#[derive(Clone, Copy, Debug, Default, PartialEq, Eq)]
+#[derive(Clone, Copy, Debug, Default)]
 pub struct Notice<K> {
-    /// The key of the entry.
     pub key: K,
-    /// Its token, which is the caller's again.
     pub token: u64,
-    /// What it weighed.
     pub weight: u32,
-    /// Why it left.
     pub cause: u32,
 }
 

@@ -1,8 +1,8 @@
 //! A cache of tokens: safe calls over `rookdresser.h`.
 use crate::key::Key;
 use crate::setup::OpenError;
-use crate::sys::{self, Answer, Handle, Looked, Notice, Numbers, Settings, Token};
-use crate::Setup;
+use crate::sys::{self, Answer, Handle, Looked, Numbers, Settings, Token};
+use crate::{Cause, Setup};
 use std::fmt::{Debug, Display, Formatter};
 
 /// Why a call was refused. A refused call changes nothing.
@@ -88,12 +88,25 @@ pub enum Landed {
     Gone,
 }
 
+/// An entry that left a [`Tokens`].
+#[derive(Clone, Copy, Debug, PartialEq, Eq)]
+pub struct Notice<K> {
+    /// The key of the entry.
+    pub key: K,
+    /// Its token, which is the caller's again.
+    pub token: u64,
+    /// What it weighed.
+    pub weight: u32,
+    /// Why it left.
+    pub cause: Cause,
+}
+
 /// One cache, and the notices of its latest call. Its keys are numbers, or names of at most 24 bytes.
 pub struct Tokens<K = u64> {
     handle: Handle,
     told: u64,
     // The first notice of the latest call, if that handed it back and told any.
-    first: Notice<K>,
+    first: sys::Notice<K>,
     has_first: bool,
 }
 
@@ -125,8 +138,8 @@ impl<K: Key> Tokens<K> {
     pub(crate) fn of(settings: &Settings) -> Result<Self, OpenError> {
         let mut handle = Handle::closed();
         // SAFETY: both lead to whole values that are borrowed for the call, and the handle is closed: all bytes are zero.
-        match unsafe { K::open(settings, &mut handle) } {
-            0 => Ok(Tokens { handle, told: 0, first: Notice::default(), has_first: false }),
+        match unsafe { (K::CALLS.open)(settings, &mut handle) } {
+            0 => Ok(Tokens { handle, told: 0, first: sys::Notice::default(), has_first: false }),
             1 => Err(OpenError::OutOfMemory),
             _ => unreachable!("the library's ranges are those that were checked"),
         }
@@ -140,7 +153,7 @@ impl<K: Key> Tokens<K> {
     // The same of a call that hands its first notice back.
     fn made_with_notice(
         &mut self,
-        call: impl FnOnce(&mut Handle, &mut Answer, &mut Notice<K>) -> u64,
+        call: impl FnOnce(&mut Handle, &mut Answer, &mut sys::Notice<K>) -> u64,
     ) -> Result<Answer, Fault> {
         self.has_first = true;
         self.called(call)
@@ -148,7 +161,10 @@ impl<K: Key> Tokens<K> {
 
     // SAFETY of each call below: the handle was made by `rd_open`, is ours alone, and is lent for the call beside a notice of
     // ours and an answer of this function's own.
-    fn called(&mut self, call: impl FnOnce(&mut Handle, &mut Answer, &mut Notice<K>) -> u64) -> Result<Answer, Fault> {
+    fn called(
+        &mut self,
+        call: impl FnOnce(&mut Handle, &mut Answer, &mut sys::Notice<K>) -> u64,
+    ) -> Result<Answer, Fault> {
         let mut answer = Answer::default();
         let number = call(&mut self.handle, &mut answer, &mut self.first);
         self.told = answer.notices;
@@ -168,7 +184,7 @@ impl<K: Key> Tokens<K> {
     /// # Ok::<(), Box<dyn std::error::Error>>(())
     /// ```
     pub fn look(&mut self, key: K, now: u64) -> Result<Found, Fault> {
-        self.made(|h, a| unsafe { K::look(h, key, now, a) }).map(found)
+        self.made(|h, a| unsafe { (K::CALLS.look)(h, key.given(), now, a) }).map(found)
     }
 
     /// The token that [`Tokens::look`] would hit, if it would hit. It is no call of the cache: it uses no entry, counts nothing, and
@@ -185,7 +201,7 @@ impl<K: Key> Tokens<K> {
     pub fn peek(&mut self, key: K, now: u64) -> Option<Token> {
         let mut answer = Answer::default();
         // SAFETY: as of the calls above, and `answer` is a value of ours. An open cache of this kind of keys refuses no peek.
-        unsafe { K::peek(&mut self.handle, key, now, &mut answer) };
+        unsafe { (K::CALLS.peek)(&mut self.handle, key.given(), now, &mut answer) };
         match found(answer) {
             Found::Hit(token) => Some(token),
             _ => None,
@@ -203,7 +219,7 @@ impl<K: Key> Tokens<K> {
     /// # Ok::<(), Box<dyn std::error::Error>>(())
     /// ```
     pub fn seek(&mut self, key: K, now: u64) -> Result<Found, Fault> {
-        self.made(|h, a| unsafe { K::seek(h, key, now, a) }).map(found)
+        self.made(|h, a| unsafe { (K::CALLS.seek)(h, key.given(), now, a) }).map(found)
     }
 
     /// Stores the value under the key.
@@ -217,7 +233,7 @@ impl<K: Key> Tokens<K> {
     /// # Ok::<(), Box<dyn std::error::Error>>(())
     /// ```
     pub fn put(&mut self, key: K, value: Token, now: u64) -> Result<(), Fault> {
-        self.made_with_notice(|h, a, n| unsafe { K::put(h, key, value, now, a, n) }).map(drop)
+        self.made_with_notice(|h, a, n| unsafe { (K::CALLS.put)(h, key.given(), value, now, a, n) }).map(drop)
     }
 
     /// Closes the load with a value that is to be stored. If memory is refused, the load stays open.
@@ -230,7 +246,8 @@ impl<K: Key> Tokens<K> {
     /// # Ok::<(), Box<dyn std::error::Error>>(())
     /// ```
     pub fn land_keep(&mut self, id: u64, key: K, value: Token, now: u64) -> Result<Landed, Fault> {
-        self.made_with_notice(|h, a, n| unsafe { K::land_keep(h, id, key, value, now, a, n) }).map(landed)
+        self.made_with_notice(|h, a, n| unsafe { (K::CALLS.land_keep)(h, id, key.given(), value, now, a, n) })
+            .map(landed)
     }
 
     /// Closes the load with a value that is not to be stored. Takes no memory.
@@ -243,7 +260,7 @@ impl<K: Key> Tokens<K> {
     /// # Ok::<(), Box<dyn std::error::Error>>(())
     /// ```
     pub fn land_loose(&mut self, id: u64, key: K, now: u64) -> Result<Landed, Fault> {
-        self.made(|h, a| unsafe { K::land_loose(h, id, key, now, a) }).map(landed)
+        self.made(|h, a| unsafe { (K::CALLS.land_loose)(h, id, key.given(), now, a) }).map(landed)
     }
 
     /// Closes the load with a failure. Takes no memory.
@@ -256,7 +273,7 @@ impl<K: Key> Tokens<K> {
     /// # Ok::<(), Box<dyn std::error::Error>>(())
     /// ```
     pub fn land_failed(&mut self, id: u64, key: K, now: u64) -> Result<Landed, Fault> {
-        self.made(|h, a| unsafe { K::land_failed(h, id, key, now, a) }).map(landed)
+        self.made(|h, a| unsafe { (K::CALLS.land_failed)(h, id, key.given(), now, a) }).map(landed)
     }
 
     /// Takes the key's entry out, and tells whether an unexpired one was there. Its current load will store nothing.
@@ -269,7 +286,8 @@ impl<K: Key> Tokens<K> {
     /// # Ok::<(), Box<dyn std::error::Error>>(())
     /// ```
     pub fn drop_key(&mut self, key: K, now: u64) -> Result<bool, Fault> {
-        self.made_with_notice(|h, a, n| unsafe { K::drop_key(h, key, now, a, n) }).map(|a| a.number != 0)
+        self.made_with_notice(|h, a, n| unsafe { (K::CALLS.drop_key)(h, key.given(), now, a, n) })
+            .map(|a| a.number != 0)
     }
 
     /// Lets nobody further join the key's current load, which will store nothing. Tells whether there was one.
@@ -283,7 +301,7 @@ impl<K: Key> Tokens<K> {
     /// # Ok::<(), Box<dyn std::error::Error>>(())
     /// ```
     pub fn forget(&mut self, key: K, now: u64) -> Result<bool, Fault> {
-        self.made(|h, a| unsafe { K::forget(h, key, now, a) }).map(|a| a.number != 0)
+        self.made(|h, a| unsafe { (K::CALLS.forget)(h, key.given(), now, a) }).map(|a| a.number != 0)
     }
 
     /// Takes every entry out. The open loads will store nothing.
@@ -339,22 +357,22 @@ impl<K: Key> Tokens<K> {
     /// What the latest call told to have left.
     ///
     /// ```
-    /// # use rookdresser::{Notice, Setup, Token, Tokens};
+    /// # use rookdresser::{Cause, Notice, Setup, Token, Tokens};
     /// # let mut cache = Tokens::<u64>::open(&Setup::of(100))?;
     /// cache.put(1, Token { token: 7, weight: 1 }, 0)?;
     /// cache.drop_key(1, 0)?;
     /// let left: Vec<_> = cache.notices().collect();
-    /// assert_eq!(left, [Notice { key: 1, token: 7, weight: 1, cause: 1 }]);
+    /// assert_eq!(left, [Notice { key: 1, token: 7, weight: 1, cause: Cause::Explicit }]);
     /// # Ok::<(), Box<dyn std::error::Error>>(())
     /// ```
     pub fn notices(&mut self) -> impl Iterator<Item = Notice<K>> + '_ {
         (0..self.told).map(|i| {
             if i == 0 && self.has_first {
-                return self.first;
+                return noticed(self.first);
             }
-            let mut notice = Notice::default();
-            unsafe { K::get_notice(&mut self.handle, i, &mut notice) };
-            notice
+            let mut notice = sys::Notice::default();
+            unsafe { (K::CALLS.get_notice)(&mut self.handle, i, &mut notice) };
+            noticed(notice)
         })
     }
 
@@ -408,6 +426,14 @@ fn found(a: Answer) -> Found {
         5 => Found::Lead(a.number),
         _ => Found::Absent,
     }
+}
+
+#[inline]
+fn noticed<K>(notice: sys::Notice<K>) -> Notice<K> {
+    // By their numbers in `rookdresser.h`, which begin at 1.
+    const CAUSES: [Cause; 4] = [Cause::Explicit, Cause::Replaced, Cause::Expired, Cause::Size];
+    let sys::Notice { key, token, weight, cause } = notice;
+    Notice { key, token, weight, cause: CAUSES[(cause as usize).wrapping_sub(1) & 3] }
 }
 
 fn landed(a: Answer) -> Landed {
