@@ -273,8 +273,11 @@ uint64_t rd_land_keep_name(rd_cache *cache, uint64_t id, const rd_name *key, rd_
 uint64_t rd_land_loose_name(rd_cache *cache, uint64_t id, const rd_name *key, uint64_t now, rd_answer *answer);
 uint64_t rd_land_failed_name(rd_cache *cache, uint64_t id, const rd_name *key, uint64_t now, rd_answer *answer);
 uint64_t rd_put_name(rd_cache *cache, const rd_name *key, rd_token value, uint64_t now, rd_answer *answer);
-uint64_t rd_drop_name(rd_cache *cache, const rd_name *key, uint64_t now, rd_answer *answer);
+uint64_t rd_drop_key_name(rd_cache *cache, const rd_name *key, uint64_t now, rd_answer *answer);
 uint64_t rd_forget_name(rd_cache *cache, const rd_name *key, uint64_t now, rd_answer *answer);
+
+/* Deprecated: the name that rd_drop_key_name had in 0.1, until the next major version. */
+uint64_t rd_drop_name(rd_cache *cache, const rd_name *key, uint64_t now, rd_answer *answer);
 
 /* The three calls that most often have notices, each with its first one. Each does the same as its namesake. If an entry
  * left, it also writes the first notice, which is rd_get_notice's number 0; if none left, it doesn't write it. */
@@ -286,8 +289,8 @@ uint64_t rd_put_name_with_notice(rd_cache *cache, const rd_name *key, rd_token v
                                  rd_name_notice *first);
 uint64_t rd_land_keep_name_with_notice(rd_cache *cache, uint64_t id, const rd_name *key, rd_token value, uint64_t now,
                                        rd_answer *answer, rd_name_notice *first);
-uint64_t rd_drop_name_with_notice(rd_cache *cache, const rd_name *key, uint64_t now, rd_answer *answer,
-                                  rd_name_notice *first);
+uint64_t rd_drop_key_name_with_notice(rd_cache *cache, const rd_name *key, uint64_t now, rd_answer *answer,
+                                      rd_name_notice *first);
 
 /* Stores with a life: the entry expires `life` ms after it was written, or earlier by the setup's durations; a life of 0 is
  * none. The next store of the key gives its entry another life, or none. A load's life begins as it lands. Each writes the

@@ -93,7 +93,7 @@ uint64_t rd_shared_land_keep_name(rd_caller *caller, uint64_t id, const rd_name 
 uint64_t rd_shared_land_loose_name(rd_caller *caller, uint64_t id, const rd_name *key, uint64_t now, rd_answer *answer);
 uint64_t rd_shared_land_failed_name(rd_caller *caller, uint64_t id, const rd_name *key, uint64_t now, rd_answer *answer);
 uint64_t rd_shared_put_name(rd_caller *caller, const rd_name *key, rd_token value, uint64_t now, rd_answer *answer);
-uint64_t rd_shared_drop_name(rd_caller *caller, const rd_name *key, uint64_t now, rd_answer *answer);
+uint64_t rd_shared_drop_key_name(rd_caller *caller, const rd_name *key, uint64_t now, rd_answer *answer);
 uint64_t rd_shared_forget_name(rd_caller *caller, const rd_name *key, uint64_t now, rd_answer *answer);
 uint64_t rd_shared_put_name_for(rd_caller *caller, const rd_name *key, rd_token value, uint32_t life, uint64_t now,
                                 rd_answer *answer);
@@ -153,11 +153,9 @@ static inline uint64_t rd_leave(rd_caller *caller, uint64_t fault) {
 #define rd_shared_land_loose_name(c, id, key, now, a) RD_CHECKED(c, rd_shared_land_loose_name(c, id, key, now, a))
 #define rd_shared_land_failed_name(c, id, key, now, a) RD_CHECKED(c, rd_shared_land_failed_name(c, id, key, now, a))
 #define rd_shared_put_name(c, key, value, now, a) RD_CHECKED(c, rd_shared_put_name(c, key, value, now, a))
-#define rd_shared_put_name_for(c, key, value, life, now, a) \
-    RD_CHECKED(c, rd_shared_put_name_for(c, key, value, life, now, a))
-#define rd_shared_land_name_for(c, id, key, value, life, now, a) \
-    RD_CHECKED(c, rd_shared_land_name_for(c, id, key, value, life, now, a))
-#define rd_shared_drop_name(c, key, now, a) RD_CHECKED(c, rd_shared_drop_name(c, key, now, a))
+#define rd_shared_put_name_for(c, key, value, life, now, a) RD_CHECKED(c, rd_shared_put_name_for(c, key, value, life, now, a))
+#define rd_shared_land_name_for(c, id, key, value, life, now, a) RD_CHECKED(c, rd_shared_land_name_for(c, id, key, value, life, now, a))
+#define rd_shared_drop_key_name(c, key, now, a) RD_CHECKED(c, rd_shared_drop_key_name(c, key, now, a))
 #define rd_shared_forget_name(c, key, now, a) RD_CHECKED(c, rd_shared_forget_name(c, key, now, a))
 #define rd_shared_peek(c, key, now, a) RD_CHECKED(c, rd_shared_peek(c, key, now, a))
 #define rd_shared_peek_name(c, key, now, a) RD_CHECKED(c, rd_shared_peek_name(c, key, now, a))

@@ -24,11 +24,11 @@ static rd_name spelled(uint64_t k) {
 #define LAND_KEEP CALL(rd_land_keep, rd_land_keep_name)
 #define LAND_LOOSE CALL(rd_land_loose, rd_land_loose_name)
 #define LAND_FAILED CALL(rd_land_failed, rd_land_failed_name)
-#define DROP CALL(rd_drop_key, rd_drop_name)
+#define DROP CALL(rd_drop_key, rd_drop_key_name)
 #define FORGET CALL(rd_forget, rd_forget_name)
 #define LAND_KEEP_WITH_NOTICE CALL(rd_land_keep_with_notice, rd_land_keep_name_with_notice)
 #define PUT_WITH_NOTICE CALL(rd_put_with_notice, rd_put_name_with_notice)
-#define DROP_WITH_NOTICE CALL(rd_drop_key_with_notice, rd_drop_name_with_notice)
+#define DROP_WITH_NOTICE CALL(rd_drop_key_with_notice, rd_drop_key_name_with_notice)
 
 /* A notice, its key as a number. */
 #ifdef NAMES

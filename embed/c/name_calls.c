@@ -22,11 +22,12 @@ static uint64_t refused(rd_cache *cache, const rd_name *key) {
                        rd_land_loose_name(cache, 1, key, 0, &a),
                        rd_land_failed_name(cache, 1, key, 0, &a),
                        rd_put_name(cache, key, (rd_token){1, 1}, 0, &a),
+                       rd_drop_key_name(cache, key, 0, &a),
                        rd_drop_name(cache, key, 0, &a),
                        rd_forget_name(cache, key, 0, &a),
                        rd_land_keep_name_with_notice(cache, 1, key, (rd_token){1, 1}, 0, &a, &n),
                        rd_put_name_with_notice(cache, key, (rd_token){1, 1}, 0, &a, &n),
-                       rd_drop_name_with_notice(cache, key, 0, &a, &n)};
+                       rd_drop_key_name_with_notice(cache, key, 0, &a, &n)};
     for (size_t i = 0; i < sizeof told / sizeof *told; i++)
         if (told[i] != told[0]) return 0;
     return n.token == 77 && n.weight == 77 && n.cause == 77 && a.kind == 77 && a.weight == 77 && a.token == 77 && a.number == 77 && a.notices == 77 ? told[0] : 0;
@@ -56,6 +57,8 @@ static int first_rows(rd_cache *cache) {
     CHECK(rd_get_notice_name(cache, 0, &n) == 0 && n.token == 7 && n.weight == 2 && n.cause == RD_REPLACED);
     CHECK(n.key.length == 5 && !memcmp(n.key.bytes, "alice\0\0\0\0\0\0\0\0\0\0\0\0\0\0\0\0\0\0\0", 24));
     CHECK(rd_get_notice_name(cache, 1, &n) == RD_NO_SUCH_NOTICE && n.token == 7);
+    CHECK(rd_drop_key_name(cache, &alice, 3, &a) == 0 && a.kind == RD_DROPPED && a.number == 1 && a.notices == 1);
+    CHECK(rd_put_name(cache, &alice, (rd_token){9, 1}, 3, &a) == 0 && a.kind == RD_STORED);
     CHECK(rd_drop_name(cache, &alice, 3, &a) == 0 && a.kind == RD_DROPPED && a.number == 1 && a.notices == 1);
     CHECK(rd_clear(cache, 3, &a) == 0 && a.kind == RD_CLEARED && a.notices == 1);
     CHECK(rd_get_notice_name(cache, 0, &n) == 0 && n.token == 8 && n.cause == RD_EXPLICIT && n.key.length == 3);

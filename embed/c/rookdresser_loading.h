@@ -28,7 +28,6 @@ typedef rd_name_notice rd_loading_notice;
 #define RD_LOADING_OPEN rd_open_names
 #define RD_LOADING_NOTICE rd_get_notice_name
 #define RD_LOADING_CALL(call, cache, ...) call##_name(cache, __VA_ARGS__)
-#define RD_LOADING_DROP rd_drop_name
 #define RD_LOADING_KEY(key) (&(key))
 static inline uint64_t rd_loading_number(rd_name key) {
     const uint64_t seed[2] = {0, 0};
@@ -40,7 +39,6 @@ typedef rd_notice rd_loading_notice;
 #define RD_LOADING_OPEN rd_open
 #define RD_LOADING_NOTICE rd_get_notice
 #define RD_LOADING_CALL(call, cache, ...) call(cache, __VA_ARGS__)
-#define RD_LOADING_DROP rd_drop_key
 #define RD_LOADING_KEY(key) (key)
 static inline uint64_t rd_loading_number(uint64_t key) { return key; }
 #endif
@@ -342,7 +340,7 @@ static inline uint64_t rd_loading_drop(rd_loading *l, rd_loading_key key, uint64
     rd_answer answer;
     rd_shared *left = 0;
     pthread_mutex_lock(&l->lock);
-    uint64_t fault = rd_loading_made(l, RD_LOADING_DROP(&l->cache, RD_LOADING_KEY(key), now, &answer), &answer, &left);
+    uint64_t fault = rd_loading_made(l, RD_LOADING_CALL(rd_drop_key, &l->cache, RD_LOADING_KEY(key), now, &answer), &answer, &left);
     rd_loading_leave(l, left);
     return fault;
 }

@@ -85,7 +85,7 @@ static uint64_t make_shared(rd_caller *caller, const call *c, rd_answer *answer)
     case loose: return CALL(rd_shared_land_loose, rd_shared_land_loose_name)(caller, c->id, GIVEN(c->key), c->now, answer);
     case failed: return CALL(rd_shared_land_failed, rd_shared_land_failed_name)(caller, c->id, GIVEN(c->key), c->now, answer);
     case put: return CALL(rd_shared_put, rd_shared_put_name)(caller, GIVEN(c->key), value, c->now, answer);
-    case drop: return CALL(rd_shared_drop_key, rd_shared_drop_name)(caller, GIVEN(c->key), c->now, answer);
+    case drop: return CALL(rd_shared_drop_key, rd_shared_drop_key_name)(caller, GIVEN(c->key), c->now, answer);
     case forget: return CALL(rd_shared_forget, rd_shared_forget_name)(caller, GIVEN(c->key), c->now, answer);
     case clear: return rd_shared_clear(caller, c->now, answer);
     case clean: return rd_shared_clean(caller, c->now, answer);

@@ -72,7 +72,7 @@ impl Kind for Name {
         land_keep: rd_land_keep_name_with_notice,
         land_loose: rd_land_loose_name,
         land_failed: rd_land_failed_name,
-        drop_key: rd_drop_name_with_notice,
+        drop_key: rd_drop_key_name_with_notice,
         forget: rd_forget_name,
         get_notice: rd_get_notice_name,
     };

@@ -250,7 +250,7 @@ unsafe extern "C" {
         answer: *mut Answer,
         first: *mut Notice<Name>,
     ) -> u64;
-    pub fn rd_drop_name_with_notice(
+    pub fn rd_drop_key_name_with_notice(
         cache: *mut Handle,
         key: *const Name,
         now: u64,

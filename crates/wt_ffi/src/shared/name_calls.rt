@@ -166,7 +166,7 @@ pub extern "C" fn rd_shared_put_name(
 /// If another call is at work it returns 105, and nothing happens. Takes no memory. Expected O(1),
 /// unless an attacker chooses the names.
 #[unsafe(no_mangle)]
-pub extern "C" fn rd_shared_drop_name(
+pub extern "C" fn rd_shared_drop_key_name(
     alloc: Global,
     handle: &mut SharedHandle,
     key: &Text,

@@ -44,7 +44,7 @@ pub extern "C" fn rd_drop_key(
 /// The name's current load stores nothing. Takes no memory. Expected O(1), unless an attacker
 /// chooses the names.
 #[unsafe(no_mangle)]
-pub extern "C" fn rd_drop_name(
+pub extern "C" fn rd_drop_key_name(
     alloc: Global,
     handle: &mut Handle,
     key: &Text,
@@ -58,4 +58,21 @@ pub extern "C" fn rd_drop_name(
         return TOO_LONG;
     };
     make_named(alloc, handle, Call::DropKey(name, now), answer)
+}
+
+/// Takes the name's entry out, as `rd_drop_key_name` does, which had this name in 0.1.
+///
+/// Deprecated: the next major version has no call of this name.
+#[unsafe(no_mangle)]
+pub extern "C" fn rd_drop_name(
+    alloc: Global,
+    handle: &mut Handle,
+    key: &Text,
+    now: u64,
+    answer: &mut Answer,
+) -> u64
+    ensures made { IsNameCall DropKey key.now now
+        handle.old handle.new answer.old answer.new result }
+{
+    rd_drop_key_name(alloc, handle, key, now, answer)
 }

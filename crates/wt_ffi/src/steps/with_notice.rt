@@ -183,11 +183,11 @@ pub extern "C" fn rd_drop_key_with_notice(
     number
 }
 
-/// Takes the entry out as `rd_drop_name` does, and writes the first notice, if there is one.
+/// Takes the entry out as `rd_drop_key_name` does, and writes the first notice, if there is one.
 ///
 /// If there is none `left` stays as it was.
 #[unsafe(no_mangle)]
-pub extern "C" fn rd_drop_name_with_notice(
+pub extern "C" fn rd_drop_key_name_with_notice(
     alloc: Global,
     handle: &mut Handle,
     key: &Text,
