@@ -165,7 +165,7 @@ func TestTheAdviserIsShownEachLookUpOnceAndInItsOrder(t *testing.T) {
 		random := rand.New(rand.NewSource(3))
 		s, clock := timed(exactly(s))
 		c := open(t, s)
-		w := &witness{t: t, c: c, adviser: adviserOf(s), kept: map[*shard[uint64, string]][]uint64{}}
+		w := &witness{t: t, c: c, adviser: newAdviser(s), kept: map[*shard[uint64, string]][]uint64{}}
 		defer w.adviser.close()
 		get := func(key uint64, fetch func(context.Context) (string, uint32, error)) {
 			_, _ = c.Get(ctx, key, fetch)

@@ -35,8 +35,8 @@ type adviser struct {
 	side    C.advising
 }
 
-// adviserOf returns the adviser of a cache, or nil if its window is fixed. One that is refused memory is opened by a later look-up.
-func adviserOf(s Setup) *adviser {
+// newAdviser returns the adviser of a cache, or nil if its window is fixed. One that is refused memory is opened by a later look-up.
+func newAdviser(s Setup) *adviser {
 	if !s.adapts() {
 		return nil
 	}

@@ -108,25 +108,25 @@ func (c *Cache[K, V]) lead(ctx context.Context, found sought[K, V], fetch func(c
 }
 
 // land closes a load, and returns what left. Then those who share it have its value.
-func (of *load[K, V]) land(took time.Duration, listens bool) []Left[K, V] {
-	s := of.shard
+func (l *load[K, V]) land(took time.Duration, listens bool) []Left[K, V] {
+	s := l.shard
 	s.take()
 	defer s.mu.Unlock()
-	if at := &s.table.rows[of.row]; at.load == of {
+	if at := &s.table.rows[l.row]; at.load == l {
 		at.load = nil
 	}
 	s.stats.LoadTime += took
-	if of.err != nil {
+	if l.err != nil {
 		s.stats.Failed++
-		_ = s.lib.landFailed(of.id, of.number, s.moment(of.now))
-		s.table.letGo(of.row)
+		_ = s.lib.landFailed(l.id, l.number, s.moment(l.now))
+		s.table.letGo(l.row)
 	} else {
 		s.stats.Loads++
-		s.store(of)
+		s.store(l)
 	}
-	of.over.Store(true)
-	if of.done != nil {
-		close(of.done)
+	l.over.Store(true)
+	if l.done != nil {
+		close(l.done)
 	}
 	return s.left(listens)
 }

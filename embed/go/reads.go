@@ -60,8 +60,8 @@ type hits struct {
 // A note is a hit of which the library is still to be told.
 type note struct{ number, now, until uint64 }
 
-// stripesOf returns a stripe for each processor; none if no shard is to open.
-func stripesOf(s Setup) []stripe {
+// newStripes returns a stripe for each processor; none if no shard is to open.
+func newStripes(s Setup) []stripe {
 	if s.Reads == Exact {
 		return nil
 	}

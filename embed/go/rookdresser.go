@@ -27,7 +27,7 @@ type Cache[K comparable, V any] struct {
 // Open returns an empty cache. If a setting is out of its range, the error is ErrBadSetup and gives its name, its value and the range;
 // if an allocation fails, ErrOutOfMemory. The collector can't free the cache, whose memory is C's: call Close.
 func Open[K Key, V any](s Setup, options ...Option[K, V]) (*Cache[K, V], error) {
-	return opened(s, hasherOfKind[K](s.Seeded), options)
+	return newCache(s, hasherOfKind[K](s.Seeded), options)
 }
 
 // OpenHashed opens a cache for keys of any comparable type, as Open does, with a hash: maphash.Comparable[K] of Go 1.24, or yours.
@@ -36,29 +36,29 @@ func Open[K Key, V any](s Setup, options ...Option[K, V]) (*Cache[K, V], error) 
 // random and the cache's own: if the hash depends on it, an attacker who chooses keys can't aim at the library's tables.
 func OpenHashed[K comparable, V any](s Setup, hash func(maphash.Seed, K) uint64, options ...Option[K, V]) (*Cache[K, V], error) {
 	if hash == nil {
-		return nil, wrong("hash is nil, and has to be a function")
+		return nil, badSetup("hash is nil, and has to be a function")
 	}
-	return opened(s, hasher[K]{own: hash, seed: maphash.MakeSeed()}, options)
+	return newCache(s, hasher[K]{own: hash, seed: maphash.MakeSeed()}, options)
 }
 
-func opened[K comparable, V any](s Setup, hash hasher[K], options []Option[K, V]) (*Cache[K, V], error) {
+func newCache[K comparable, V any](s Setup, hash hasher[K], options []Option[K, V]) (*Cache[K, V], error) {
 	parts, err := s.parts()
 	if err != nil {
 		return nil, err
 	}
 	// The clock is the caller's, and may panic.
-	c := &Cache[K, V]{hash: hash, clock: clockOf(s)}
+	c := &Cache[K, V]{hash: hash, clock: newClock(s)}
 	for _, option := range options {
 		option(c)
 	}
-	c.adviser = adviserOf(s)
+	c.adviser = newAdviser(s)
 	for i, part := range parts {
 		lib, fault := openLibrary(part, c.adviser.follower(i, len(parts)))
 		if fault != 0 {
 			c.Close()
 			return nil, fault
 		}
-		c.shards = append(c.shards, shardOf[K, V](part, lib))
+		c.shards = append(c.shards, newShard[K, V](part, lib))
 	}
 	return c, nil
 }

@@ -133,7 +133,7 @@ func TestKeysOfOneHashAreToldApart(t *testing.T) {
 		func(key int) uint64 { return uint64(key) / 3 },
 	}
 	for _, hash := range hashOf {
-		table, places, numbers := tableOf[int, string](), map[int]int32{}, map[uint64]int{}
+		table, places, numbers := newTable[int, string](), map[int]int32{}, map[uint64]int{}
 		for turn, random := 0, rand.New(rand.NewSource(1)); turn < 20000; turn++ {
 			key := random.Intn(30)
 			at, number := table.find(key, hash(key))

@@ -104,14 +104,14 @@ func (s Setup) check() error {
 	} {
 		isDefault := setting.hasDefault && setting.value == 0
 		if !isDefault && (setting.value < setting.least || setting.value > setting.most) {
-			return wrong("%s is %d, and has to be from %d to %d%s", setting.name, setting.value, setting.least, setting.most, setting.because)
+			return badSetup("%s is %d, and has to be from %d to %d%s", setting.name, setting.value, setting.least, setting.most, setting.because)
 		}
 	}
 	if err := s.checkAdaptive(); err != nil {
 		return err
 	}
 	if s.Reads > Exact {
-		return wrong("Reads is %v, and has to be Shared or Exact", s.Reads)
+		return badSetup("Reads is %v, and has to be Shared or Exact", s.Reads)
 	}
 	return s.checkDurations()
 }
@@ -127,11 +127,11 @@ func (s Setup) adapts() bool {
 func (s Setup) checkAdaptive() error {
 	switch {
 	case s.Adaptive > Off:
-		return wrong("Adaptive is %v, and has to be Default, On or Off", s.Adaptive)
+		return badSetup("Adaptive is %v, and has to be Default, On or Off", s.Adaptive)
 	case s.Adaptive == On && s.Window != 0:
-		return wrong("Adaptive is On, and has to be Default or Off with a Window, which is %d", s.Window)
+		return badSetup("Adaptive is On, and has to be Default or Off with a Window, which is %d", s.Window)
 	case s.Adaptive == On && !s.mayAdapt():
-		return wrong("Adaptive is On, and has to be Default or Off unless Entries, which is %d, is from %d to %d", s.Entries, leastAdaptive, mostAdaptive)
+		return badSetup("Adaptive is On, and has to be Default or Off unless Entries, which is %d, is from %d to %d", s.Entries, leastAdaptive, mostAdaptive)
 	}
 	return nil
 }
@@ -144,17 +144,17 @@ func (s Setup) checkDurations() error {
 		value time.Duration
 	}{{"AfterWrite", s.AfterWrite}, {"AfterAccess", s.AfterAccess}, {"Refresh", s.Refresh}} {
 		if duration.value != 0 && duration.value < time.Millisecond {
-			return wrong("%s is %v, and has to be at least 1ms", duration.name, duration.value)
+			return badSetup("%s is %v, and has to be at least 1ms", duration.name, duration.value)
 		}
 	}
 	refresh, afterWrite := s.Refresh.Truncate(time.Millisecond), s.AfterWrite.Truncate(time.Millisecond)
 	if afterWrite != 0 && refresh >= afterWrite {
-		return wrong("Refresh is %v, and has to be below AfterWrite, %v", refresh, afterWrite)
+		return badSetup("Refresh is %v, and has to be below AfterWrite, %v", refresh, afterWrite)
 	}
 	return nil
 }
 
-func wrong(how string, of ...any) error {
+func badSetup(how string, of ...any) error {
 	return fmt.Errorf("%w: %s", ErrBadSetup, fmt.Sprintf(how, of...))
 }
 
@@ -196,7 +196,7 @@ type clock struct {
 	isRead bool // no moment matters where no duration is set
 }
 
-func clockOf(s Setup) clock {
+func newClock(s Setup) clock {
 	c := clock{began: time.Now(), given: s.Clock, isRead: s.AfterWrite != 0 || s.AfterAccess != 0 || s.Refresh != 0}
 	if c.given != nil && c.isRead {
 		c.opened = c.given()

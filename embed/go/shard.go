@@ -26,9 +26,9 @@ type shard[K comparable, V any] struct {
 	stripes []stripe
 }
 
-func shardOf[K comparable, V any](s Setup, lib library) *shard[K, V] {
+func newShard[K comparable, V any](s Setup, lib library) *shard[K, V] {
 	of := &shard[K, V]{
-		lib: lib, table: tableOf[K, V](), stripes: stripesOf(s),
+		lib: lib, table: newTable[K, V](), stripes: newStripes(s),
 		afterWrite: orNever(s.AfterWrite), afterAccess: orNever(s.AfterAccess), sureFor: orNever(s.Refresh),
 	}
 	if of.afterWrite < of.sureFor {

@@ -33,7 +33,7 @@ type table[K comparable, V any] struct {
 	moved     map[uint64]struct{} // the numbers in use that aren't their key's hash
 }
 
-func tableOf[K comparable, V any]() table[K, V] {
+func newTable[K comparable, V any]() table[K, V] {
 	return table[K, V]{first: map[uint64]int32{}, moved: map[uint64]struct{}{}}
 }
 

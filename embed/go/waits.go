@@ -16,20 +16,20 @@ type leader struct {
 }
 
 // wait returns what the load returned, once it is over. A channel is there, since this goroutine has joined.
-func (of *load[K, V]) wait(ctx context.Context) (v V, err error) {
+func (l *load[K, V]) wait(ctx context.Context) (v V, err error) {
 	select {
-	case <-of.done:
-		return of.value, of.err
+	case <-l.done:
+		return l.value, l.err
 	default:
 	}
 	me := goroutine.Current()
-	if err := waits.begin(me, &of.leader); err != nil {
+	if err := waits.begin(me, &l.leader); err != nil {
 		return v, err
 	}
 	defer waits.end(me)
 	select {
-	case <-of.done:
-		return of.value, of.err
+	case <-l.done:
+		return l.value, l.err
 	case <-ctx.Done():
 		return v, endOf(ctx)
 	}
