@@ -198,7 +198,7 @@ impl<K: Hash + Eq, V, E, S: BuildHasher> Loading<K, V, E, S> {
         panics.checked(got)
     }
 
-    /// The values of several keys. Those that aren't there and that no other call loads are loaded by one call of `load`.
+    /// The values of several keys. Those that aren't there or are due, and that no other call loads, are loaded by one call of `load`.
     ///
     /// As [`rookdresser::Loading::get_many`](crate::Loading::get_many), but that `load` returns a future, and that this call waits by
     /// `await`. It may be dropped at any time, as a call of [`get`](Loading::get): its loads have failed then, and those who share them ask

@@ -15,12 +15,12 @@ use std::sync::Arc;
 use std::time::Duration;
 
 impl<K: Hash + Eq, V, E, S: BuildHasher> Loading<K, V, E, S> {
-    /// The values of several keys. Those that aren't there and that no other call loads are loaded by one call of `load`.
+    /// The values of several keys. Those that aren't there or are due, and that no other call loads, are loaded by one call of `load`.
     ///
     /// `load` gets these keys, and returns values with their weights; it is called again if they are more than `flights` allows. Then
-    /// this call waits for the keys that others load. Each load is shared as a load of [`get`](Loading::get) is, and an entry that is due
-    /// is treated as there. A key for which `load` returns nothing isn't in the map, unless its entry was due and has its old value; others
-    /// that wait for it ask again. What `load` returns for other keys is dropped.
+    /// this call waits for the keys that others load. The loads are shared as those of [`get`](Loading::get) are. A key for which `load`
+    /// returns nothing isn't in the map, unless its entry was due: then it has the old value. Others that wait for such a key ask again.
+    /// What `load` returns for other keys is dropped.
     ///
     /// Errors are those of `get`, and in that order. `Load` comes if `load` fails and a key has no old value; all loads of that call of
     /// `load` have failed then. If it panics, they end and this call panics; whoever shares one asks again. Holds no lock while it loads

@@ -266,6 +266,30 @@ fn the_listener_is_told_once_all_loads_have_landed_and_may_ask_for_their_keys() 
 }
 
 #[test]
+fn an_entry_that_expires_while_another_call_loads_its_key_is_told_once_the_loads_have_landed() {
+    static CACHE: OnceLock<Cache> = OnceLock::new();
+    static TOLD: Mutex<Vec<(u64, u64, Cause)>> = Mutex::new(vec![]);
+    within_a_minute(|| {
+        let cache = CACHE.get_or_init(|| {
+            Cache::open(&Setup { refresh: 5, after_write: 10, ..SETUP }).unwrap().with_listener(|left| {
+                let got = CACHE.get().unwrap().get_at(&1, 10, || unreachable!("it is there"));
+                assert_eq!(got, Ok(Arc::new(100)));
+                TOLD.lock().unwrap().push((*left.key, *left.value, left.cause));
+            })
+        });
+        cache.store_at(&5, 7.into(), 1, 0).unwrap();
+        // It is due at 6, and has expired at 10, while its load is open.
+        let got = cache.get_at(&5, 6, || {
+            let found = cache.get_many_at(&[1, 5], 10, |absent| Ok(hundreds(absent)));
+            assert_eq!(found, Err(GetError::WaitsForItself));
+            Ok((8, 1))
+        });
+        assert_eq!((got, TOLD.lock().unwrap().clone()), (Ok(Arc::new(8)), vec![(5, 7, Cause::Expired)]));
+        holds_exactly(cache);
+    });
+}
+
+#[test]
 fn a_change_during_the_loader_keeps_that_key_s_value_out() {
     let cache = Cache::open(&SETUP).unwrap();
     let found = cache.get_many(&[1, 2, 3], |absent| {
