@@ -92,8 +92,8 @@ class Mapping(CacheTest):
 
     def test_calls_that_are_given_wrong_arguments_name_the_right_ones(self):
         cache = Cache(entries=10)
-        for call, text in ((lambda: cache.get_or_load("a"), "get_or_load(key, load, timeout=None)"), (lambda: cache.look(), "look(key, default=None)"),
-                           (lambda: cache.put("a", 1, 2), "put(key, value)"), (lambda: cache.look("a", key="b"), "look(key, default=None)"),
+        for call, text in ((lambda: cache.get_or_load("a"), "get_or_load(key, load, timeout=None, ttl=None)"), (lambda: cache.look(), "look(key, default=None)"),
+                           (lambda: cache.put("a", 1, 2, 3), "put(key, value, ttl=None)"), (lambda: cache.look("a", key="b"), "look(key, default=None)"),
                            (lambda: cache.pop(name="a"), "pop(key[, default])")):
             with self.assertRaises(TypeError) as caught:
                 call()

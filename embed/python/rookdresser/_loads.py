@@ -5,10 +5,13 @@ import asyncio
 import inspect
 import warnings
 from collections.abc import Coroutine
-from typing import Any, Awaitable, Callable, Dict, Generic, Hashable, Iterable, List, Mapping, Optional, Tuple, TypeVar, Union
+from typing import TYPE_CHECKING, Any, Awaitable, Callable, Dict, Generic, Hashable, Iterable, List, Mapping, Optional, Tuple, TypeVar, Union
 
 from ._native import Load, Table
 from ._waits import wait_in_loop, waits
+
+if TYPE_CHECKING:
+    from ._native import Ttl
 
 K = TypeVar("K", bound=Hashable)
 V = TypeVar("V")
@@ -31,7 +34,7 @@ class Asked(Generic[K, V]):
 class Loads(Table[K, V]):
     """A cache's calls that make loads in Python."""
 
-    async def aget_or_load(self, key: K, load: Callable[[K], Union[V, Awaitable[V]]]) -> V:
+    async def aget_or_load(self, key: K, load: Callable[[K], Union[V, Awaitable[V]]], ttl: Ttl[K, V] = None) -> V:
         """Returns what get_or_load returns, for a task: neither the load nor the wait for another's blocks the loop.
 
         `load` may return an awaitable. To give up a wait, use asyncio.wait_for or asyncio.timeout.
@@ -54,7 +57,7 @@ class Loads(Table[K, V]):
                     if of is None:
                         return value  # type: ignore[return-value]
                     if of is mine:
-                        return await self._make(key, mine, load)
+                        return await self._make(key, mine, load, ttl)
                 except BaseException as error:
                     # It has ended, unless an interrupt struck.
                     self._fail(mine, error)
@@ -79,12 +82,12 @@ class Loads(Table[K, V]):
         warnings.warn("call aget_or_load in place of aget", DeprecationWarning, stacklevel=2)
         return self.aget_or_load(key, load)
 
-    async def _make(self, key: K, mine: Load[V], load: Callable[[K], Union[V, Awaitable[V]]]) -> V:
+    async def _make(self, key: K, mine: Load[V], load: Callable[[K], Union[V, Awaitable[V]]], ttl: Ttl[K, V]) -> V:
         """Makes a load in this task."""
         try:
             loaded = load(key)
             value: V = await loaded if inspect.isawaitable(loaded) else loaded
-            return self._land(mine, value)
+            return self._land(mine, value, ttl)
         except BaseException as error:
             if self._fail(mine, error):
                 return mine.old  # type: ignore[return-value]

@@ -2,10 +2,10 @@
 #include "native.h"
 
 static PyObject *table_get_or_load(Table *self, PyObject *const *args, Py_ssize_t count, PyObject *names) {
-    static const char *const known[] = {"key", "load", "timeout", "get_or_load(key, load, timeout=None)"};
-    PyObject *given[3];
-    if (arguments(args, count, names, 2, 3, known, given) < 0) return NULL;
-    return get(self, given[0], &(Loader){given[1], NULL, NULL}, given[2]);
+    static const char *const known[] = {"key", "load", "timeout", "ttl", "get_or_load(key, load, timeout=None, ttl=None)"};
+    PyObject *given[4];
+    if (arguments(args, count, names, 2, 4, known, given) < 0) return NULL;
+    return get(self, given[0], &(Loader){given[1], NULL, NULL, given[3]}, given[2]);
 }
 
 /* 1 with the value, 0, or -1. With `takes` the entry is dropped in the same step. */
@@ -55,7 +55,7 @@ static PyObject *table_look(Table *self, PyObject *const *args, Py_ssize_t count
 static SELDOM PyObject *get_as_before(Table *self, PyObject *key, PyObject *load, PyObject *timeout) {
     static const char why[] = "get(key, load) will only look from version 1.0 on: call get_or_load(key, load)";
     if (PyErr_WarnEx(PyExc_DeprecationWarning, why, 1) < 0) return NULL;
-    return get(self, key, &(Loader){load, NULL, NULL}, timeout);
+    return get(self, key, &(Loader){load, NULL, NULL, NULL}, timeout);
 }
 
 static PyObject *table_get(Table *self, PyObject *const *args, Py_ssize_t count, PyObject *names) {
@@ -131,12 +131,15 @@ int table_contains(Table *self, PyObject *key) {
 }
 
 /* Stores the value, or returns 1 with the value that is there if the caller asks for it; 0, or -1. */
-static int put(Table *self, PyObject *key, PyObject *value, PyObject **there) {
+static int put(Table *self, PyObject *key, PyObject *value, PyObject *ttl, PyObject **there) {
     uint64_t weight, now, hash, number, fault = 0;
+    uint32_t life;
     rd_answer answer;
+    rd_notice first;
     Use *left = NULL;
     int is_found = -1, is_there = 0;
-    if (weight_of(self, key, value, &weight) < 0 || now_of(self, &now) < 0 || hash_of(self, key, &hash) < 0) return -1;
+    if (weight_of(self, key, value, &weight) < 0 || life_of(ttl, key, value, &life) < 0) return -1;
+    if (now_of(self, &now) < 0 || hash_of(self, key, &hash) < 0) return -1;
     Use *use = zeroed(sizeof(Use));
     if (!use) return PyErr_NoMemory(), -1;
     use->key = key, use->value = value;
@@ -151,7 +154,7 @@ static int put(Table *self, PyObject *key, PyObject *value, PyObject **there) {
         Py_INCREF(*there);
     }
     if (is_found == 0 && self->advice) follow(self, cache, now);
-    if (is_found == 0 && !(fault = rd_put(cache, number, token, now, &answer))) {
+    if (is_found == 0 && !(fault = rd_put_for(cache, number, token, life, now, &answer, &first))) {
         link_use(self, use, hash, number);
         use = NULL;
         take_left(self, cache, &answer, &left);
@@ -163,9 +166,9 @@ static int put(Table *self, PyObject *key, PyObject *value, PyObject **there) {
 }
 
 static PyObject *table_put(Table *self, PyObject *const *args, Py_ssize_t count, PyObject *names) {
-    static const char *const known[] = {"key", "value", "put(key, value)"};
-    PyObject *given[2];
-    if (arguments(args, count, names, 2, 2, known, given) < 0 || put(self, given[0], given[1], NULL) < 0) return NULL;
+    static const char *const known[] = {"key", "value", "ttl", "put(key, value, ttl=None)"};
+    PyObject *given[3];
+    if (arguments(args, count, names, 2, 3, known, given) < 0 || put(self, given[0], given[1], given[2], NULL) < 0) return NULL;
     Py_RETURN_NONE;
 }
 
@@ -175,7 +178,7 @@ static PyObject *table_setdefault(Table *self, PyObject *const *args, Py_ssize_t
     PyObject *given[2], *value = NULL;
     if (arguments(args, count, names, 1, 2, known, given) < 0) return NULL;
     int is_there = look(self, given[0], 0, &value);
-    if (is_there == 0) is_there = put(self, given[0], given[1] ? given[1] : Py_None, &value);
+    if (is_there == 0) is_there = put(self, given[0], given[1] ? given[1] : Py_None, NULL, &value);
     return found_or(is_there, value, given[1]);
 }
 
@@ -202,7 +205,7 @@ static PyObject *table_drop(Table *self, PyObject *key) { return truth_of(by_key
 static PyObject *table_forget(Table *self, PyObject *key) { return truth_of(by_key(self, key, rd_forget)); }
 
 int table_set_item(Table *self, PyObject *key, PyObject *value) {
-    if (value) return put(self, key, value, NULL);
+    if (value) return put(self, key, value, NULL, NULL);
     int was_there = by_key(self, key, rd_drop_key);
     if (was_there == 0) missing(key);
     return was_there > 0 ? 0 : -1;
@@ -210,12 +213,13 @@ int table_set_item(Table *self, PyObject *key, PyObject *value) {
 
 PyMethodDef call_methods[] = {
     {"get_or_load", METHOD(table_get_or_load), FAST,
-     "get_or_load($self, key, load, timeout=None)\n--\n\n"
+     "get_or_load($self, key, load, timeout=None, ttl=None)\n--\n\n"
      "Returns the key's value; if there is none, that of load(key), which all who ask meanwhile share.\n\n"
      "The value's age counts from this call, not from the end of the load. If an entry is due for a refresh, the first caller that asks\n"
      "loads it and gets the new value, or the old one if that load fails. What `load` raises is raised in all who share it, but for\n"
      "SystemExit, KeyboardInterrupt and the like: then the others ask again. `timeout`, in seconds or a timedelta, limits how long\n"
-     "another's load is waited for: then TimeoutError is raised. WaitsForItself is raised if the load waits for this caller.\n\n"
+     "another's load is waited for: then TimeoutError is raised. WaitsForItself is raised if the load waits for this caller.\n"
+     "`ttl` gives a value that this caller loads a life of its own, as it does of put, which counts from this call.\n\n"
      ">>> cache.get_or_load(\"a\", str.upper), cache.get_or_load(\"a\", str.lower)\n"
      "('A', 'A')"},
     {"get", METHOD(table_get), FAST,
@@ -237,11 +241,18 @@ PyMethodDef call_methods[] = {
      ">>> cache.peek(\"a\"), \"a\" in cache, cache.stats().hits\n"
      "(1, True, 0)"},
     {"put", METHOD(table_put), FAST,
-     "put($self, key, value)\n--\n\n"
+     "put($self, key, value, ttl=None)\n--\n\n"
      "Stores the value under the key. An open load of the key will store nothing.\n\n"
-     ">>> cache.put(\"a\", 1)\n"
-     ">>> cache.look(\"a\")\n"
-     "1"},
+     "`ttl` is the entry's life: it expires so long after it was written, or earlier by the cache's durations. It is a whole number of\n"
+     "milliseconds, a timedelta, None for no life, or ttl(key, value) that returns one of these. Less than a millisecond counts as one,\n"
+     "and more than 2^32 - 1 (49 days) as none. The next store of the key gives its entry another life, or none.\n\n"
+     ">>> now = 0\n"
+     ">>> cache = Cache(entries=10, clock=lambda: now)\n"
+     ">>> cache.put(\"a\", 1, ttl=5)\n"
+     ">>> cache.put(\"b\", 2)\n"
+     ">>> now = 5\n"
+     ">>> cache.look(\"a\"), cache.look(\"b\")\n"
+     "(None, 2)"},
     {"setdefault", METHOD(table_setdefault), FAST,
      "setdefault($self, key, default=None)\n--\n\n"
      "Returns the key's value if it is there, which is a use; else stores `default`, as put does, and returns it.\n\n"

@@ -21,7 +21,7 @@ static PyObject *function_call(Function *self, PyObject *args, PyObject *names) 
     if (!key) return NULL;
     Table *table = self->table;
     Py_INCREF((PyObject *)table);
-    PyObject *value = get(table, key, &(Loader){self->function, args, names}, NULL);
+    PyObject *value = get(table, key, &(Loader){self->function, args, names, NULL}, NULL);
     Py_DECREF((PyObject *)table);
     Py_DECREF(key);
     return value;

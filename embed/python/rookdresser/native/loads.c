@@ -110,28 +110,31 @@ int fail(Table *self, Load *load, PyObject *error) {
     return told_of(self, load, left) < 0 ? -1 : is_old;
 }
 
-/* Ends the load with a value, which is stored if it may be. -1 with an exception: of weigh, and the load is open; or else of on_leave. */
-int land(Table *self, Load *load, PyObject *value) {
+/* Ends the load with a value, which is stored if it may be. -1 with an exception: of weigh or ttl, and the load is open; or else of
+ * on_leave. */
+int land(Table *self, Load *load, PyObject *value, PyObject *ttl) {
     Use *use = NULL, *left = NULL;
     PyObject *key = NULL;
     uint64_t weight = 0;
+    uint32_t life = 0;
     int has_ended = 0;
     STEP
     if (load->is_open && load->table == self) key = load->use->key;
     Py_XINCREF(key);
     END_STEP
     if (!key) return 0; /* it has ended already */
-    int weighed = weight_of(self, key, value, &weight);
+    int asked = weight_of(self, key, value, &weight) < 0 ? -1 : life_of(ttl, key, value, &life);
     Py_DECREF(key);
-    if (weighed < 0) return -1;
+    if (asked < 0) return -1;
     STEP
     if (load->is_open) {
         rd_answer answer;
+        rd_notice first;
         uint64_t hash = load->use->hash, number = load->use->number;
         rd_cache *cache = shard_of(self, number);
         rd_token token = {(uintptr_t)load->use, (uint32_t)weight};
         if (self->advice) follow(self, cache, load->now);
-        uint64_t fault = rd_land_keep(cache, load->id, number, token, load->now, &answer);
+        uint64_t fault = rd_land_for(cache, load->id, number, token, life, load->now, &answer, &first);
         use = ended(self, load);
         left = load->left, load->left = NULL;
         Py_INCREF(value);
@@ -188,7 +191,7 @@ static PyObject *made(Table *self, PyObject *key, Load *load, const Loader *load
     PyObject *value = loop ? loaded(key, loader) : NULL;
     Py_XDECREF(loop);
     const char *why = loader->args ? "the function returned a coroutine, and isn't an async function" : "load returned a coroutine: use aget_or_load";
-    if (value && (refuse_coroutine(self, value, why) < 0 || land(self, load, value) < 0)) Py_CLEAR(value);
+    if (value && (refuse_coroutine(self, value, why) < 0 || land(self, load, value, loader->ttl) < 0)) Py_CLEAR(value);
     return value ? value : failed(self, load);
 }
 

@@ -113,9 +113,9 @@ typedef struct {
     uint64_t refused[FAULTS];
 } Table;
 
-/* What makes a value: function(key), or function(*args, **names) if there are args. */
+/* What makes a value: function(key), or function(*args, **names) if there are args; and the ttl of what it returns, or null. */
 typedef struct {
-    PyObject *function, *args, *names;
+    PyObject *function, *args, *names, *ttl;
 } Loader;
 
 /* table.c: the uses, by the numbers of their keys. */
@@ -144,6 +144,7 @@ int whole(PyObject *given, int bits, const char *what, uint64_t *number);
 int now_of(Table *self, uint64_t *now);
 long long nanoseconds(void);
 int weight_of(Table *self, PyObject *key, PyObject *value, uint64_t *weight);
+int life_of(PyObject *ttl, PyObject *key, PyObject *value, uint32_t *life);
 void refuse(Table *self, uint64_t fault);
 int tell(Table *self, Use *left);
 PyObject *truth_of(int is_true);
@@ -154,7 +155,7 @@ int hash_of(Table *self, PyObject *key, uint64_t *hash);
 
 /* loads.c: how a load begins and ends. */
 int seek(Table *self, PyObject *key, Load *mine, PyObject **found);
-int land(Table *self, Load *load, PyObject *value);
+int land(Table *self, Load *load, PyObject *value, PyObject *ttl);
 int fail(Table *self, Load *load, PyObject *error);
 PyObject *failed(Table *self, Load *load);
 PyObject *shared(Load *load);

@@ -27,10 +27,10 @@ static PyObject *table_seek(Table *self, PyObject *args) {
 }
 
 static PyObject *table_land(Table *self, PyObject *args) {
-    PyObject *load, *value;
+    PyObject *load, *value, *ttl = NULL;
     static const char why[] = "the loaded value is a coroutine, which could be awaited once";
-    if (!PyArg_ParseTuple(args, "OO", &load, &value) || !own(self, load)) return NULL;
-    if (refuse_coroutine(self, value, why) < 0 || land(self, (Load *)load, value) < 0) return NULL;
+    if (!PyArg_ParseTuple(args, "OO|O", &load, &value, &ttl) || !own(self, load)) return NULL;
+    if (refuse_coroutine(self, value, why) < 0 || land(self, (Load *)load, value, ttl) < 0) return NULL;
     Py_INCREF(value);
     return value;
 }
@@ -78,7 +78,7 @@ PyMethodDef python_load_methods[] = {
     {"_seek", METHOD(table_seek), METH_VARARGS,
      "Looks the key up, and joins a load or opens the given one, of this task or else of this thread, with the loop that runs in it:\n"
      "(value, None), or (None, the load)."},
-    {"_land", METHOD(table_land), METH_VARARGS, "Ends an open load with a value, and returns that."},
+    {"_land", METHOD(table_land), METH_VARARGS, "Ends an open load with a value, which has a ttl or None, and returns that."},
     {"_fail", METHOD(table_fail), METH_FASTCALL,
      "Ends a load, if it is open, with an exception. Returns whether the caller gets the old value."},
     {"_fail_all", METHOD(table_fail_all), METH_FASTCALL, "Ends each load of a list that is open with an exception."},
