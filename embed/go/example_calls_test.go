@@ -275,6 +275,61 @@ func ExampleWeigh() {
 	// 6
 }
 
+func ExampleCache_PutFor() {
+	now := time.UnixMilli(0)
+	c := opened(rookdresser.Setup{Entries: 1000, Clock: func() time.Time { return now }})
+	defer c.Close()
+	if err := c.PutFor("a session", "a name", 1, time.Minute); err != nil {
+		log.Fatal(err)
+	}
+	now = now.Add(time.Minute - 1)
+	fmt.Println(c.Look("a session"))
+	now = now.Add(1)
+	fmt.Println(c.Look("a session"))
+	// Output:
+	// a name true <nil>
+	//  false <nil>
+}
+
+func ExampleCache_GetFor() {
+	now := time.UnixMilli(0)
+	c := opened(rookdresser.Setup{Entries: 1000, Clock: func() time.Time { return now }})
+	defer c.Close()
+	fetch := func(context.Context) (string, uint32, time.Duration, error) {
+		maxAge := time.Minute // of an answer by HTTP
+		return "a page", 1, maxAge, nil
+	}
+	fmt.Println(c.GetFor(context.Background(), "an address", fetch))
+	now = now.Add(time.Minute)
+	fmt.Println(c.Contains("an address"))
+	// Output:
+	// a page <nil>
+	// false
+}
+
+func ExampleLife() {
+	now := time.UnixMilli(0)
+	c, err := rookdresser.Open(rookdresser.Setup{Entries: 1000, Clock: func() time.Time { return now }},
+		rookdresser.Life(func(_ string, text string) time.Duration {
+			if text == "" {
+				return time.Second // There may soon be one.
+			}
+			return rookdresser.Forever
+		}))
+	if err != nil {
+		log.Fatal(err)
+	}
+	defer c.Close()
+	for _, key := range []string{"", "a text"} {
+		if err := c.Store(key, key); err != nil {
+			log.Fatal(err)
+		}
+	}
+	now = now.Add(time.Second)
+	fmt.Printf("%q\n", c.Keys())
+	// Output: ["a text"]
+}
+
 func ExampleCache_Store() {
 	c := opened(rookdresser.Setup{Entries: 1000})
 	defer c.Close()

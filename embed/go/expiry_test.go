@@ -28,10 +28,31 @@ func (h *hand) step(random *rand.Rand) {
 	}
 }
 
-// A lived entry is what the model knows of one: since when.
+// A lived entry is what the model knows of one: since when, and its own life if it isn't 0.
 type lived struct {
-	value         string
-	written, used int64
+	value               string
+	written, used, life int64
+}
+
+// someLife returns a life below so many milliseconds, or half of the time 0 for none.
+func someLife(random *rand.Rand, below int) int64 { return int64(random.Intn(2) * random.Intn(below)) }
+
+// putFor stores the value with a life, or none.
+func putFor(c *Cache[uint64, string], key uint64, value string, life int64) error {
+	if life == 0 {
+		return c.Put(key, value, 1)
+	}
+	return c.PutFor(key, value, 1, time.Duration(life)*time.Millisecond)
+}
+
+// gotFor returns a value with a life, or none.
+func gotFor(value string, life int64) func(context.Context) (string, uint32, time.Duration, error) {
+	return func(context.Context) (string, uint32, time.Duration, error) {
+		if life == 0 {
+			return value, 1, Forever, nil
+		}
+		return value, 1, time.Duration(life) * time.Millisecond, nil
+	}
 }
 
 func TestNoExpiredValueIsReturnedAndEachOtherIs(t *testing.T) {
@@ -41,23 +62,24 @@ func TestNoExpiredValueIsReturnedAndEachOtherIs(t *testing.T) {
 		c := open(t, s)
 		lives := func(key uint64) bool {
 			at, there := model[key]
-			return there && (mix[0] == 0 || latest-at.written < mix[0]) && (mix[1] == 0 || latest-at.used < mix[1])
+			return there && (mix[0] == 0 || latest-at.written < mix[0]) && (mix[1] == 0 || latest-at.used < mix[1]) &&
+				(at.life == 0 || latest-at.written < at.life)
 		}
 		for turn := 0; turn < 20_000; turn++ {
 			clock.step(random)
 			if at := clock.at.Load(); at > latest {
 				latest = at
 			}
-			key, value := uint64(random.Intn(50)), fmt.Sprint(turn)
+			key, value, life := uint64(random.Intn(50)), fmt.Sprint(turn), someLife(random, 80)
 			if lives(key) != c.Contains(key) {
 				t.Fatal(mix, turn, key, lives(key), model[key])
 			}
 			switch random.Intn(4) {
 			case 0:
-				if err := c.Put(key, value, 1); err != nil {
+				if err := putFor(c, key, value, life); err != nil {
 					t.Fatal(err)
 				}
-				model[key] = lived{value, latest, latest}
+				model[key] = lived{value, latest, latest, life}
 			case 1:
 				if there, err := c.Drop(key); err != nil || there != lives(key) {
 					t.Fatal(mix, turn, key, there, err)
@@ -65,13 +87,13 @@ func TestNoExpiredValueIsReturnedAndEachOtherIs(t *testing.T) {
 				delete(model, key)
 			case 2:
 				was, live := model[key], lives(key)
-				v, err := c.Get(ctx, key, got(value))
+				v, err := c.GetFor(ctx, key, gotFor(value, life))
 				due := mix[2] != 0 && latest-was.written >= mix[2]
 				if err != nil || live && !due && v != was.value || (!live || due) && v != value {
 					t.Fatal(mix, turn, key, v, was, err)
 				}
 				if was.used = latest; !live || due {
-					was = lived{value, latest, latest}
+					was = lived{value, latest, latest, life}
 				}
 				model[key] = was
 			default:
@@ -80,7 +102,7 @@ func TestNoExpiredValueIsReturnedAndEachOtherIs(t *testing.T) {
 					t.Fatal(mix, turn, key, v, found, model[key], err)
 				}
 				if found {
-					model[key] = lived{v, model[key].written, latest}
+					model[key] = lived{v, model[key].written, latest, model[key].life}
 				}
 			}
 			if turn%500 == 0 {
@@ -140,7 +162,7 @@ func TestTheLibraryAnswersAsIfItHadBeenToldEachHitAtOnce(t *testing.T) {
 		for turn := 0; turn < 10_000; turn++ {
 			clock.step(random)
 			now := c.clock.now()
-			key, made := uint64(random.Intn(60)), false
+			key, life, made := uint64(random.Intn(60)), someLife(random, 80), false
 			if other := uint64(random.Intn(60)); other < key {
 				key = other
 			}
@@ -157,20 +179,24 @@ func TestTheLibraryAnswersAsIfItHadBeenToldEachHitAtOnce(t *testing.T) {
 				fault = beside.seek(key, now)
 				hit, leads, id := beside.isHit(), beside.leads(), beside.number()
 				wanted := beside.left()
-				_, _ = c.Get(ctx, key, func(context.Context) (string, uint32, error) { made = true; return "", uint32(key % 3), nil })
+				_, _ = c.GetFor(ctx, key, func(context.Context) (v string, weight uint32, _ time.Duration, _ error) {
+					made = true
+					_, _, lives, _ := gotFor("", life)(ctx)
+					return "", uint32(key % 3), lives, nil
+				})
 				if made != leads || !leads && !hit {
 					t.Fatal(mix, turn, key, made)
 				}
 				if leads {
-					fault = beside.land(id, key, beside.token(key), uint32(key%3), now)
+					fault = beside.land(id, key, beside.token(key), uint32(key%3), uint32(life), now)
 				}
 				if sameLeft(t, told, append(wanted, beside.leftIf(leads)...)); fault != 0 {
 					t.Fatal(fault)
 				}
 				continue
 			case what < 10:
-				fault = beside.put(key, beside.token(key), 1, now)
-				_ = c.Put(key, "", 1)
+				fault = beside.put(key, beside.token(key), 1, uint32(life), now)
+				_ = putFor(c, key, "", life)
 			case what < 11:
 				fault = beside.drop(key, now)
 				_, _ = c.Drop(key)

@@ -103,8 +103,8 @@ static uint64_t drop(side *s, uint64_t key, uint64_t now) {
 	return told_with_notice(s, rd_drop_key_with_notice(at(s), key, now, &s->answer, s->notices));
 }
 
-static uint64_t put(side *s, uint64_t key, uint64_t token, uint32_t weight, uint64_t now) {
-	return told_with_notice(s, rd_put_with_notice(at_border(s), key, (rd_token){token, weight}, now, &s->answer, s->notices));
+static uint64_t put(side *s, uint64_t key, uint64_t token, uint32_t weight, uint32_t life, uint64_t now) {
+	return told_with_notice(s, rd_put_for(at_border(s), key, (rd_token){token, weight}, life, now, &s->answer, s->notices));
 }
 
 static void tell_hits(side *s) { at_border(s); }
@@ -114,8 +114,8 @@ static uint64_t land_failed(side *s, uint64_t id, uint64_t key, uint64_t now) {
 }
 
 // Where memory is refused the value isn't stored, and the load is closed.
-static uint64_t land(side *s, uint64_t id, uint64_t key, uint64_t token, uint32_t weight, uint64_t now) {
-	if (!rd_land_keep_with_notice(at_border(s), id, key, (rd_token){token, weight}, now, &s->answer, s->notices)) return told_with_notice(s, 0);
+static uint64_t land(side *s, uint64_t id, uint64_t key, uint64_t token, uint32_t weight, uint32_t life, uint64_t now) {
+	if (!rd_land_for(at_border(s), id, key, (rd_token){token, weight}, life, now, &s->answer, s->notices)) return told_with_notice(s, 0);
 	return told(s, rd_land_loose(at(s), id, key, now, &s->answer));
 }
 */
@@ -178,13 +178,14 @@ func (l library) seek(key, now uint64) Fault {
 	return Fault(C.seek(l.ready(), C.uint64_t(key), C.uint64_t(now)))
 }
 
-func (l library) put(key, token uint64, weight uint32, now uint64) Fault {
-	return Fault(C.put(l.ready(), C.uint64_t(key), C.uint64_t(token), C.uint32_t(weight), C.uint64_t(now)))
+// put stores a value with a life in milliseconds, or with none if that is 0.
+func (l library) put(key, token uint64, weight, life uint32, now uint64) Fault {
+	return Fault(C.put(l.ready(), C.uint64_t(key), C.uint64_t(token), C.uint32_t(weight), C.uint32_t(life), C.uint64_t(now)))
 }
 
 // land closes a load with a value, and isStored says whether it was stored then.
-func (l library) land(id, key, token uint64, weight uint32, now uint64) Fault {
-	return Fault(C.land(l.ready(), C.uint64_t(id), C.uint64_t(key), C.uint64_t(token), C.uint32_t(weight), C.uint64_t(now)))
+func (l library) land(id, key, token uint64, weight, life uint32, now uint64) Fault {
+	return Fault(C.land(l.ready(), C.uint64_t(id), C.uint64_t(key), C.uint64_t(token), C.uint32_t(weight), C.uint32_t(life), C.uint64_t(now)))
 }
 
 func (l library) landFailed(id, key, now uint64) Fault {

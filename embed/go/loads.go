@@ -16,7 +16,7 @@ type load[K comparable, V any] struct {
 	row             int32
 	done            chan struct{} // there is one once another goroutine has joined
 	value           V
-	weight          uint32
+	weight, life    uint32
 	err             error
 }
 
@@ -40,6 +40,16 @@ type sought[K comparable, V any] struct {
 // The error is fetch's, ctx's (context.Canceled if ctx has ended and gives none), ErrPanicked, ErrWaitsForItself, ErrNotLoaded,
 // ErrTooManyFlights, ErrOutOfMemory or ErrClosed.
 func (c *Cache[K, V]) Get(ctx context.Context, key K, fetch func(context.Context) (V, uint32, error)) (V, error) {
+	return c.get(ctx, key, func(ctx context.Context) (v V, weight, life uint32, err error) {
+		v, weight, err = fetch(ctx)
+		return v, weight, 0, err
+	})
+}
+
+// A fetcher returns a value with its weight, and its life in milliseconds or 0.
+type fetcher[V any] func(context.Context) (v V, weight, life uint32, err error)
+
+func (c *Cache[K, V]) get(ctx context.Context, key K, fetch fetcher[V]) (V, error) {
 	found, err := c.seek(key)
 	switch {
 	case found.lead != nil:
@@ -96,11 +106,11 @@ func (s *shard[K, V]) join(at int32) *load[K, V] {
 }
 
 // lead makes the load. What left by the seek is told once the load has landed, so that a listener may ask for the key.
-func (c *Cache[K, V]) lead(ctx context.Context, found sought[K, V], fetch func(context.Context) (V, uint32, error)) (V, error) {
+func (c *Cache[K, V]) lead(ctx context.Context, found sought[K, V], fetch fetcher[V]) (V, error) {
 	of, left, begun := found.lead, found.left, c.clock.elapsed()
 	defer func() { c.tell(append(left, of.land(c.clock.elapsed()-begun, c.listener != nil)...)) }()
 	of.ctx = lasting{ctx}
-	of.value, of.weight, of.err = fetch(&of.ctx)
+	of.value, of.weight, of.life, of.err = fetch(&of.ctx)
 	if found.isHit && of.err != nil {
 		return found.value, nil
 	}
@@ -134,8 +144,8 @@ func (l *load[K, V]) land(took time.Duration, listens bool) []Left[K, V] {
 // store lands a value. If it is stored, the load's use of the row becomes the entry's. In a closed cache there is no load to close.
 func (s *shard[K, V]) store(of *load[K, V]) {
 	token := s.table.keep(of.value)
-	if s.lib.land(of.id, of.number, token, of.weight, s.moment(of.now)) == 0 && s.lib.isStored() {
-		s.table.store(token, of.row, s.latest.Load())
+	if s.lib.land(of.id, of.number, token, of.weight, of.life, s.moment(of.now)) == 0 && s.lib.isStored() {
+		s.table.store(token, of.row, of.life, s.latest.Load())
 		return
 	}
 	s.stats.Loose++

@@ -21,6 +21,16 @@ type Weighed[V any] struct {
 func (c *Cache[K, V]) GetMany(
 	ctx context.Context, keys []K, fetch func(context.Context, []K) (map[K]Weighed[V], error),
 ) (map[K]V, error) {
+	return c.getMany(ctx, keys, func(ctx context.Context, absent []K) (map[K]Weighed[V], map[K]uint32, error) {
+		fetched, err := fetch(ctx, absent)
+		return fetched, nil, err
+	})
+}
+
+// A manyFetcher returns values with their weights, and the lives of those that have one.
+type manyFetcher[K comparable, V any] func(context.Context, []K) (map[K]Weighed[V], map[K]uint32, error)
+
+func (c *Cache[K, V]) getMany(ctx context.Context, keys []K, fetch manyFetcher[K, V]) (map[K]V, error) {
 	found := make(map[K]V, len(keys))
 	var joined []join[K, V]
 	var first error
@@ -56,9 +66,7 @@ type batch[K comparable, V any] struct {
 
 // makeBatch begins loads of the keys and makes them, and returns the keys that are left to seek. The time of a batch is counted
 // once. If a hash, a clock or fetch panics, the loads that were begun end.
-func (c *Cache[K, V]) makeBatch(
-	ctx context.Context, b *batch[K, V], keys []K, fetch func(context.Context, []K) (map[K]Weighed[V], error),
-) (rest []K, err error) {
+func (c *Cache[K, V]) makeBatch(ctx context.Context, b *batch[K, V], keys []K, fetch manyFetcher[K, V]) (rest []K, err error) {
 	begun := c.clock.elapsed()
 	defer func() {
 		took := c.clock.elapsed() - begun
@@ -100,7 +108,7 @@ func (c *Cache[K, V]) begin(b *batch[K, V], keys []K) ([]K, error) {
 }
 
 // load gives the loads what was fetched, and returns why it failed if a key has no old value either.
-func (b *batch[K, V]) load(fetched map[K]Weighed[V], failed error) (err error) {
+func (b *batch[K, V]) load(fetched map[K]Weighed[V], lives map[K]uint32, failed error) (err error) {
 	for i, of := range b.leads {
 		key := b.absent[i]
 		got, there := fetched[key]
@@ -110,7 +118,7 @@ func (b *batch[K, V]) load(fetched map[K]Weighed[V], failed error) (err error) {
 				err = failed
 			}
 		} else if there {
-			of.value, of.weight, of.err = got.Value, got.Weight, nil
+			of.value, of.weight, of.life, of.err = got.Value, got.Weight, lives[key], nil
 			b.found[key] = got.Value
 		} else {
 			of.err = ErrNotLoaded

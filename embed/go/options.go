@@ -29,27 +29,38 @@ func (c *Cache[K, V]) weightOf(key K, v V) uint32 {
 	return c.weigh(key, v)
 }
 
-// Store is Put with the weight that Weigh returns.
-func (c *Cache[K, V]) Store(key K, v V) error { return c.Put(key, v, c.weightOf(key, v)) }
+// Store is Put, or PutFor, with the weight that Weigh returns and the life that Life does.
+func (c *Cache[K, V]) Store(key K, v V) error {
+	weight := c.weightOf(key, v)
+	return c.put(key, v, weight, c.lifeOf(key, v))
+}
 
-// GetWith is Get with the weight that Weigh returns.
+// GetWith is Get, or GetFor, with the weight that Weigh returns and the life that Life does.
 func (c *Cache[K, V]) GetWith(ctx context.Context, key K, fetch func(context.Context) (V, error)) (V, error) {
-	return c.Get(ctx, key, func(ctx context.Context) (v V, weight uint32, err error) {
+	return c.get(ctx, key, func(ctx context.Context) (v V, weight, life uint32, err error) {
 		if v, err = fetch(ctx); err == nil {
 			weight = c.weightOf(key, v)
+			life = c.lifeOf(key, v)
 		}
-		return v, weight, err
+		return v, weight, life, err
 	})
 }
 
-// GetManyWith is GetMany with the weights that Weigh returns.
+// GetManyWith is GetMany with the weights that Weigh returns and the lives that Life does.
 func (c *Cache[K, V]) GetManyWith(ctx context.Context, keys []K, fetch func(context.Context, []K) (map[K]V, error)) (map[K]V, error) {
-	return c.GetMany(ctx, keys, func(ctx context.Context, absent []K) (map[K]Weighed[V], error) {
+	return c.getMany(ctx, keys, func(ctx context.Context, absent []K) (map[K]Weighed[V], map[K]uint32, error) {
 		values, err := fetch(ctx, absent)
 		weighed := make(map[K]Weighed[V], len(values))
+		var lives map[K]uint32
+		if c.life != nil {
+			lives = make(map[K]uint32, len(values))
+		}
 		for key, v := range values {
 			weighed[key] = Weighed[V]{v, c.weightOf(key, v)}
+			if lives != nil {
+				lives[key] = c.lifeOf(key, v)
+			}
 		}
-		return weighed, err
+		return weighed, lives, err
 	})
 }

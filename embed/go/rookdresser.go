@@ -6,6 +6,7 @@ package rookdresser
 import (
 	"hash/maphash"
 	"math/bits"
+	"time"
 )
 
 // A Cache holds values of type V by keys of type K, for many goroutines.
@@ -22,6 +23,7 @@ type Cache[K comparable, V any] struct {
 	clock    clock
 	listener func(Left[K, V])
 	weigh    func(K, V) uint32
+	life     func(K, V) time.Duration
 }
 
 // Open returns an empty cache. If a setting is out of its range, the error is ErrBadSetup and gives its name, its value and the range;
@@ -47,9 +49,15 @@ func newCache[K comparable, V any](s Setup, hash hasher[K], options []Option[K, 
 		return nil, err
 	}
 	// The clock is the caller's, and may panic.
-	c := &Cache[K, V]{hash: hash, clock: newClock(s)}
+	c := &Cache[K, V]{hash: hash, clock: clock{began: time.Now(), given: s.Clock}}
+	if s.AfterWrite != 0 || s.AfterAccess != 0 || s.Refresh != 0 {
+		c.clock.start()
+	}
 	for _, option := range options {
 		option(c)
+	}
+	if c.life != nil {
+		c.clock.start()
 	}
 	c.adviser = newAdviser(s)
 	for i, part := range parts {
@@ -121,9 +129,11 @@ func (c *Cache[K, V]) Keys() (keys []K) {
 
 // Put stores the value under the key, in place of one that is there. If the cache is full, the entry that leaves may be the new one
 // itself, if the others are used more. The error is ErrClosed, ErrTooHeavy or ErrOutOfMemory.
-func (c *Cache[K, V]) Put(key K, v V, weight uint32) error {
+func (c *Cache[K, V]) Put(key K, v V, weight uint32) error { return c.put(key, v, weight, 0) }
+
+func (c *Cache[K, V]) put(key K, v V, weight, life uint32) error {
 	s, hash, now := c.enter(key)
-	return c.leave(s, s.put(key, hash, v, weight, now))
+	return c.leave(s, s.put(key, hash, v, weight, life, now))
 }
 
 // Drop removes the key's entry, and returns whether there was one. An open load of the key will store nothing. The error is ErrClosed.

@@ -2,6 +2,8 @@ package rookdresser
 
 import (
 	"fmt"
+	"sync"
+	"sync/atomic"
 	"time"
 )
 
@@ -17,8 +19,9 @@ type Setup struct {
 	AfterWrite, AfterAccess time.Duration
 	// How long after its last write an entry is due for another load: less than AfterWrite, if both are set.
 	Refresh time.Duration
-	// Clock returns the moment of a call. It is called only if a duration is set, by many goroutines at once and with no lock held.
-	// nil stands for the time since Open, which doesn't jump. A moment before the latest one counts as the latest.
+	// Clock returns the moment of a call. It is called only if a duration is set or once a value gets a life, by many goroutines at
+	// once and with no lock held. nil stands for the time since Open, which doesn't jump. A moment before the latest one counts as the
+	// latest.
 	Clock func() time.Time
 	// Seeded says whether keys that are numbers are hashed under a random seed of the cache's own, as strings always are. Then an
 	// attacker who chooses keys can't aim at the library's tables.
@@ -188,25 +191,35 @@ func share[N uint32 | uint64](total, i, n N) N {
 	return total / n
 }
 
-// A clock tells the moments of a cache: milliseconds since it was opened.
+// A clock tells the moments of a cache: milliseconds since it was started. Until then all is at moment 0.
 type clock struct {
 	began  time.Time // by Go's own clock
 	opened time.Time // by the given one, if there is one
 	given  func() time.Time
-	isRead bool // no moment matters where no duration is set
+	mu     sync.Mutex
+	isRead atomic.Bool // no moment matters where no duration is set and no value has a life
 }
 
-func newClock(s Setup) clock {
-	c := clock{began: time.Now(), given: s.Clock, isRead: s.AfterWrite != 0 || s.AfterAccess != 0 || s.Refresh != 0}
-	if c.given != nil && c.isRead {
-		c.opened = c.given()
+// start has the moments read from now on. The caller's clock may panic: then nothing has changed.
+func (c *clock) start() {
+	if c.isRead.Load() {
+		return
 	}
-	return c
+	var opened time.Time
+	if c.given != nil {
+		opened = c.given()
+	}
+	c.mu.Lock()
+	defer c.mu.Unlock()
+	if !c.isRead.Load() {
+		c.opened = opened
+		c.isRead.Store(true)
+	}
 }
 
 // now returns the moment, which is 0 before the cache was opened.
 func (c *clock) now() uint64 {
-	if !c.isRead {
+	if !c.isRead.Load() {
 		return 0
 	}
 	since := c.elapsed()

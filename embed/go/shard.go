@@ -18,7 +18,7 @@ type shard[K comparable, V any] struct {
 	untold uint64   // hits of which the library will never hear
 	_      [64]byte // what a telling writes is apart from what each hit reads
 	table  table[K, V]
-	// As the library has them, never being the greatest: the durations, and how long a value is sure to be found and not due.
+	// As the library has them, never being the greatest: the durations, and how long a value without a life is sure to be found and not due.
 	afterWrite, afterAccess, sureFor uint64
 	// Of each hit as it is made. The library needn't have heard of it.
 	latest  moment
@@ -82,7 +82,8 @@ func (s *shard[K, V]) isThere(at int32, now uint64) bool {
 		return false
 	}
 	of := &s.table.slots[s.table.rows[at].slot]
-	return now-of.written < s.afterWrite && now-of.used < s.afterAccess
+	age := now - of.written
+	return age < s.afterWrite && now-of.used < s.afterAccess && (of.life == 0 || age < uint64(of.life))
 }
 
 // sureUntil returns the moment before which a look-up or a seek of the row surely hits; 0 if there is none.
@@ -90,8 +91,11 @@ func (s *shard[K, V]) sureUntil(at int32) uint64 {
 	if at == none || s.table.rows[at].slot == none {
 		return 0
 	}
-	written := s.table.slots[s.table.rows[at].slot].written
-	if until := written + s.sureFor; until >= written {
+	of, sureFor := &s.table.slots[s.table.rows[at].slot], s.sureFor
+	if of.life != 0 && uint64(of.life) < sureFor {
+		sureFor = uint64(of.life)
+	}
+	if until := of.written + sureFor; until >= of.written {
 		return until
 	}
 	return never
@@ -123,14 +127,14 @@ func (s *shard[K, V]) looked() (v V, found bool) {
 	return of.value, true
 }
 
-func (s *shard[K, V]) put(key K, hash uint64, v V, weight uint32, now uint64) error {
+func (s *shard[K, V]) put(key K, hash uint64, v V, weight, life uint32, now uint64) error {
 	at, number := s.table.find(key, hash)
 	token := s.table.keep(v)
-	if err := s.made(s.lib.put(number, token, weight, now), now); err != nil {
+	if err := s.made(s.lib.put(number, token, weight, life, now), now); err != nil {
 		s.table.drop(token)
 		return err
 	}
-	s.table.store(token, s.table.hold(at, key, hash, number), s.latest.Load())
+	s.table.store(token, s.table.hold(at, key, hash, number), life, s.latest.Load())
 	return nil
 }
 

@@ -17,6 +17,7 @@ type row[K comparable, V any] struct {
 type slot[V any] struct {
 	value         V
 	row           int32
+	life          uint32 // in milliseconds since it was written; 0 is none
 	written, used uint64 // as the library has them
 }
 
@@ -122,9 +123,9 @@ func (t *table[K, V]) keep(value V) (token uint64) {
 }
 
 // store makes the value that of the row, whose use the entry has from now on.
-func (t *table[K, V]) store(token uint64, at int32, now uint64) {
+func (t *table[K, V]) store(token uint64, at int32, life uint32, now uint64) {
 	of := &t.slots[token]
-	of.row, of.written, of.used = at, now, now
+	of.row, of.life, of.written, of.used = at, life, now, now
 	t.rows[at].slot = int32(token)
 }
 
