@@ -28,6 +28,8 @@ typedef rd_name_notice rd_loading_notice;
 #define RD_LOADING_OPEN rd_open_names
 #define RD_LOADING_NOTICE rd_get_notice_name
 #define RD_LOADING_CALL(call, cache, ...) call##_name(cache, __VA_ARGS__)
+#define RD_LOADING_PUT rd_put_name_for
+#define RD_LOADING_LAND rd_land_name_for
 #define RD_LOADING_KEY(key) (&(key))
 static inline uint64_t rd_loading_number(rd_name key) {
     const uint64_t seed[2] = {0, 0};
@@ -39,6 +41,8 @@ typedef rd_notice rd_loading_notice;
 #define RD_LOADING_OPEN rd_open
 #define RD_LOADING_NOTICE rd_get_notice
 #define RD_LOADING_CALL(call, cache, ...) call(cache, __VA_ARGS__)
+#define RD_LOADING_PUT rd_put_for
+#define RD_LOADING_LAND rd_land_for
 #define RD_LOADING_KEY(key) (key)
 static inline uint64_t rd_loading_number(uint64_t key) { return key; }
 #endif
@@ -56,6 +60,9 @@ enum { RD_LOADING_ERRORS = RD_WAITS_FOR_ITSELF + 1 };
 /* Loads a key. Returns RD_OK and writes a new value and its weight, or returns an error of yours, a number from RD_LOADING_ERRORS
  * on, and writes no value. */
 typedef uint64_t rd_load(void *context, rd_loading_key key, rd_shared **value, uint32_t *weight);
+
+/* The same, for rd_loading_get_for: it may also write the value's life, which is 0 before, for none. */
+typedef uint64_t rd_load_for(void *context, rd_loading_key key, rd_shared **value, uint32_t *weight, uint32_t *life);
 
 /* Gets an entry that left, with its value, which is whole until the listener returns. */
 typedef void rd_loading_listener(void *context, rd_loading_key key, rd_shared *value, enum rd_cause cause);
@@ -179,17 +186,29 @@ static inline rd_token rd_loading_token(rd_shared *value, uint32_t weight) {
     return token;
 }
 
-/* Stores a new value, of which the cache then has the only share. A value that is refused is destroyed. */
-static inline uint64_t rd_loading_put(rd_loading *l, rd_loading_key key, rd_shared *value, uint32_t weight, uint64_t now) {
+/* Returns the life, for the calls below, of an entry that is to expire in so many milliseconds: 0 counts as 1, and more than 2^32 - 1,
+ * which are 49 days, count as no life. */
+static inline uint32_t rd_loading_life(uint64_t ms) { return ms > UINT32_MAX ? 0 : ms ? (uint32_t)ms : 1; }
+
+/* Stores a new value, of which the cache then has the only share. The entry expires `life` ms after now, or earlier by the setup's
+ * durations; a life of 0 is none. No use lengthens it, and the next store of the key gives its entry another life, or none. A value that
+ * is refused is destroyed. */
+static inline uint64_t rd_loading_put_for(rd_loading *l, rd_loading_key key, rd_shared *value, uint32_t weight, uint32_t life, uint64_t now) {
     rd_answer answer;
+    rd_loading_notice first;
     rd_shared *left = 0;
     value->shares = 1;
     pthread_mutex_lock(&l->lock);
-    uint64_t fault = RD_LOADING_CALL(rd_put, &l->cache, RD_LOADING_KEY(key), rd_loading_token(value, weight), now, &answer);
+    uint64_t fault = RD_LOADING_PUT(&l->cache, RD_LOADING_KEY(key), rd_loading_token(value, weight), life, now, &answer, &first);
     fault = rd_loading_made(l, fault, &answer, &left);
     rd_loading_leave(l, left);
     if (fault) rd_loading_release(l, value);
     return fault;
+}
+
+/* The same without a life. */
+static inline uint64_t rd_loading_put(rd_loading *l, rd_loading_key key, rd_shared *value, uint32_t weight, uint64_t now) {
+    return rd_loading_put_for(l, key, value, weight, 0, now);
 }
 
 /* Writes the value under the key, with a share for the caller, or null. It never loads. */
@@ -227,8 +246,10 @@ static inline uint64_t rd_loading_join(rd_loading *l, rd_flight *of, const struc
 }
 
 /* Closes a load. A value of which memory is refused isn't stored. The lock is held. */
-static inline void rd_loading_land(rd_loading *l, const rd_flight *of, rd_loading_key key, uint32_t weight, uint64_t now, rd_shared **left) {
+static inline void rd_loading_land(rd_loading *l, const rd_flight *of, rd_loading_key key, uint32_t weight, uint32_t life, uint64_t now,
+                                   rd_shared **left) {
     rd_answer answer;
+    rd_loading_notice first;
     uint64_t fault;
     if (of->error) {
         fault = RD_LOADING_CALL(rd_land_failed, &l->cache, of->id, RD_LOADING_KEY(key), now, &answer);
@@ -236,7 +257,7 @@ static inline void rd_loading_land(rd_loading *l, const rd_flight *of, rd_loadin
         return;
     }
     rd_loading_share(of->value);
-    fault = RD_LOADING_CALL(rd_land_keep, &l->cache, of->id, RD_LOADING_KEY(key), rd_loading_token(of->value, weight), now, &answer);
+    fault = RD_LOADING_LAND(&l->cache, of->id, RD_LOADING_KEY(key), rd_loading_token(of->value, weight), life, now, &answer, &first);
     if (rd_loading_made(l, fault, &answer, left) == RD_OUT_OF_MEMORY) {
         fault = RD_LOADING_CALL(rd_land_loose, &l->cache, of->id, RD_LOADING_KEY(key), now, &answer);
         rd_loading_made(l, fault, &answer, left);
@@ -249,7 +270,8 @@ typedef struct rd_loading_task {
     uint64_t id;
     rd_loading_key key;
     uint64_t now;
-    rd_load *load;
+    rd_load *load;         /* or null: then the other one */
+    rd_load_for *load_for;
     void *context;
     rd_shared *old; /* the value of an entry that was due, with a share, or none */
 } rd_loading_task;
@@ -257,17 +279,18 @@ typedef struct rd_loading_task {
 /* Makes a load. The lock is held, and given back. */
 static inline uint64_t rd_loading_lead(rd_loading *l, const rd_loading_task *task, rd_shared *left, rd_shared **value) {
     rd_flight of = {task->id, pthread_self(), 0, RD_OK, 0, l->loads};
-    uint32_t weight = 1;
+    uint32_t weight = 1, life = 0;
     rd_shared *landed = 0, **end = &left; /* what left by the landing comes behind what left by the look-up */
     l->loads = &of;
     pthread_mutex_unlock(&l->lock);
-    of.error = task->load(task->context, task->key, &of.value, &weight);
+    of.error = task->load ? task->load(task->context, task->key, &of.value, &weight)
+                          : task->load_for(task->context, task->key, &of.value, &weight, &life);
     if (of.error)
         of.value = 0;
     else
         of.value->shares = 1;
     pthread_mutex_lock(&l->lock);
-    rd_loading_land(l, &of, task->key, weight, task->now, &landed);
+    rd_loading_land(l, &of, task->key, weight, life, task->now, &landed);
     while (*end) end = &(*end)->next;
     *end = landed;
     long waits = rd_flight_end(&l->loads, &of);
@@ -280,7 +303,7 @@ static inline uint64_t rd_loading_lead(rd_loading *l, const rd_loading_task *tas
 }
 
 /* Inside rd_loading_get: looks the key up, and loads it or waits for its load. */
-static inline uint64_t rd_loading_ask(rd_loading *l, rd_loading_key key, uint64_t now, rd_load *load, void *context,
+static inline uint64_t rd_loading_ask(rd_loading *l, rd_loading_key key, uint64_t now, rd_load *load, rd_load_for *load_for, void *context,
                                       const struct timespec *deadline, rd_shared **value) {
     rd_answer answer;
     rd_shared *left = 0, *held = 0;
@@ -296,7 +319,7 @@ static inline uint64_t rd_loading_ask(rd_loading *l, rd_loading_key key, uint64_
     if (answer.kind == RD_JOIN) return rd_loading_join(l, rd_flight_of(l->loads, answer.number), deadline, left, value);
     if (answer.kind != RD_LEAD) held = rd_loading_share((rd_shared *)(uintptr_t)answer.token);
     if (answer.kind != RD_HIT) {
-        const rd_loading_task task = {answer.number, key, now, load, context, held};
+        const rd_loading_task task = {answer.number, key, now, load, load_for, context, held};
         return rd_loading_lead(l, &task, left, value);
     }
     rd_loading_leave(l, left);
@@ -313,7 +336,13 @@ static inline uint64_t rd_loading_ask(rd_loading *l, rd_loading_key key, uint64_
  * lock held. Not promised: that a load ends, nor that a circle is found that leads through another cache or through threads that a
  * load starts. */
 static inline uint64_t rd_loading_get(rd_loading *l, rd_loading_key key, uint64_t now, rd_load *load, void *context, rd_shared **value) {
-    return rd_loading_ask(l, key, now, load, context, 0, value);
+    return rd_loading_ask(l, key, now, load, 0, context, 0, value);
+}
+
+/* The same, and a value that this thread loads has the life that the load writes, as rd_loading_put_for gives one: it begins now, not at
+ * the end of the load. */
+static inline uint64_t rd_loading_get_for(rd_loading *l, rd_loading_key key, uint64_t now, rd_load_for *load, void *context, rd_shared **value) {
+    return rd_loading_ask(l, key, now, 0, load, context, 0, value);
 }
 
 #ifdef CLOCK_MONOTONIC
@@ -331,7 +360,13 @@ static inline uint64_t rd_loading_get(rd_loading *l, rd_loading_key key, uint64_
  * if the compiler is asked for strict C, as by -std=c11: write -std=gnu11, or define _POSIX_C_SOURCE as 200809L. */
 static inline uint64_t rd_loading_get_until(rd_loading *l, rd_loading_key key, uint64_t now, rd_load *load, void *context,
                                             const struct timespec *deadline, rd_shared **value) {
-    return rd_loading_ask(l, key, now, load, context, deadline, value);
+    return rd_loading_ask(l, key, now, load, 0, context, deadline, value);
+}
+
+/* The same as rd_loading_get_for, with a deadline. */
+static inline uint64_t rd_loading_get_for_until(rd_loading *l, rd_loading_key key, uint64_t now, rd_load_for *load, void *context,
+                                                const struct timespec *deadline, rd_shared **value) {
+    return rd_loading_ask(l, key, now, 0, load, context, deadline, value);
 }
 #endif
 

@@ -37,11 +37,11 @@ static void destroy(rd_shared *shared) {
 
 static int number_of(rd_shared *shared) { return ((value *)shared)->number; }
 
-static void wait_for(atomic_bool *flag) {
+static inline void wait_for(atomic_bool *flag) {
     while (!*flag) sched_yield();
 }
 
-static void wait_for_joins(rd_loading *l, uint64_t joins) {
+static inline void wait_for_joins(rd_loading *l, uint64_t joins) {
     rd_stats stats;
     do {
         sched_yield();
@@ -49,7 +49,7 @@ static void wait_for_joins(rd_loading *l, uint64_t joins) {
     } while (stats.answers[RD_JOIN] < joins);
 }
 
-static void wait_for_loads(rd_loading *l, uint64_t loads) {
+static inline void wait_for_loads(rd_loading *l, uint64_t loads) {
     rd_numbers n;
     do {
         sched_yield();
