@@ -7,6 +7,7 @@ import (
 	"fmt"
 	"math"
 	"math/rand"
+	"runtime"
 	"testing"
 	"time"
 )
@@ -228,6 +229,63 @@ func TestTheOptionLifeGivesLives(t *testing.T) {
 	}
 	if len(asked) != 6 {
 		t.Fatal(asked)
+	}
+}
+
+func TestALifeThatPanicsOrEndsItsGoroutineStoresNothing(t *testing.T) {
+	for _, fail := range []func(){func() { panic("no life") }, runtime.Goexit} {
+		s, _ := timed(Setup{Entries: 10})
+		c, err := Open(s, Life(func(uint64, string) time.Duration { fail(); return ms }))
+		if err != nil {
+			t.Fatal(err)
+		}
+		text := func(context.Context) (string, error) { return "one", nil }
+		for _, call := range []func(){
+			func() { _ = c.Store(1, "one") },
+			func() { _, _ = c.GetWith(ctx, 1, text) },
+			func() {
+				_, _ = c.GetManyWith(ctx, []uint64{1, 2}, func(context.Context, []uint64) (map[uint64]string, error) {
+					return map[uint64]string{1: "one", 2: "two"}, nil
+				})
+			},
+		} {
+			ended := make(chan bool)
+			go func() {
+				defer close(ended)
+				defer func() { _ = recover() }()
+				call()
+				t.Error("it returned")
+			}()
+			<-ended
+		}
+		if n := holds(t, c); n.Entries != 0 || n.Failed != 3 {
+			t.Error(n)
+		}
+		c.Close()
+	}
+}
+
+func TestALifeMayUseTheCacheAndCloseIt(t *testing.T) {
+	s, clock := timed(Setup{Entries: 10})
+	var c *Cache[uint64, string]
+	closes := false
+	c, err := Open(s, Life(func(key uint64, _ string) time.Duration {
+		_ = c.Put(key+1, "its neighbour", 1)
+		if closes {
+			c.Close()
+		}
+		return 5 * ms
+	}))
+	if err != nil {
+		t.Fatal(err)
+	}
+	mustPut(t, c.Store(1, "one"))
+	if !c.Contains(2) || lasts(c, clock, 1) != 5 {
+		t.Fatal(c.Keys())
+	}
+	closes = true
+	if err := c.Store(1, "one"); err != ErrClosed {
+		t.Fatal(err)
 	}
 }
 
