@@ -1,4 +1,5 @@
 //! A cache of keys and values of any type, for one owner.
+use crate::life::Life;
 use crate::panics::{Guarded, Panics};
 use crate::several::Several;
 use crate::store::{drop_each, Ended, Store};
@@ -10,6 +11,7 @@ use std::collections::hash_map::RandomState;
 use std::fmt::{Debug, Formatter};
 use std::hash::{BuildHasher, Hash};
 use std::sync::Arc;
+use std::time::Duration;
 
 /// What left a cache by one call. The cache shares a key with a load of it that is open.
 type AllLeft<K, V> = Vec<Left<Arc<K>, V>>;
@@ -161,6 +163,36 @@ impl<K: Hash + Eq + Clone, V, S: BuildHasher> Cache<K, V, S> {
     /// # Ok::<(), Box<dyn std::error::Error>>(())
     /// ```
     pub fn put(&mut self, key: &K, value: V, weight: u32, now: u64) -> Result<AllLeft<K, V>, Fault> {
+        self.put_lived(key, value, (weight, Life::NONE), now)
+    }
+
+    /// Stores the value under the key, with a life: the entry expires as that ends, or earlier by the setup's durations. No use lengthens
+    /// it, and the next store of the key gives its entry another life, or none.
+    ///
+    /// A life counts in whole milliseconds, rounded up. 0 counts as one, and more than 2^32 - 1, which are 49 days, as none.
+    ///
+    /// ```
+    /// # use rookdresser::{Cache, Setup};
+    /// # use std::time::Duration;
+    /// # let mut cache = Cache::<String, u64>::open(&Setup::of(100))?;
+    /// cache.put_for(&"a".into(), 7, 1, Duration::from_millis(10), 1000)?;
+    /// assert_eq!(cache.peek("a", 1009), Some(&7));
+    /// assert_eq!(cache.peek("a", 1010), None);
+    /// # Ok::<(), Box<dyn std::error::Error>>(())
+    /// ```
+    #[allow(clippy::type_complexity)]
+    pub fn put_for(
+        &mut self,
+        key: &K,
+        value: V,
+        weight: u32,
+        life: Duration,
+        now: u64,
+    ) -> Result<AllLeft<K, V>, Fault> {
+        self.put_lived(key, value, (weight, Life::of(life)), now)
+    }
+
+    fn put_lived(&mut self, key: &K, value: V, weight: (u32, Life), now: u64) -> Result<AllLeft<K, V>, Fault> {
         let value = Guarded::of(value);
         let place = self.place(key);
         let mut left = Several::none();
@@ -187,11 +219,46 @@ impl<K: Hash + Eq + Clone, V, S: BuildHasher> Cache<K, V, S> {
     /// # Ok::<(), Box<dyn std::error::Error>>(())
     /// ```
     pub fn land(&mut self, id: u64, key: &K, value: V, weight: u32, now: u64) -> (Landed, AllLeft<K, V>) {
+        self.land_lived(id, key, value, (weight, Life::NONE), now)
+    }
+
+    /// As `land`, with a life that begins at this moment, as `put_for` gives one.
+    ///
+    /// ```
+    /// # use rookdresser::{Cache, Found, Setup};
+    /// # use std::time::Duration;
+    /// # let mut cache = Cache::<String, u64>::open(&Setup::of(100))?;
+    /// let key = String::from("a");
+    /// let Found::Lead(id) = cache.seek(&key, 1000)?.0 else { unreachable!("nothing is there") };
+    /// cache.land_for(id, &key, 7, (1, Duration::from_millis(10)), 1000);
+    /// assert_eq!(cache.peek("a", 1009), Some(&7));
+    /// assert_eq!(cache.peek("a", 1010), None);
+    /// # Ok::<(), Box<dyn std::error::Error>>(())
+    /// ```
+    pub fn land_for(
+        &mut self,
+        id: u64,
+        key: &K,
+        value: V,
+        (weight, life): (u32, Duration),
+        now: u64,
+    ) -> (Landed, AllLeft<K, V>) {
+        self.land_lived(id, key, value, (weight, Life::of(life)), now)
+    }
+
+    fn land_lived(
+        &mut self,
+        id: u64,
+        key: &K,
+        value: V,
+        (weight, life): (u32, Life),
+        now: u64,
+    ) -> (Landed, AllLeft<K, V>) {
         let value = Guarded::of(value);
         match self.found(hash_of(&self.hasher, key), key) {
             Some(at) => {
                 let mut left = Several::none();
-                let load = self.store.land((id, at), (value.take(), weight), now, &mut left);
+                let load = self.store.land((id, at), (value.take(), weight, life), now, &mut left);
                 ended(load, left)
             }
             None => {

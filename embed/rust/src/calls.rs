@@ -1,4 +1,5 @@
 //! The calls on a key that load nothing.
+use crate::life::Life;
 use crate::loading::Loading;
 use crate::panics::{Guarded, Panics};
 use crate::plain::are_plain;
@@ -8,6 +9,7 @@ use crate::Fault;
 use std::borrow::Borrow;
 use std::hash::{BuildHasher, Hash};
 use std::sync::Arc;
+use std::time::Duration;
 
 impl<K: Hash + Eq, V, E, S: BuildHasher> Loading<K, V, E, S> {
     /// The key's value, if it is there, with no load.
@@ -190,6 +192,55 @@ impl<K: Hash + Eq, V, E, S: BuildHasher> Loading<K, V, E, S> {
         K: Borrow<Q>,
         Q: Hash + Eq + ToOwned<Owned = K> + ?Sized,
     {
+        self.store_lived(key, value, (weight, Life::NONE), now)
+    }
+
+    /// Stores the value under the key, with a life: the entry expires as that ends, or earlier by the setup's durations. No use lengthens
+    /// it, and the next store of the key gives its entry another life, or none.
+    ///
+    /// A life counts in whole milliseconds, rounded up. 0 counts as one, and more than 2^32 - 1, which are 49 days, as none, so
+    /// [`Duration::MAX`] does. If the setup has no duration, the cache reads its clock from the first such call on.
+    ///
+    /// ```
+    /// # use rookdresser::{Loading, Setup};
+    /// # use std::time::Duration;
+    /// # let cache = Loading::<String, u64, std::io::Error>::open(&Setup::of(100))?;
+    /// cache.store_for("a session", 7.into(), 1, Duration::from_secs(60))?;
+    /// assert_eq!(cache.look("a session")?.as_deref(), Some(&7));
+    /// # Ok::<(), Box<dyn std::error::Error>>(())
+    /// ```
+    pub fn store_for<Q>(&self, key: &Q, value: Arc<V>, weight: u32, life: Duration) -> Result<(), Fault>
+    where
+        K: Borrow<Q>,
+        Q: Hash + Eq + ToOwned<Owned = K> + ?Sized,
+    {
+        self.store_for_at(key, value, weight, life, self.clock.now_of_a_life())
+    }
+
+    /// As `store_for`, at a moment of the caller's clock, in milliseconds.
+    ///
+    /// ```
+    /// # use rookdresser::{Loading, Setup};
+    /// # use std::time::Duration;
+    /// # let cache = Loading::<String, u64, std::io::Error>::open(&Setup::of(100))?;
+    /// cache.store_for_at("a", 7.into(), 1, Duration::from_millis(10), 1000)?;
+    /// assert_eq!((cache.look_at("a", 1009)?, cache.look_at("a", 1010)?), (Some(7.into()), None));
+    /// # Ok::<(), Box<dyn std::error::Error>>(())
+    /// ```
+    pub fn store_for_at<Q>(&self, key: &Q, value: Arc<V>, weight: u32, life: Duration, now: u64) -> Result<(), Fault>
+    where
+        K: Borrow<Q>,
+        Q: Hash + Eq + ToOwned<Owned = K> + ?Sized,
+    {
+        self.store_lived(key, value, (weight, Life::of(life)), now)
+    }
+
+    #[inline]
+    fn store_lived<Q>(&self, key: &Q, value: Arc<V>, weight: (u32, Life), now: u64) -> Result<(), Fault>
+    where
+        K: Borrow<Q>,
+        Q: Hash + Eq + ToOwned<Owned = K> + ?Sized,
+    {
         let (mut left, mut panics) = (AllGone::none(), Panics::default());
         self.stored(key, value, weight, now, &mut left, &mut panics)?;
         self.listener.release_into(left, &mut panics);
@@ -230,7 +281,7 @@ impl<K: Hash + Eq, V, E, S: BuildHasher> Loading<K, V, E, S> {
         Q: Hash + Eq + ToOwned<Owned = K> + ?Sized,
     {
         let (mut left, mut panics) = (AllGone::none(), Panics::default());
-        self.stored(key, value, weight, now, &mut left, &mut panics)?;
+        self.stored(key, value, (weight, Life::NONE), now, &mut left, &mut panics)?;
         Ok(self.listener.told(left, panics))
     }
 
@@ -241,7 +292,7 @@ impl<K: Hash + Eq, V, E, S: BuildHasher> Loading<K, V, E, S> {
         &self,
         key: &Q,
         value: Arc<V>,
-        weight: u32,
+        weight: (u32, Life),
         now: u64,
         left: &mut AllGone<K, V>,
         panics: &mut Panics,

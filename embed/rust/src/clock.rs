@@ -1,20 +1,35 @@
 //! The moments of calls that are given none.
 use crate::Setup;
+use std::sync::atomic::{AtomicBool, Ordering};
 use std::time::Instant;
 
-/// A monotonic clock that begins at 0. It stands still if no entry of the setup ever expires or gets due: then no moment matters,
-/// and the clock isn't read.
-pub(crate) struct Clock(Option<Instant>);
+/// A monotonic clock that begins at 0. It stands still if no entry of the setup ever expires or gets due, and none has had a life: then no
+/// moment matters, and the clock isn't read.
+pub(crate) struct Clock {
+    begun: Instant,
+    is_read: AtomicBool,
+}
 
 impl Clock {
     pub(crate) fn of(setup: &Setup) -> Clock {
         let has_durations = setup.after_write != 0 || setup.after_access != 0 || setup.refresh != 0;
-        Clock(has_durations.then(Instant::now))
+        Clock { begun: Instant::now(), is_read: AtomicBool::new(has_durations) }
     }
 
     /// The moment, in milliseconds.
     #[inline]
     pub(crate) fn now(&self) -> u64 {
-        self.0.map_or(0, |begun| begun.elapsed().as_millis() as u64)
+        if !self.is_read.load(Ordering::Relaxed) {
+            return 0;
+        }
+        self.begun.elapsed().as_millis() as u64
+    }
+
+    /// The moment of a call that gives a life. From now on the clock doesn't stand still.
+    pub(crate) fn now_of_a_life(&self) -> u64 {
+        if !self.is_read.load(Ordering::Relaxed) {
+            self.is_read.store(true, Ordering::Relaxed);
+        }
+        self.now()
     }
 }

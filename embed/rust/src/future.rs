@@ -1,6 +1,7 @@
 //! The same cache for tasks: a `get` waits by `await`, on any runtime.
 use crate::flight::Joined;
 use crate::get::{shared, Sought};
+use crate::life::Life;
 use crate::many::{Batch, Many};
 use crate::panics::{Guarded, Panics};
 use crate::{GetError, OpenError, Setup};
@@ -14,6 +15,7 @@ use std::mem::take;
 use std::ops::Deref;
 use std::pin::{pin, Pin};
 use std::sync::Arc;
+use std::time::Duration;
 
 /// A handle of a [`rookdresser::Loading`](crate::Loading) whose `get` waits by `await`. To clone it is cheap.
 ///
@@ -174,6 +176,72 @@ impl<K: Hash + Eq, V, E, S: BuildHasher> Loading<K, V, E, S> {
         K: Borrow<Q>,
         Q: Hash + Eq + ToOwned<Owned = K> + ?Sized,
     {
+        self.get_lived(key, now, load, |(value, weight)| (value, weight, Life::NONE)).await
+    }
+
+    /// As `get`, with a loader that also returns the value's life: the entry expires as that ends, or earlier by the setup's durations. It
+    /// begins with the first poll, as the value's age does, and counts as that of [`store_for`](crate::Loading::store_for).
+    ///
+    /// ```
+    /// # use rookdresser::{future::Loading, Setup};
+    /// # use std::time::Duration;
+    /// # mod runtime { include!(concat!(env!("CARGO_MANIFEST_DIR"), "/tests/common/block_on.rs")); }
+    /// # runtime::block_on(async {
+    /// # let cache = Loading::<String, u64, std::io::Error>::open(&Setup::of(100))?;
+    /// let max_age = Duration::from_secs(60); // of an answer by HTTP
+    /// assert_eq!(*cache.get_for("a", async { Ok((7, 1, max_age)) }).await?, 7);
+    /// # Ok::<(), Box<dyn std::error::Error>>(())
+    /// # }).unwrap();
+    /// ```
+    pub async fn get_for<Q>(
+        &self,
+        key: &Q,
+        load: impl Future<Output = Result<(V, u32, Duration), E>>,
+    ) -> Result<Arc<V>, GetError<E>>
+    where
+        K: Borrow<Q>,
+        Q: Hash + Eq + ToOwned<Owned = K> + ?Sized,
+    {
+        self.get_for_at(key, self.0.clock.now_of_a_life(), load).await
+    }
+
+    /// As `get_for`, at a moment of the caller's clock, in milliseconds.
+    ///
+    /// ```
+    /// # use rookdresser::{future::Loading, Setup};
+    /// # use std::time::Duration;
+    /// # mod runtime { include!(concat!(env!("CARGO_MANIFEST_DIR"), "/tests/common/block_on.rs")); }
+    /// # runtime::block_on(async {
+    /// # let cache = Loading::<String, u64, std::io::Error>::open(&Setup::of(100))?;
+    /// cache.get_for_at("a", 1000, async { Ok((7, 1, Duration::from_millis(10))) }).await?;
+    /// assert_eq!((cache.look_at("a", 1009)?, cache.look_at("a", 1010)?), (Some(7.into()), None));
+    /// # Ok::<(), Box<dyn std::error::Error>>(())
+    /// # }).unwrap();
+    /// ```
+    pub async fn get_for_at<Q>(
+        &self,
+        key: &Q,
+        now: u64,
+        load: impl Future<Output = Result<(V, u32, Duration), E>>,
+    ) -> Result<Arc<V>, GetError<E>>
+    where
+        K: Borrow<Q>,
+        Q: Hash + Eq + ToOwned<Owned = K> + ?Sized,
+    {
+        self.get_lived(key, now, load, |(value, weight, life)| (value, weight, Life::of(life))).await
+    }
+
+    async fn get_lived<Q, M>(
+        &self,
+        key: &Q,
+        now: u64,
+        load: impl Future<Output = Result<M, E>>,
+        lived: fn(M) -> (V, u32, Life),
+    ) -> Result<Arc<V>, GetError<E>>
+    where
+        K: Borrow<Q>,
+        Q: Hash + Eq + ToOwned<Owned = K> + ?Sized,
+    {
         let mut load = Loader(pin!(Some(load)));
         let hash = self.0.hash(key);
         let got = loop {
@@ -182,7 +250,7 @@ impl<K: Hash + Eq, V, E, S: BuildHasher> Loading<K, V, E, S> {
                 Ok(Sought::Lead(mut lead)) => {
                     lead.making.pause();
                     let made = poll_fn(|context| lead.making.during(|| load.get().poll(context))).await;
-                    break lead.close(made);
+                    break lead.close(made.map(lived));
                 }
                 Ok(Sought::Join(flight)) => {
                     let told = Joined::of(flight).await;

@@ -1,6 +1,7 @@
 //! A look-up that loads what isn't there.
 use crate::flight::{Flight, Outcome};
 use crate::lead::Lead;
+use crate::life::Life;
 use crate::loading::Loading;
 use crate::panics::{Guarded, Panics};
 use crate::plain::are_plain;
@@ -12,7 +13,7 @@ use crate::{Fault, Found, GetError};
 use std::borrow::Borrow;
 use std::hash::{BuildHasher, Hash};
 use std::sync::Arc;
-use std::time::Instant;
+use std::time::{Duration, Instant};
 
 // What a seek found.
 pub(crate) enum Sought<'a, K, V, E> {
@@ -108,12 +109,73 @@ impl<K: Hash + Eq, V, E, S: BuildHasher> Loading<K, V, E, S> {
         K: Borrow<Q>,
         Q: Hash + Eq + ToOwned<Owned = K> + ?Sized,
     {
+        self.get_lived(key, now, load, |(value, weight)| (value, weight, Life::NONE))
+    }
+
+    /// As `get`, with a loader that also returns the value's life: the entry expires as that ends, or earlier by the setup's durations. It
+    /// begins with this call, as the value's age does, and counts as that of [`store_for`](Loading::store_for).
+    ///
+    /// ```
+    /// # use rookdresser::{Loading, Setup};
+    /// # use std::time::Duration;
+    /// # let cache = Loading::<String, u64, std::io::Error>::open(&Setup::of(100))?;
+    /// let max_age = Duration::from_secs(60); // of an answer by HTTP
+    /// assert_eq!(*cache.get_for("a", || Ok((7, 1, max_age)))?, 7);
+    /// # Ok::<(), Box<dyn std::error::Error>>(())
+    /// ```
+    pub fn get_for<Q>(
+        &self,
+        key: &Q,
+        load: impl FnOnce() -> Result<(V, u32, Duration), E>,
+    ) -> Result<Arc<V>, GetError<E>>
+    where
+        K: Borrow<Q>,
+        Q: Hash + Eq + ToOwned<Owned = K> + ?Sized,
+    {
+        self.get_for_at(key, self.clock.now_of_a_life(), load)
+    }
+
+    /// As `get_for`, at a moment of the caller's clock, in milliseconds.
+    ///
+    /// ```
+    /// # use rookdresser::{Loading, Setup};
+    /// # use std::time::Duration;
+    /// # let cache = Loading::<String, u64, std::io::Error>::open(&Setup::of(100))?;
+    /// cache.get_for_at("a", 1000, || Ok((7, 1, Duration::from_millis(10))))?;
+    /// assert_eq!((cache.look_at("a", 1009)?, cache.look_at("a", 1010)?), (Some(7.into()), None));
+    /// # Ok::<(), Box<dyn std::error::Error>>(())
+    /// ```
+    pub fn get_for_at<Q>(
+        &self,
+        key: &Q,
+        now: u64,
+        load: impl FnOnce() -> Result<(V, u32, Duration), E>,
+    ) -> Result<Arc<V>, GetError<E>>
+    where
+        K: Borrow<Q>,
+        Q: Hash + Eq + ToOwned<Owned = K> + ?Sized,
+    {
+        self.get_lived(key, now, load, |(value, weight, life)| (value, weight, Life::of(life)))
+    }
+
+    #[inline]
+    fn get_lived<Q, M>(
+        &self,
+        key: &Q,
+        now: u64,
+        load: impl FnOnce() -> Result<M, E>,
+        lived: impl FnOnce(M) -> (V, u32, Life),
+    ) -> Result<Arc<V>, GetError<E>>
+    where
+        K: Borrow<Q>,
+        Q: Hash + Eq + ToOwned<Owned = K> + ?Sized,
+    {
         let load = Guarded::of(load);
         let hash = self.hash(key);
         let got = loop {
             match self.seek(hash, key, now) {
                 Ok(Sought::Value(value)) => break Ok(value),
-                Ok(Sought::Lead(lead)) => return lead.close((load.take())()),
+                Ok(Sought::Lead(lead)) => return lead.close((load.take())().map(lived)),
                 Ok(Sought::Join(flight)) => {
                     if let Some(got) = shared(flight.wait()) {
                         break got;

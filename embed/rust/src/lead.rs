@@ -1,5 +1,6 @@
 //! A load that this caller makes.
 use crate::flight::{Flight, Outcome};
+use crate::life::Life;
 use crate::listener::Listener;
 use crate::panics::Panics;
 use crate::shard::AllGone;
@@ -33,11 +34,11 @@ pub(crate) struct Lead<'a, K, V, E> {
 
 impl<K, V, E> Lead<'_, K, V, E> {
     /// Closes the load with what the loader returned, and returns what its caller gets.
-    pub(crate) fn close(mut self, made: Result<(V, u32), E>) -> Result<Arc<V>, GetError<E>> {
+    pub(crate) fn close(mut self, made: Result<(V, u32, Life), E>) -> Result<Arc<V>, GetError<E>> {
         match made {
-            Ok((value, weight)) => {
+            Ok((value, weight, life)) => {
                 let (value, old) = (Arc::new(value), self.old.take());
-                let panics = self.land(Some((value.clone(), weight)), old, || Outcome::Value(value.clone()));
+                let panics = self.land(Some((value.clone(), weight, life)), old, || Outcome::Value(value.clone()));
                 // It owns nothing more, and has landed.
                 std::mem::forget(self);
                 panics.checked(Ok(value))
@@ -56,7 +57,7 @@ impl<K, V, E> Lead<'_, K, V, E> {
     // Lands the load, tells those who share it, and lets go of what left and of the old value.
     fn land(
         &mut self,
-        value: Option<(Arc<V>, u32)>,
+        value: Option<(Arc<V>, u32, Life)>,
         old: Option<Arc<V>>,
         outcome: impl FnOnce() -> Outcome<V, E>,
     ) -> Panics {
@@ -75,7 +76,7 @@ impl<K, V, E> Lead<'_, K, V, E> {
 
     /// Closes the load, which took so long, in the cache. Returns who is to be told, and what is to be let go of.
     #[inline(always)]
-    pub(crate) fn landed(&mut self, value: Option<(Arc<V>, u32)>, took: Duration) -> Landing<K, V, E> {
+    pub(crate) fn landed(&mut self, value: Option<(Arc<V>, u32, Life)>, took: Duration) -> Landing<K, V, E> {
         let has_value = value.is_some();
         let mut shard = self.shard.take();
         let load = shard.loads.remove(self.load);

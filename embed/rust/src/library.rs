@@ -1,4 +1,5 @@
 //! The library's cache of a shard, which callers that are beside each other tell their hits.
+use crate::life::Life;
 use crate::lock::Lock;
 use crate::moment::Moment;
 use crate::sys::Looked;
@@ -22,9 +23,9 @@ pub(crate) struct Library {
     inner: Lock<Inner>,
     latest: Moment,
     window: Window,
-    // How long after its moment a value that is stored is sure to be found, and not due.
+    // How long after its moment a value that is stored without a life is sure to be found, and not due.
     sure_for: u64,
-    // Whether entries expire or get due. If they don't, no moment matters.
+    // Whether entries expire or get due, or one has had a life. If not, no moment matters.
     has_durations: bool,
 }
 
@@ -125,8 +126,9 @@ impl Library {
 
     /// Until when a value that the latest call has stored is sure to be found, and not due.
     #[inline]
-    pub(crate) fn until(&mut self) -> u64 {
-        self.latest.get_mut().saturating_add(self.sure_for)
+    pub(crate) fn until(&mut self, life: Life) -> u64 {
+        self.has_durations |= life != Life::NONE;
+        self.latest.get_mut().saturating_add(life.within(self.sure_for))
     }
 
     /// The moment of a hit beside others, or the latest moment if that is later; nothing if that isn't before `until`.

@@ -2,6 +2,7 @@
 use crate::flight::{Flight, Outcome};
 use crate::get::{shared, Sought};
 use crate::lead::Lead;
+use crate::life::Life;
 use crate::listener::Listener;
 use crate::loading::Loading;
 use crate::panics::{Guarded, GuardedMap, Panics};
@@ -306,9 +307,9 @@ impl<K, V, E, Q: ?Sized> Batch<'_, '_, K, V, E, Q> {
         for mut lead in take(&mut self.leads) {
             lead.making.end();
             let old = lead.old.take();
-            let value = values.next().flatten().map(|(value, weight)| (value.take(), weight));
+            let value = values.next().flatten().map(|(value, weight)| (value.take(), weight, Life::NONE));
             let outcome = match (&value, error) {
-                (Some((value, _)), _) => Outcome::Value(value.clone()),
+                (Some((value, ..)), _) => Outcome::Value(value.clone()),
                 (None, Some(error)) => Outcome::Failed(error.clone()),
                 (None, None) => Outcome::Again,
             };

@@ -1,4 +1,5 @@
 //! The stores that depend on the value that is there.
+use crate::life::Life;
 use crate::loading::Loading;
 use crate::panics::{Guarded, Panics};
 use crate::shard::AllGone;
@@ -64,7 +65,7 @@ impl<K: Hash + Eq, V, E, S: BuildHasher> Loading<K, V, E, S> {
             return Ok(false);
         };
         let (mut left, mut panics) = (AllGone::none(), Panics::default());
-        match shard.store.put(Place::At(at), value.take(), weight, now, &mut left) {
+        match shard.store.put(Place::At(at), value.take(), (weight, Life::NONE), now, &mut left) {
             Ok(()) => {
                 drop(shard);
                 self.listener.release_into(left, &mut panics);
@@ -140,7 +141,7 @@ impl<K: Hash + Eq, V, E, S: BuildHasher> Loading<K, V, E, S> {
             Ok(None) => {
                 // An entry that has expired has left its place.
                 let place = shard.store.table.place_of(hash, own.clone());
-                match shard.store.put(place, value.get().clone(), weight, now, &mut left) {
+                match shard.store.put(place, value.get().clone(), (weight, Life::NONE), now, &mut left) {
                     Ok(()) => (Ok(value.get().clone()), None),
                     Err((fault, place, value)) => (Err(shard.stats.refuse(fault)), Some((place, value))),
                 }

@@ -14,6 +14,8 @@ enum Call {
     Look(u64, u64),
     Get(u64, u64),
     Store(u64, u64),
+    /// With a life of 10 milliseconds.
+    StoreFor(u64, u64),
     Drop(u64, u64),
     Count,
 }
@@ -26,6 +28,10 @@ fn answer(cache: &Cache, call: Call, value: u64) -> Option<u64> {
         Call::Look(key, now) => cache.look_at(&key, now).unwrap().map(|value| *value),
         Call::Get(key, now) => Some(*cache.get_at(&key, now, || Ok((value, 1))).unwrap()),
         Call::Store(key, now) => cache.store_at(&key, value.into(), 1, now).map(|()| None).unwrap(),
+        Call::StoreFor(key, now) => {
+            let life = Duration::from_millis(10);
+            cache.store_for_at(&key, value.into(), 1, life, now).map(|()| None).unwrap()
+        }
         Call::Drop(key, now) => cache.drop_key_at(&key, now).unwrap().first().map(|left| *left.value),
         Call::Count => Some(cache.stats().hits),
     }
@@ -115,6 +121,40 @@ fn aged() -> Setup {
 
 // The looks that leave a shard about to open, and open.
 const LOOKS: [u64; 2] = [8, 13];
+
+#[test]
+fn an_open_shard_serves_nothing_beyond_its_life() {
+    for setup in [Setup::of(64), Setup { after_write: 60, ..Setup::of(64) }] {
+        let cache = looked_at(&setup, Reads::Shared, 0);
+        cache.store_for_at(&3, 3.into(), 1, Duration::from_millis(10), 20).unwrap();
+        (0..20).for_each(|_| assert!(cache.look_at(&3, 20).unwrap().is_some()));
+        assert_eq!(cache.open_shards(), 1);
+        // Another key's hit moves the time, and the shard stays open.
+        assert_eq!((cache.look_at(&3, 29).unwrap().as_deref(), cache.open_shards()), (Some(&3), 1));
+        assert_eq!((cache.look_at(&2, 30).unwrap().as_deref(), cache.open_shards()), (Some(&2), 1));
+        // A moment before the latest counts as the latest.
+        assert_eq!((cache.look_at(&3, 29).unwrap(), cache.open_shards()), (None, 0));
+        assert_eq!((cache.stats().expired, cache.kept()), (1, (2, 2)));
+        // The same of a load that gives a life, and of a seek.
+        let loaded = cache.get_for_at(&3, 30, || Ok((4, 1, Duration::from_millis(5)))).unwrap();
+        (0..20).for_each(|_| assert_eq!(cache.look_at(&3, 34).unwrap().as_ref(), Some(&loaded)));
+        assert_eq!(cache.open_shards(), 1);
+        assert_eq!(*cache.get_at(&3, 34, || unreachable!("it is there")).unwrap(), 4);
+        assert_eq!(*cache.get_at(&3, 35, || Ok((5, 1))).unwrap(), 5);
+        // In place of a life there is none.
+        (0..20).for_each(|_| assert!(cache.look_at(&3, 50).unwrap().is_some()));
+        assert_eq!(cache.open_shards(), 1);
+    }
+}
+
+#[test]
+fn calls_that_give_a_life_have_an_order() {
+    for looks in LOOKS {
+        let (store, look) = (Call::StoreFor(2, 10), Call::Look(2, 19));
+        calls_have_an_order(&Setup::of(64), looks, [&[store, look], &[Call::Look(2, 20)]], 2_000);
+        calls_have_an_order(&aged(), looks, [&[store, Call::Look(2, 20)], &[look]], 2_000);
+    }
+}
 
 #[test]
 fn three_calls_of_two_threads_have_an_order_whatever_theirs_is() {

@@ -1,5 +1,6 @@
 //! Tokens with the values and the keys that they stand for. No code of the caller's runs here: what leaves is moved out.
 use crate::library::Library;
+use crate::life::Life;
 use crate::panics::Panics;
 use crate::several::Several;
 use crate::table::{Place, Table};
@@ -93,14 +94,14 @@ impl<K, V> Store<K, V> {
         &mut self,
         place: Place<K>,
         value: V,
-        weight: u32,
+        (weight, life): (u32, Life),
         now: u64,
         left: &mut AllLeft<K, V>,
     ) -> Result<(), (Fault, Place<K>, V)> {
         let (number, token) = (self.table.number(&place), self.table.next_token(&place));
-        match self.library.made(now, |tokens, now| tokens.put(number, Token { token, weight }, now)) {
+        match self.library.made(now, |tokens, now| tokens.put_lived(number, Token { token, weight }, life, now)) {
             Ok(()) => {
-                let old = self.table.store(place, value, self.library.until());
+                let old = self.table.store(place, value, self.library.until(life));
                 self.take_out(old, left);
                 Ok(())
             }
@@ -112,16 +113,16 @@ impl<K, V> Store<K, V> {
     pub(crate) fn land(
         &mut self,
         (id, at): (u64, u32),
-        (value, weight): (V, u32),
+        (value, weight, life): (V, u32, Life),
         now: u64,
         left: &mut AllLeft<K, V>,
     ) -> Ended<K, V> {
         let number = self.table.row(at).number;
         let token = self.table.next_token(&Place::At(at));
         let held = Token { token, weight };
-        match self.library.made(now, |tokens, now| tokens.land_keep(id, number, held, now)) {
+        match self.library.made(now, |tokens, now| tokens.land_lived(id, number, held, life, now)) {
             Ok(landed @ Landed::Kept(_)) => {
-                let old = self.table.store(Place::At(at), value, self.library.until());
+                let old = self.table.store(Place::At(at), value, self.library.until(life));
                 let key = self.table.close(at);
                 self.take_out(old, left);
                 Ended { landed, value: None, key }

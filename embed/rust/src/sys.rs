@@ -209,19 +209,21 @@ unsafe extern "C" {
     pub fn rd_land_loose_name(cache: *mut Handle, id: u64, key: *const Name, now: u64, answer: *mut Answer) -> u64;
     pub fn rd_land_failed_name(cache: *mut Handle, id: u64, key: *const Name, now: u64, answer: *mut Answer) -> u64;
     pub fn rd_forget_name(cache: *mut Handle, key: *const Name, now: u64, answer: *mut Answer) -> u64;
-    pub fn rd_land_keep_with_notice(
+    pub fn rd_land_for(
         cache: *mut Handle,
         id: u64,
         key: u64,
         value: Token,
+        life: u32,
         now: u64,
         answer: *mut Answer,
         first: *mut Notice<u64>,
     ) -> u64;
-    pub fn rd_put_with_notice(
+    pub fn rd_put_for(
         cache: *mut Handle,
         key: u64,
         value: Token,
+        life: u32,
         now: u64,
         answer: *mut Answer,
         first: *mut Notice<u64>,
@@ -233,19 +235,21 @@ unsafe extern "C" {
         answer: *mut Answer,
         first: *mut Notice<u64>,
     ) -> u64;
-    pub fn rd_land_keep_name_with_notice(
+    pub fn rd_land_name_for(
         cache: *mut Handle,
         id: u64,
         key: *const Name,
         value: Token,
+        life: u32,
         now: u64,
         answer: *mut Answer,
         first: *mut Notice<Name>,
     ) -> u64;
-    pub fn rd_put_name_with_notice(
+    pub fn rd_put_name_for(
         cache: *mut Handle,
         key: *const Name,
         value: Token,
+        life: u32,
         now: u64,
         answer: *mut Answer,
         first: *mut Notice<Name>,

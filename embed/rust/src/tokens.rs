@@ -1,9 +1,11 @@
 //! A cache of tokens: safe calls over `rookdresser.h`.
 use crate::key::Key;
+use crate::life::Life;
 use crate::setup::OpenError;
 use crate::sys::{self, Answer, Handle, Looked, Numbers, Settings, Token};
 use crate::{Cause, Setup};
 use std::fmt::{Debug, Display, Formatter};
+use std::time::Duration;
 
 /// Why a call was refused. A refused call changes nothing.
 #[derive(Clone, Copy, Debug, PartialEq, Eq, Hash)]
@@ -233,7 +235,30 @@ impl<K: Key> Tokens<K> {
     /// # Ok::<(), Box<dyn std::error::Error>>(())
     /// ```
     pub fn put(&mut self, key: K, value: Token, now: u64) -> Result<(), Fault> {
-        self.made_with_notice(|h, a, n| unsafe { (K::CALLS.put)(h, key.given(), value, now, a, n) }).map(drop)
+        self.put_lived(key, value, Life::NONE, now)
+    }
+
+    /// Stores the value under the key, with a life: the entry expires as that ends, or earlier by the setup's durations. No use lengthens
+    /// it, and the next store of the key gives its entry another life, or none.
+    ///
+    /// A life counts in whole milliseconds, rounded up. 0 counts as one, and more than 2^32 - 1, which are 49 days, as none.
+    ///
+    /// ```
+    /// # use rookdresser::{Found, Setup, Token, Tokens};
+    /// # use std::time::Duration;
+    /// # let mut cache = Tokens::<u64>::open(&Setup::of(100))?;
+    /// cache.put_for(1, Token { token: 7, weight: 1 }, Duration::from_millis(10), 1000)?;
+    /// assert_eq!(cache.look(1, 1009)?, Found::Hit(Token { token: 7, weight: 1 }));
+    /// assert_eq!(cache.look(1, 1010)?, Found::Absent);
+    /// # Ok::<(), Box<dyn std::error::Error>>(())
+    /// ```
+    pub fn put_for(&mut self, key: K, value: Token, life: Duration, now: u64) -> Result<(), Fault> {
+        self.put_lived(key, value, Life::of(life), now)
+    }
+
+    #[inline]
+    pub(crate) fn put_lived(&mut self, key: K, value: Token, life: Life, now: u64) -> Result<(), Fault> {
+        self.made_with_notice(|h, a, n| unsafe { (K::CALLS.put)(h, key.given(), value, life.0, now, a, n) }).map(drop)
     }
 
     /// Closes the load with a value that is to be stored. If memory is refused, the load stays open.
@@ -246,7 +271,28 @@ impl<K: Key> Tokens<K> {
     /// # Ok::<(), Box<dyn std::error::Error>>(())
     /// ```
     pub fn land_keep(&mut self, id: u64, key: K, value: Token, now: u64) -> Result<Landed, Fault> {
-        self.made_with_notice(|h, a, n| unsafe { (K::CALLS.land_keep)(h, id, key.given(), value, now, a, n) })
+        self.land_lived(id, key, value, Life::NONE, now)
+    }
+
+    /// Closes the load with a value that is to be stored with a life, as [`Tokens::put_for`] gives one. If memory is refused, the load
+    /// stays open.
+    ///
+    /// ```
+    /// # use rookdresser::{Found, Landed, Setup, Token, Tokens};
+    /// # use std::time::Duration;
+    /// # let mut cache = Tokens::<u64>::open(&Setup::of(100))?;
+    /// let Found::Lead(id) = cache.seek(1, 1000)? else { unreachable!("nothing is there") };
+    /// cache.land_for(id, 1, Token { token: 7, weight: 1 }, Duration::from_millis(10), 1000)?;
+    /// assert_eq!(cache.look(1, 1010)?, Found::Absent);
+    /// # Ok::<(), Box<dyn std::error::Error>>(())
+    /// ```
+    pub fn land_for(&mut self, id: u64, key: K, value: Token, life: Duration, now: u64) -> Result<Landed, Fault> {
+        self.land_lived(id, key, value, Life::of(life), now)
+    }
+
+    #[inline]
+    pub(crate) fn land_lived(&mut self, id: u64, key: K, value: Token, life: Life, now: u64) -> Result<Landed, Fault> {
+        self.made_with_notice(|h, a, n| unsafe { (K::CALLS.land_keep)(h, id, key.given(), value, life.0, now, a, n) })
             .map(landed)
     }
 
