@@ -316,7 +316,7 @@ func TestNoValueIsReturnedAfterTheCallThatRemovedIt(t *testing.T) {
 		if s.Hits+s.Misses != looks.Load() || s.Hits != n.Hits || s.Misses != n.Misses || n.Lookups != looks.Load() {
 			t.Fatal(s, n, looks.Load())
 		}
-		if t.Log(opened.Load(), "of", looks.Load()/64, "looks saw a shard open"); opened.Load() < 100 && opensAfter != never {
+		if t.Log(opened.Load(), "of", looks.Load()/64, "looks saw a shard open"); opened.Load() < 10 && opensAfter != never {
 			t.Fatal(opened.Load())
 		}
 		c.Close()
