@@ -4,7 +4,7 @@ use Rattle.wt_regions.specs.declared.weighs.Measure.{Measure}
 use Rattle.wt_ffi.specs.declared.token.Token.{Token}
 use Rattle.wt_ffi.specs.declared.token.Timed.{Timed}
 
--- a token with a life of so many milliseconds; 0 for none
+-- a token with this life, in milliseconds; 0 for none
 abbrev pub timed : Token → ℕ → Timed
 timed t life = record { token = t.token; weight = t.weight; life = life }
 
