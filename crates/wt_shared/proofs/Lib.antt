@@ -1,3 +1,4 @@
 pub mod Peeking
 pub mod Placing
 pub mod Refusals
+pub mod Serving

@@ -1,11 +1,12 @@
 -- A call at the end of the history, and what its caller sees of it.
-use Rattle.std.proofs.Common.{◌≡◌, ◌≤◌, ℕ, ◌+◌, Bool, true, false, List, [], ◌∷◌, ◌++◌, length, Option, Some, None, is_some, IfSome, IsSome, Result, Ok, Err, refl, ap, sym, subst, ◌∙◌, arith, length-append}
+use Rattle.std.proofs.Common.{◌≡◌, ◌≤◌, ℕ, ◌+◌, Bool, List, [], ◌∷◌, ◌++◌, length, Option, Some, None, is_some, IfSome, IsSome, Result, Ok, Err, refl, ap, sym, subst, ◌∙◌, arith, length-append}
 use mathlib.Core.List.{IsPrefix}
 use Rattle.wt_regions.specs.declared.notices.Notice.{Notice}
 use Rattle.wt_regions.specs.declared.weighs.Measure.{Measure}
 use Rattle.wt_core.specs.declared.calls.Call.{Call}
 use Rattle.wt_core.specs.declared.calls.Reply.{Reply}
 use Rattle.wt_core.specs.Landings.{TakesNone}
+use Rattle.wt_core.specs.Lawful.{IsLawful}
 use Rattle.wt_core.specs.Run.{run, taken}
 use Rattle.wt_core.specs.State.{State, opening}
 use Rattle.wt_core.specs.Step.{refusal_of}
@@ -14,7 +15,7 @@ use Rattle.wt_shared.specs.declared.kept.Kept.{Kept}
 use Rattle.wt_shared.specs.declared.known.Known.{Known}
 use Rattle.wt_shared.specs.declared.unmade.Unmade.{Unmade}
 use Rattle.wt_shared.specs.declared.unmade.Unmade.TheVariants.{Busy, NoMemory, Lost}
-use Rattle.wt_shared.specs.Shared.{View, Adds, Becomes, IsAdded, IsKept, IsPlaced, left_by, state_after, with_call}
+use Rattle.wt_shared.specs.Shared.{Adds, Becomes, IsAdded, IsKept, IsPlaced, left_by, state_after, with_call}
 
 module _ {K V : Type 0} (eq : K → K → Bool) (word : K → ℕ) (measure : V → Measure) where
   -- the sequential cache after one call more
@@ -31,8 +32,9 @@ module _ {K V : Type 0} (eq : K → K → Bool) (word : K → ℕ) (measure : V 
         → known.config.entries ≤ new.notices.room + length new.notices.list
         → new.core.regions.caps.entries ≡ old.core.regions.caps.entries
         → new.log.entries ≡ old.log.entries ++ call ∷ [] → new.log.book ≡ old.log.book → new.count ≡ old.count + 1
-        → IsPrefix known.seen.entries old.log.entries → IsAdded eq word measure copied known call old new (Some reply)
-    added-one known call old new reply kept core told left room caps calls book count before = record {
+        → IsPrefix known.seen.entries old.log.entries → IsLawful eq measure old.core
+        → IsAdded eq word measure copied known call old new (Some reply)
+    added-one known call old new reply kept core told left room caps calls book count before lawful = record {
       kept = record {
         book = book ∙ kept.book;
         count = omega (arith, count, kept.count, ap length calls, length-append old.log.entries (call ∷ []));
@@ -48,6 +50,7 @@ module _ {K V : Type 0} (eq : K → K → Bool) (word : K → ℕ) (measure : V 
       left = left;
       refusal = λ refused. refl;
       memory = λ free. refl;
+      lawful = lawful;
     }
 
     -- what is added stands in the history of its caller
@@ -69,6 +72,7 @@ module _ {K V : Type 0} (eq : K → K → Bool) (word : K → ℕ) (measure : V 
           left = is ∙ added.left ∙ ap (λ (s : State K V). left_by (is_some reply) (taken eq word measure s call)) at;
           refusal = subst (λ (s : State K V). IsSome (refusal_of eq word measure s call) → IsSome reply) at added.refusal;
           memory = subst (λ (s : State K V). TakesNone copied eq measure s call → IsSome reply) at added.memory;
+          lawful = subst (IsLawful eq measure) at added.lawful;
           config = config;
           book = ap (λ (t : Logged (Call K V)). t.book) seen ∙ added.kept.book;
         }

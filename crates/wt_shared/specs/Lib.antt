@@ -1,2 +1,4 @@
 pub mod Shared
 pub mod Peeks
+pub mod Served
+pub mod Runs

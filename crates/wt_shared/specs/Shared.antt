@@ -6,12 +6,9 @@ use Rattle.wt_regions.specs.declared.weighs.Measure.{Measure}
 use Rattle.wt_core.specs.declared.calls.Call.{Call}
 use Rattle.wt_core.specs.declared.calls.Reply.{Reply}
 use Rattle.wt_core.specs.declared.config.Config.{Config}
-use Rattle.wt_core.specs.declared.calls.Call.TheVariants.{Land}
-use Rattle.wt_core.specs.declared.calls.Land.{Land as Landing}
 use Rattle.wt_core.specs.Landings.{TakesNone}
-use Rattle.wt_core.specs.Laws.{HasOneCurrent, IsLandedOnce, joins, sharers_told}
+use Rattle.wt_core.specs.Lawful.{IsLawful}
 use Rattle.wt_core.specs.Run.{run, taken}
-use Rattle.wt_core.specs.Stale.{StaleIsUnstored}
 use Rattle.wt_core.specs.State.{State, Made, opening}
 use Rattle.wt_core.specs.Step.{refusal_of}
 use Rattle.wt_shared.specs.declared.kept.Kept.{Kept}
@@ -40,19 +37,6 @@ module _ {K V : Type 0} where
     abbrev pub state_after : Config → List (Call K V) → State K V
     state_after config calls = run eq word measure (opening config) calls
 
-    -- what is true of these calls, as of every run of a cache that was empty before
-    pub record IsRun (config : Config) (calls : List (Call K V)) : Type 0 where
-      -- a key has at most one current load behind them
-      pub current : HasOneCurrent eq word measure (opening config) calls
-      -- an id is opened at most once among them, and is then open or landed once
-      pub landed : (id : ℕ) → IsLandedOnce eq word measure (opening config) calls id
-      -- a landing among them tells of the lead and of each of them that joins the load
-      pub shared : (before after : List (Call K V)) (id : ℕ) (k : K) (what : Landing V) (now : ℕ)
-          → before ++ Land id k what now ∷ after ≡ calls
-          → IfSome (sharers_told (taken eq word measure (state_after config before) (Land id k what now)).reply) (λ n. n ≡ joins eq word measure id (opening config) calls + 1)
-      -- a load that a seek behind them opens, and that a later call makes stale, lands without being stored
-      pub stale : StaleIsUnstored eq word measure (state_after config calls)
-
     -- what is shared is the outcome of its history
     pub record IsKept (known : Known K V) (kept : Kept K V) : Type 0 where
       pub book : kept.log.book ≡ known.seen.book
@@ -73,6 +57,7 @@ module _ {K V : Type 0} where
         pub left : new.notices.list ≡ left_by (is_some reply) (taken eq word measure old.core call)
         pub refusal : IsSome (refusal_of eq word measure old.core call) → IsSome reply
         pub memory : TakesNone copied eq measure old.core call → IsSome reply
+        pub lawful : IsLawful eq measure old.core
 
       -- what a step does, by what it returns
       abbrev pub Adds : Result (Reply V) Unmade → Known K V → Call K V → Kept K V → Kept K V → Type 0
@@ -95,6 +80,8 @@ module _ {K V : Type 0} where
         pub refusal : IsSome (refusal_of eq word measure (state_after old.known.config (old.known.seen.entries ++ between)) call) → IsSome reply
         -- a call that takes no memory isn't refused any
         pub memory : TakesNone copied eq measure (state_after old.known.config (old.known.seen.entries ++ between)) call → IsSome reply
+        -- what holds of a cache at all times
+        pub lawful : IsLawful eq measure (state_after old.known.config (old.known.seen.entries ++ between))
         -- it is the same cache
         pub config : new.known.config ≡ old.known.config
         pub book : new.known.seen.book ≡ old.known.seen.book

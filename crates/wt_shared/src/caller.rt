@@ -3,7 +3,8 @@ ghost use Rattle.std.specs.Prelude.{◌≡◌, [], IfOk, IsSome, OnErr};
 ghost use mathlib.Core.List.{IsPrefix};
 ghost use Rattle.wt_core.specs.State.{config_fault, opening};
 ghost use Rattle.wt_regions.specs.Lawful.{FailsByField};
-ghost use Rattle.wt_shared.specs.Shared.{Adds, Becomes, IsKept, IsRun};
+ghost use Rattle.wt_shared.specs.Runs.{IsRun};
+ghost use Rattle.wt_shared.specs.Shared.{Adds, Becomes, IsKept};
 
 mod peek;
 
@@ -23,6 +24,7 @@ use wt_core::{
 use wt_history::Log;
 use wt_keys::{CacheKey, Fault, NoMemory, Share};
 use wt_regions::{Notice, Notices, Weighs};
+use wt_shards::{own_put_is_read, served_values_are_young};
 
 /// One caller of a shared cache, for one thread at a time.
 #[derive(Drop)]
@@ -65,6 +67,8 @@ fn step<K: CacheKey, V: Share + Weighs>(
     }
     let asked = kept.log.ask(&call);
     kept.notices.empty();
+    // For the prover: shows `lawful`.
+    let _stats = kept.core.stats();
     match kept.core.take(call, &mut kept.notices) {
         Ok(reply) => {
             if !kept.log.write(&known.seen, asked, at) {
@@ -200,6 +204,11 @@ impl<K: CacheKey, V: Share + Weighs> Caller<K, V> {
     /// has at most one current load; an id is opened at most once, and is then open or landed once; a
     /// landing tells of the lead and of each call that joins; and a stale load isn't stored.
     ///
+    /// What a look, a seek or a peek hits was put or landed for the key less than `after_write`
+    /// before, and its own life isn't over. Behind a put of the key that wasn't refused it is that
+    /// value, or one that a call between the two brought, if the cache was lawful at the put, as each
+    /// call says of its place.
+    ///
     /// The function does nothing, and takes no memory.
     pub fn laws(&self)
         ensures { IsRun K.eq K.word V.measure self.now.known.config self.now.known.seen.entries }
@@ -208,6 +217,8 @@ impl<K: CacheKey, V: Share + Weighs> Caller<K, V> {
         landed_once::<K, V>();
         sharers_are_the_lead_and_joins::<K, V>();
         stale_results_are_not_stored::<K, V>();
+        served_values_are_young::<K, V>();
+        own_put_is_read::<K, V>();
     }
 
     /// Returns the number of the latest call in the history, from 1; 0 before the first call. If an

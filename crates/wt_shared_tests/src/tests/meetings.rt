@@ -1,7 +1,7 @@
 // Callers that meet: what their clauses and the laws then say of both.
 ghost use Rattle.std.specs.Prelude.{◌≡◌, ◌<◌, nat_eq, IfSome};
 ghost use mathlib.Core.List.{IsPrefix};
-ghost use Rattle.wt_shared.specs.Shared.{IsRun};
+ghost use Rattle.wt_shared.specs.Runs.{IsRun};
 
 use super::compare::{holds, same};
 use super::{Mine, first_left, limits, told};

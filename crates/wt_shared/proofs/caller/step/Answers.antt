@@ -20,5 +20,5 @@ returns-else-not-write g c =
           (record { core = c.take.new.self; notices = c.take.new.notices; count = c.args.kept.now.count + 1; log = c.write.new.self })
           c.in-Ok.reply c.requires.lawful c.in-Ok.ensures.state c.in-Ok.ensures.answer left room
           (ap (λ (x : Caps). x.entries) c.in-Ok.ensures.same) log
-          c.if-not-write.ensures.same refl (c.if-not-write.ensures.before refl);
+          c.if-not-write.ensures.same refl (c.if-not-write.ensures.before refl) c.stats-stats.ensures.lawful;
     }
