@@ -1,3 +1,4 @@
+pub mod Counting
 pub mod Peeking
 pub mod Placing
 pub mod Refusals

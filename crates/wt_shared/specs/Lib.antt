@@ -1,4 +1,5 @@
 pub mod Shared
 pub mod Peeks
+pub mod Numbers
 pub mod Served
 pub mod Runs

@@ -6,6 +6,7 @@ ghost use Rattle.wt_regions.specs.Lawful.{FailsByField};
 ghost use Rattle.wt_shared.specs.Runs.{IsRun};
 ghost use Rattle.wt_shared.specs.Shared.{Adds, Becomes, IsKept};
 
+mod numbers;
 mod peek;
 
 use crate::kept::Kept;

@@ -5,9 +5,11 @@
 mod caller;
 mod kept;
 mod known;
+mod numbers;
 mod slot;
 mod unmade;
 
 pub use caller::Caller;
 pub use known::Known;
+pub use numbers::Numbers;
 pub use unmade::Unmade;

@@ -2,6 +2,7 @@
 mod busy;
 mod compare;
 mod meetings;
+mod numbers;
 mod peeks;
 mod refusals;
 mod turns;

@@ -1,4 +1,4 @@
-// A call and a peek are busy while another call is at work, and only then.
+// A call, a peek and a reading of the numbers are busy while another call is at work, and only then.
 use super::compare::same;
 use super::limits;
 use std::alloc::Global;
@@ -28,16 +28,31 @@ fn peeks(caller: &mut Guest, key: u64) -> Result<bool, Unmade> {
     }
 }
 
-// Of a look and of a peek at another key, once the gate is reached: what they returned, and the
-// caller's number. Then opens the gate.
-type Beside = (bool, Result<bool, Unmade>, Result<bool, Unmade>, u64);
+// The number of steps so far.
+fn steps(caller: &mut Guest) -> Result<u64, Unmade> {
+    match caller.numbers() {
+        Ok(numbers) => Ok(numbers.step),
+        Err(why) => Err(why),
+    }
+}
+
+// Of a look and of a peek at another key, and of a reading, once the gate is reached: what they
+// returned, and the caller's number. Then opens the gate.
+type Beside = (
+    bool,
+    Result<bool, Unmade>,
+    Result<bool, Unmade>,
+    Result<u64, Unmade>,
+    u64,
+);
 
 fn calls_beside(caller: &mut Guest, gate: &Gate) -> Beside {
     let begun = gate.begins();
     let look = looks(caller, 2);
     let peek = peeks(caller, 2);
+    let read = steps(caller);
     gate.open();
-    (begun, look, peek, caller.number())
+    (begun, look, peek, read, caller.number())
 }
 
 // One thread looks at the gated value, or peeks at it, and another one calls meanwhile.
@@ -61,8 +76,15 @@ fn at_once<R: Threads + Wait + Sync>(
     )
 }
 
-// What the two threads saw; and then what the second caller's look returned, and its number.
-type Seen = (Result<bool, Unmade>, Beside, Result<bool, Unmade>, u64);
+// What the two threads saw; and then what the second caller's look returned, its number, and the
+// number of steps.
+type Seen = (
+    Result<bool, Unmade>,
+    Beside,
+    Result<bool, Unmade>,
+    u64,
+    Result<u64, Unmade>,
+);
 
 fn see<R: Threads + Wait + Sync>(rt: &R, alloc: Global, is_peek: bool) -> Result<Seen, Fault> {
     let gate = Gate::new(alloc)?;
@@ -74,13 +96,15 @@ fn see<R: Threads + Wait + Sync>(rt: &R, alloc: Global, is_peek: bool) -> Result
     }
     let (found, beside) = at_once(rt, &mut first, &mut second, &gate, is_peek);
     let later = looks(&mut second, 2);
-    Ok((found, beside, later, second.number()))
+    let read = steps(&mut second);
+    Ok((found, beside, later, second.number(), read))
 }
 
 #[test]
 fn a_call_beside_a_look_is_busy(rt: HostRuntime) -> Result<(), Fail> {
     let busy = Err(Unmade::Busy);
-    let want = (Ok(true), (true, busy, busy, 0), Ok(false), 3);
+    let beside = (true, busy, busy, Err(Unmade::Busy), 0);
+    let want = (Ok(true), beside, Ok(false), 3, Ok(3));
     same(
         &rt,
         "the look, the calls beside it, and a look behind it",
@@ -93,7 +117,8 @@ fn a_call_beside_a_look_is_busy(rt: HostRuntime) -> Result<(), Fail> {
 #[test]
 fn a_call_beside_a_peek_is_busy(rt: HostRuntime) -> Result<(), Fail> {
     let busy = Err(Unmade::Busy);
-    let want = (Ok(true), (true, busy, busy, 0), Ok(false), 2);
+    let beside = (true, busy, busy, Err(Unmade::Busy), 0);
+    let want = (Ok(true), beside, Ok(false), 2, Ok(2));
     same(
         &rt,
         "the peek, the calls beside it, and a look behind it",
