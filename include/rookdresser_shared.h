@@ -119,6 +119,12 @@ uint64_t rd_shared_get_notice_name(rd_caller *caller, uint64_t i, rd_name_notice
  * place too; of one that was refused memory, or that was busy, it is an earlier place. */
 uint64_t rd_shared_get_place(rd_caller *caller, uint64_t *place);
 
+/* Writes the numbers of the cache right behind all calls up to now, all of this one moment, as rd_get_numbers does, whichever keys
+ * it has. It is no step: it has no place, and the notices of this caller's latest call can still be read. The caller's next calls
+ * stand behind all that the numbers count. Takes no memory. RD_CLOSED, RD_BUSY and RD_LOST come as of the calls above, and then it
+ * writes nothing. */
+uint64_t rd_shared_get_numbers(rd_caller *caller, rd_numbers *numbers);
+
 #ifdef RD_CHECK
 #include <stdio.h>
 #include <stdlib.h>
@@ -165,6 +171,7 @@ static inline uint64_t rd_leave(rd_caller *caller, uint64_t fault) {
 #define rd_shared_get_notice(c, i, notice) RD_CHECKED(c, rd_shared_get_notice(c, i, notice))
 #define rd_shared_get_notice_name(c, i, notice) RD_CHECKED(c, rd_shared_get_notice_name(c, i, notice))
 #define rd_shared_get_place(c, place) RD_CHECKED(c, rd_shared_get_place(c, place))
+#define rd_shared_get_numbers(c, numbers) RD_CHECKED(c, rd_shared_get_numbers(c, numbers))
 #define rd_shared_another(c, d) (rd_enter(c), rd_enter(d), rd_leave(c, rd_leave(d, rd_shared_another(c, d))))
 #define rd_shared_meet(c, d) (rd_enter(c), rd_enter(d), rd_leave(c, rd_leave(d, rd_shared_meet(c, d))))
 #endif

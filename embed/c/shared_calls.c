@@ -1,8 +1,8 @@
 /* shared_calls N: four threads make N calls of all kinds on one shared cache, through rookdresser_waiting.h. Each call's place in the
  * history is told once, none is left out, and they rise for each caller. Then the calls, in the order of their places, are made on
  * an rd_cache: each answer and each notice is the same. Before each third call its thread peeks: what it found is what that cache has
- * at some place between the thread's call before and this one. shared_calls N list prints the calls in that order with their replies, as
- * same_history.py reads them. */
+ * at some place between the thread's call before and this one. It also reads the numbers, whose steps never fall. shared_calls N list
+ * prints the calls in the order of their places with their replies, as same_history.py reads them. */
 #include "keys.h"
 #include "rookdresser_waiting.h"
 #include <string.h>
@@ -35,7 +35,7 @@ typedef struct made {
 typedef struct worker {
     rd_caller caller;
     pthread_t thread;
-    uint64_t rng, last, tokens;
+    uint64_t rng, last, steps, tokens;
     uint32_t now;
     struct { uint64_t id, key; } leads[LEADS]; /* the loads that it has to land */
     size_t open, count;
@@ -137,6 +137,11 @@ static void *work(void *given) {
         if (m->awaits) {
             RD_WAITING(&gate, m->fault, peek_shared(caller, m->asked.key, m->asked.now, &m->peeked));
             CHECK(m->fault == RD_OK);
+            rd_numbers numbers;
+            RD_WAITING(&gate, m->fault, rd_shared_get_numbers(caller, &numbers));
+            CHECK(m->fault == RD_OK && numbers.hits + numbers.misses == numbers.lookups && numbers.entries <= setup.entries);
+            CHECK(numbers.step >= w->steps);
+            w->steps = numbers.step;
         }
         RD_WAITING(&gate, m->fault, make_shared(caller, &m->asked, &m->answer));
         CHECK(rd_shared_get_place(caller, &m->place) == RD_OK);
@@ -246,6 +251,32 @@ static void peeks_are_no_steps(void) {
     CHECK(rd_shared_close(&mine) == RD_OK && rd_shared_close(&theirs) == RD_OK);
 }
 
+/* The numbers of all callers' calls, of one moment. Reading them has no place, and leaves the caller's notices. */
+static void tells_the_numbers(void) {
+    rd_caller mine = RD_CALLER_INIT, theirs = RD_CALLER_INIT;
+    rd_answer answer;
+    rd_numbers n, m;
+    rd_notice notice;
+    uint64_t place;
+    const call first = {put, 1, 0, 2, 0, 7}, second = {put, 1, 0, 3, 0, 8}, hit = {look, 1, 5, 0, 0, 0}, miss = {look, 2, 6, 0, 0, 0};
+    const call lead = {seek, 3, 7, 0, 0, 0};
+    CHECK(CALL(rd_shared_open, rd_shared_open_names)(&setup, &mine) == RD_OK && rd_shared_another(&mine, &theirs) == RD_OK);
+    memset(&m, 0, sizeof m);
+    CHECK(rd_shared_get_numbers(&mine, &n) == RD_OK && !memcmp(&n, &m, sizeof n));
+    CHECK(make_shared(&theirs, &hit, &answer) == RD_OK && make_shared(&theirs, &miss, &answer) == RD_OK);
+    CHECK(make_shared(&mine, &first, &answer) == RD_OK && make_shared(&mine, &second, &answer) == RD_OK);
+    CHECK(make_shared(&theirs, &hit, &answer) == RD_OK && make_shared(&theirs, &lead, &answer) == RD_OK && answer.kind == RD_LEAD);
+    CHECK(rd_shared_get_numbers(&mine, &n) == RD_OK && n.lookups == 4 && n.hits == 1 && n.misses == 3 && n.loads == 0 && n.failed == 0);
+    CHECK(n.evicted == 0 && n.entries == 1 && n.weight == 3 && n.step == 6 && n.latest == 7 && n.flights == 1);
+    CHECK(rd_shared_get_numbers(&theirs, &m) == RD_OK && !memcmp(&n, &m, sizeof n));
+    CHECK(rd_shared_get_place(&mine, &place) == RD_OK && place == 4 && get_shared_notice(&mine, 0, &notice) == RD_OK && notice.token == 7);
+    const call fails = {failed, 3, 8, 0, answer.number, 0};
+    CHECK(make_shared(&mine, &fails, &answer) == RD_OK && answer.kind == RD_FAILED && rd_shared_get_numbers(&theirs, &n) == RD_OK);
+    CHECK(n.failed == 1 && n.loads == 0 && n.flights == 0 && n.step == 7 && n.latest == 8 && n.lookups == 4);
+    CHECK(rd_shared_close(&theirs) == RD_OK && rd_shared_get_numbers(&theirs, &m) == RD_CLOSED && m.step == 6);
+    CHECK(rd_shared_close(&mine) == RD_OK);
+}
+
 /* A caller that is closed, a name that is too long, and keys of the other kind: nothing happens. */
 static void refuses_other_keys(rd_caller *caller) {
     rd_caller closed = RD_CALLER_INIT;
@@ -280,6 +311,7 @@ int main(int argc, char **argv) {
     CHECK(OPEN(&setup, &cache) == RD_OK && CALL(rd_shared_open, rd_shared_open_names)(&setup, &workers[0].caller) == RD_OK);
     refuses_other_keys(&workers[0].caller);
     peeks_are_no_steps();
+    tells_the_numbers();
     for (int t = 0; t < THREADS; t++) {
         CHECK(t == 0 || rd_shared_another(&workers[0].caller, &workers[t].caller) == RD_OK);
         workers[t].rng = 88172645463325252ull + (uint64_t)t * 7919;

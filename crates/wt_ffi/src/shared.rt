@@ -6,6 +6,7 @@ pub(crate) mod living;
 mod make;
 pub(crate) mod name_calls;
 pub(crate) mod names;
+pub(crate) mod numbers;
 pub(crate) mod opening;
 pub(crate) mod peek;
 pub(crate) mod pointer;
