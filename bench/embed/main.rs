@@ -140,7 +140,7 @@ impl<S: BuildHasher> Work for Loading<u64, u64, (), S> {
         self.look_at(&key, now).expect("memory is there").is_some()
     }
     fn put(&self, key: u64, now: u64) {
-        self.store_at(&key, key.into(), 1, now).expect("memory is there");
+        self.store_at(&key, key, 1, now).expect("memory is there");
     }
     fn read_through(&self, key: u64, now: u64) -> bool {
         let mut there = true;
@@ -171,7 +171,7 @@ impl Work for Tasks {
         self.cache.look_at(&key, now).expect("memory is there").is_some()
     }
     fn put(&self, key: u64, now: u64) {
-        self.cache.store_at(&key, key.into(), 1, now).expect("memory is there");
+        self.cache.store_at(&key, key, 1, now).expect("memory is there");
     }
     fn read_through(&self, key: u64, now: u64) -> bool {
         let mut there = true;

@@ -45,7 +45,7 @@ fn main() {
         "loading" | "loading-fixed" => weigh(
             entries,
             Loading::<u64, u64, ()>::open(&setup).expect("the setup is within its ranges"),
-            |cache, key| cache.store(&key, key.into(), 1).expect("memory is there"),
+            |cache, key| cache.store(&key, key, 1).expect("memory is there"),
             |cache| cache.numbers().entries,
             before,
         ),

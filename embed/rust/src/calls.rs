@@ -17,7 +17,7 @@ impl<K: Hash + Eq, V, E, S: BuildHasher> Loading<K, V, E, S> {
     /// ```
     /// # use rookdresser::{Loading, Setup};
     /// # let cache = Loading::<String, u64, std::io::Error>::open(&Setup::of(100))?;
-    /// cache.store("a", 7.into(), 1)?;
+    /// cache.store("a", 7, 1)?;
     /// assert_eq!((cache.look("a")?, cache.look("b")?), (Some(7.into()), None));
     /// # Ok::<(), Box<dyn std::error::Error>>(())
     /// ```
@@ -35,7 +35,7 @@ impl<K: Hash + Eq, V, E, S: BuildHasher> Loading<K, V, E, S> {
     /// # use rookdresser::{Loading, Setup};
     /// # let cache = Loading::<String, u64, std::io::Error>::open(&Setup { after_write: 10, ..Setup::of(100) })?;
     /// // Entries expire after 10 milliseconds here.
-    /// cache.store_at("a", 7.into(), 1, 1000)?;
+    /// cache.store_at("a", 7, 1, 1000)?;
     /// assert_eq!((cache.look_at("a", 1009)?, cache.look_at("a", 1010)?), (Some(7.into()), None));
     /// # Ok::<(), Box<dyn std::error::Error>>(())
     /// ```
@@ -79,7 +79,7 @@ impl<K: Hash + Eq, V, E, S: BuildHasher> Loading<K, V, E, S> {
     /// ```
     /// # use rookdresser::{Loading, Setup};
     /// # let cache = Loading::<String, u64, std::io::Error>::open(&Setup::of(100))?;
-    /// cache.store("a", 7.into(), 1)?;
+    /// cache.store("a", 7, 1)?;
     /// assert_eq!(*cache.drop_key("a")?[0].value, 7);
     /// assert_eq!(cache.look("a")?, None);
     /// # Ok::<(), Box<dyn std::error::Error>>(())
@@ -97,7 +97,7 @@ impl<K: Hash + Eq, V, E, S: BuildHasher> Loading<K, V, E, S> {
     /// ```
     /// # use rookdresser::{Cause, Loading, Setup};
     /// # let cache = Loading::<String, u64, std::io::Error>::open(&Setup { after_write: 10, ..Setup::of(100) })?;
-    /// cache.store_at("a", 7.into(), 1, 1000)?;
+    /// cache.store_at("a", 7, 1, 1000)?;
     /// assert_eq!(cache.drop_key_at("a", 1005)?[0].cause, Cause::Explicit);
     /// # Ok::<(), Box<dyn std::error::Error>>(())
     /// ```
@@ -163,14 +163,18 @@ impl<K: Hash + Eq, V, E, S: BuildHasher> Loading<K, V, E, S> {
 
     /// Stores the value under the key. What left is dropped, once the listener was told.
     ///
+    /// It takes a `V`, of which the cache makes an `Arc`, or an `Arc<V>`. So do the other calls that store.
+    ///
     /// ```
     /// # use rookdresser::{Loading, Setup};
     /// # let cache = Loading::<String, u64, std::io::Error>::open(&Setup::of(100))?;
-    /// cache.store("a", 7.into(), 1)?; // a u64 becomes an Arc<u64>
-    /// assert_eq!(cache.look("a")?.as_deref(), Some(&7));
+    /// cache.store("a", 7, 1)?;
+    /// let seven = cache.look("a")?.expect("it is there"); // an Arc<u64>
+    /// cache.store("b", seven, 1)?;
+    /// assert_eq!(cache.look("b")?.as_deref(), Some(&7));
     /// # Ok::<(), Box<dyn std::error::Error>>(())
     /// ```
-    pub fn store<Q>(&self, key: &Q, value: Arc<V>, weight: u32) -> Result<(), Fault>
+    pub fn store<Q>(&self, key: &Q, value: impl Into<Arc<V>>, weight: u32) -> Result<(), Fault>
     where
         K: Borrow<Q>,
         Q: Hash + Eq + ToOwned<Owned = K> + ?Sized,
@@ -183,16 +187,16 @@ impl<K: Hash + Eq, V, E, S: BuildHasher> Loading<K, V, E, S> {
     /// ```
     /// # use rookdresser::{Loading, Setup};
     /// # let cache = Loading::<String, u64, std::io::Error>::open(&Setup { after_write: 10, ..Setup::of(100) })?;
-    /// cache.store_at("a", 7.into(), 1, 1000)?;
+    /// cache.store_at("a", 7, 1, 1000)?;
     /// assert_eq!(cache.look_at("a", 1005)?.as_deref(), Some(&7));
     /// # Ok::<(), Box<dyn std::error::Error>>(())
     /// ```
-    pub fn store_at<Q>(&self, key: &Q, value: Arc<V>, weight: u32, now: u64) -> Result<(), Fault>
+    pub fn store_at<Q>(&self, key: &Q, value: impl Into<Arc<V>>, weight: u32, now: u64) -> Result<(), Fault>
     where
         K: Borrow<Q>,
         Q: Hash + Eq + ToOwned<Owned = K> + ?Sized,
     {
-        self.store_lived(key, value, (weight, Life::NONE), now)
+        self.store_lived(key, value.into(), (weight, Life::NONE), now)
     }
 
     /// Stores the value under the key, with a life: the entry expires as that ends, or earlier by the setup's durations. No use lengthens
@@ -205,11 +209,11 @@ impl<K: Hash + Eq, V, E, S: BuildHasher> Loading<K, V, E, S> {
     /// # use rookdresser::{Loading, Setup};
     /// # use std::time::Duration;
     /// # let cache = Loading::<String, u64, std::io::Error>::open(&Setup::of(100))?;
-    /// cache.store_for("a session", 7.into(), 1, Duration::from_secs(60))?;
+    /// cache.store_for("a session", 7, 1, Duration::from_secs(60))?;
     /// assert_eq!(cache.look("a session")?.as_deref(), Some(&7));
     /// # Ok::<(), Box<dyn std::error::Error>>(())
     /// ```
-    pub fn store_for<Q>(&self, key: &Q, value: Arc<V>, weight: u32, life: Duration) -> Result<(), Fault>
+    pub fn store_for<Q>(&self, key: &Q, value: impl Into<Arc<V>>, weight: u32, life: Duration) -> Result<(), Fault>
     where
         K: Borrow<Q>,
         Q: Hash + Eq + ToOwned<Owned = K> + ?Sized,
@@ -223,16 +227,23 @@ impl<K: Hash + Eq, V, E, S: BuildHasher> Loading<K, V, E, S> {
     /// # use rookdresser::{Loading, Setup};
     /// # use std::time::Duration;
     /// # let cache = Loading::<String, u64, std::io::Error>::open(&Setup::of(100))?;
-    /// cache.store_for_at("a", 7.into(), 1, Duration::from_millis(10), 1000)?;
+    /// cache.store_for_at("a", 7, 1, Duration::from_millis(10), 1000)?;
     /// assert_eq!((cache.look_at("a", 1009)?, cache.look_at("a", 1010)?), (Some(7.into()), None));
     /// # Ok::<(), Box<dyn std::error::Error>>(())
     /// ```
-    pub fn store_for_at<Q>(&self, key: &Q, value: Arc<V>, weight: u32, life: Duration, now: u64) -> Result<(), Fault>
+    pub fn store_for_at<Q>(
+        &self,
+        key: &Q,
+        value: impl Into<Arc<V>>,
+        weight: u32,
+        life: Duration,
+        now: u64,
+    ) -> Result<(), Fault>
     where
         K: Borrow<Q>,
         Q: Hash + Eq + ToOwned<Owned = K> + ?Sized,
     {
-        self.store_lived(key, value, (weight, Life::of(life)), now)
+        self.store_lived(key, value.into(), (weight, Life::of(life)), now)
     }
 
     #[inline]
@@ -253,12 +264,12 @@ impl<K: Hash + Eq, V, E, S: BuildHasher> Loading<K, V, E, S> {
     /// ```
     /// # use rookdresser::{Cause, Loading, Setup};
     /// # let cache = Loading::<String, u64, std::io::Error>::open(&Setup::of(100))?;
-    /// assert_eq!(cache.put("a", 7.into(), 1)?, []);
-    /// let left = cache.put("a", 8.into(), 1)?;
+    /// assert_eq!(cache.put("a", 7, 1)?, []);
+    /// let left = cache.put("a", 8, 1)?;
     /// assert_eq!((*left[0].value, left[0].cause), (7, Cause::Replaced));
     /// # Ok::<(), Box<dyn std::error::Error>>(())
     /// ```
-    pub fn put<Q>(&self, key: &Q, value: Arc<V>, weight: u32) -> Result<Vec<Gone<K, V>>, Fault>
+    pub fn put<Q>(&self, key: &Q, value: impl Into<Arc<V>>, weight: u32) -> Result<Vec<Gone<K, V>>, Fault>
     where
         K: Borrow<Q>,
         Q: Hash + Eq + ToOwned<Owned = K> + ?Sized,
@@ -271,17 +282,17 @@ impl<K: Hash + Eq, V, E, S: BuildHasher> Loading<K, V, E, S> {
     /// ```
     /// # use rookdresser::{Cause, Loading, Setup};
     /// # let cache = Loading::<String, u64, std::io::Error>::open(&Setup { after_write: 10, ..Setup::of(100) })?;
-    /// cache.put_at("a", 7.into(), 1, 1000)?;
-    /// assert_eq!(cache.put_at("a", 8.into(), 1, 1010)?[0].cause, Cause::Expired);
+    /// cache.put_at("a", 7, 1, 1000)?;
+    /// assert_eq!(cache.put_at("a", 8, 1, 1010)?[0].cause, Cause::Expired);
     /// # Ok::<(), Box<dyn std::error::Error>>(())
     /// ```
-    pub fn put_at<Q>(&self, key: &Q, value: Arc<V>, weight: u32, now: u64) -> Result<Vec<Gone<K, V>>, Fault>
+    pub fn put_at<Q>(&self, key: &Q, value: impl Into<Arc<V>>, weight: u32, now: u64) -> Result<Vec<Gone<K, V>>, Fault>
     where
         K: Borrow<Q>,
         Q: Hash + Eq + ToOwned<Owned = K> + ?Sized,
     {
         let (mut left, mut panics) = (AllGone::none(), Panics::default());
-        self.stored(key, value, (weight, Life::NONE), now, &mut left, &mut panics)?;
+        self.stored(key, value.into(), (weight, Life::NONE), now, &mut left, &mut panics)?;
         Ok(self.listener.told(left, panics))
     }
 

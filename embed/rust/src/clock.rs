@@ -45,11 +45,11 @@ mod tests {
         type Pages = Loading<u64, u64, ()>;
         let is_read = |cache: &Pages| cache.clock.is_read.load(Ordering::Relaxed);
         for gives_a_life in [
-            |cache: &Pages| cache.store_for(&1, 7.into(), 1, Duration::from_secs(60)).unwrap(),
+            |cache: &Pages| cache.store_for(&1, 7, 1, Duration::from_secs(60)).unwrap(),
             |cache: &Pages| drop(cache.get_for(&1, || Ok((7, 1, Duration::from_secs(60)))).unwrap()),
         ] {
             let cache = Pages::open(&Setup::of(100)).unwrap();
-            cache.store(&2, 8.into(), 1).unwrap();
+            cache.store(&2, 8, 1).unwrap();
             assert!(!is_read(&cache));
             gives_a_life(&cache);
             assert!(is_read(&cache));

@@ -277,7 +277,7 @@ impl<K: Hash + Eq, V, E, S: BuildHasher> Loading<K, V, E, S> {
     /// # mod runtime { include!(concat!(env!("CARGO_MANIFEST_DIR"), "/tests/common/block_on.rs")); }
     /// # runtime::block_on(async {
     /// # let cache = Loading::<String, u64, std::io::Error>::open(&Setup::of(100))?;
-    /// cache.store("a", 7.into(), 1)?;
+    /// cache.store("a", 7, 1)?;
     /// let found = cache.get_many(["a", "b"], |absent| async move {
     ///     assert_eq!(absent, ["b"]);
     ///     Ok([("b".into(), (8, 2))].into()) // weighs 2

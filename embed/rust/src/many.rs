@@ -30,7 +30,7 @@ impl<K: Hash + Eq, V, E, S: BuildHasher> Loading<K, V, E, S> {
     /// ```
     /// # use rookdresser::{Loading, Setup};
     /// # let cache = Loading::<String, u64, std::io::Error>::open(&Setup::of(100))?;
-    /// cache.store("a", 7.into(), 1)?;
+    /// cache.store("a", 7, 1)?;
     /// let found = cache.get_many(["a", "b", "c"], |absent| {
     ///     assert_eq!(absent, ["b", "c"]);
     ///     Ok([("b".into(), (8, 2))].into()) // weighs 2, and there is no c

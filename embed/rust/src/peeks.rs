@@ -14,7 +14,7 @@ impl<K, V, E, S> Loading<K, V, E, S> {
     /// ```
     /// # use rookdresser::{Loading, Setup};
     /// # let cache = Loading::<String, u64, std::io::Error>::open(&Setup::of(100))?;
-    /// cache.store("a", 7.into(), 1)?;
+    /// cache.store("a", 7, 1)?;
     /// assert!(cache.contains_key("a") && !cache.contains_key("b"));
     /// assert_eq!((cache.stats().hits, cache.stats().misses), (0, 0));
     /// # Ok::<(), Box<dyn std::error::Error>>(())
@@ -34,7 +34,7 @@ impl<K, V, E, S> Loading<K, V, E, S> {
     /// # use rookdresser::{Loading, Setup};
     /// # let cache = Loading::<String, u64, std::io::Error>::open(&Setup { after_write: 10, ..Setup::of(100) })?;
     /// // Entries expire after 10 milliseconds here.
-    /// cache.store_at("a", 7.into(), 1, 1000)?;
+    /// cache.store_at("a", 7, 1, 1000)?;
     /// assert!(cache.contains_key_at("a", 1009) && !cache.contains_key_at("a", 1010));
     /// # Ok::<(), Box<dyn std::error::Error>>(())
     /// ```
@@ -59,8 +59,8 @@ impl<K, V, E, S> Loading<K, V, E, S> {
     /// ```
     /// # use rookdresser::{Loading, Setup};
     /// # let cache = Loading::<String, u64, std::io::Error>::open(&Setup::of(100))?;
-    /// cache.store("a", 7.into(), 1)?;
-    /// cache.store("b", 8.into(), 1)?;
+    /// cache.store("a", 7, 1)?;
+    /// cache.store("b", 8, 1)?;
     /// let mut keys = cache.keys();
     /// keys.sort();
     /// assert_eq!(keys, [String::from("a").into(), String::from("b").into()]);
@@ -75,7 +75,7 @@ impl<K, V, E, S> Loading<K, V, E, S> {
     /// ```
     /// # use rookdresser::{Loading, Setup};
     /// # let cache = Loading::<String, u64, std::io::Error>::open(&Setup { after_write: 10, ..Setup::of(100) })?;
-    /// cache.store_at("a", 7.into(), 1, 1000)?;
+    /// cache.store_at("a", 7, 1, 1000)?;
     /// assert_eq!((cache.keys_at(1009).len(), cache.keys_at(1010).len()), (1, 0));
     /// # Ok::<(), Box<dyn std::error::Error>>(())
     /// ```

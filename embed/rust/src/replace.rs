@@ -22,17 +22,17 @@ impl<K: Hash + Eq, V, E, S: BuildHasher> Loading<K, V, E, S> {
     /// ```
     /// # use rookdresser::{Loading, Setup};
     /// # let cache = Loading::<String, u64, std::io::Error>::open(&Setup::of(100))?;
-    /// cache.store("a", 7.into(), 1)?;
+    /// cache.store("a", 7, 1)?;
     /// loop {
     ///     let old = cache.look("a")?.expect("nobody drops it");
-    ///     if cache.replace_if("a", &old, (*old + 1).into(), 1)? {
+    ///     if cache.replace_if("a", &old, *old + 1, 1)? {
     ///         break;
     ///     }
     /// }
     /// assert_eq!(cache.look("a")?.as_deref(), Some(&8));
     /// # Ok::<(), Box<dyn std::error::Error>>(())
     /// ```
-    pub fn replace_if<Q>(&self, key: &Q, old: &Arc<V>, value: Arc<V>, weight: u32) -> Result<bool, Fault>
+    pub fn replace_if<Q>(&self, key: &Q, old: &Arc<V>, value: impl Into<Arc<V>>, weight: u32) -> Result<bool, Fault>
     where
         K: Borrow<Q>,
         Q: Hash + Eq + ?Sized,
@@ -49,15 +49,22 @@ impl<K: Hash + Eq, V, E, S: BuildHasher> Loading<K, V, E, S> {
     /// let old = std::sync::Arc::new(7);
     /// cache.store_at("a", old.clone(), 1, 1000)?;
     /// assert!(cache.replace_if_at("a", &old, old.clone(), 1, 1009)?);
-    /// assert!(!cache.replace_if_at("a", &old, 8.into(), 1, 1019)?);
+    /// assert!(!cache.replace_if_at("a", &old, 8, 1, 1019)?);
     /// # Ok::<(), Box<dyn std::error::Error>>(())
     /// ```
-    pub fn replace_if_at<Q>(&self, key: &Q, old: &Arc<V>, value: Arc<V>, weight: u32, now: u64) -> Result<bool, Fault>
+    pub fn replace_if_at<Q>(
+        &self,
+        key: &Q,
+        old: &Arc<V>,
+        value: impl Into<Arc<V>>,
+        weight: u32,
+        now: u64,
+    ) -> Result<bool, Fault>
     where
         K: Borrow<Q>,
         Q: Hash + Eq + ?Sized,
     {
-        let value = Guarded::of(value);
+        let value = Guarded::of(value.into());
         let hash = self.hash(key);
         let (mut shard, at) = self.found(self.shard(hash).take(), hash, key);
         let Some(at) = at.filter(|&at| shard.holds(at, old, now)) else {
@@ -92,11 +99,11 @@ impl<K: Hash + Eq, V, E, S: BuildHasher> Loading<K, V, E, S> {
     /// ```
     /// # use rookdresser::{Loading, Setup};
     /// # let cache = Loading::<String, u64, std::io::Error>::open(&Setup::of(100))?;
-    /// assert_eq!(*cache.get_or_insert("a", 7.into(), 1)?, 7);
-    /// assert_eq!(*cache.get_or_insert("a", 8.into(), 1)?, 7);
+    /// assert_eq!(*cache.get_or_insert("a", 7, 1)?, 7);
+    /// assert_eq!(*cache.get_or_insert("a", 8, 1)?, 7);
     /// # Ok::<(), Box<dyn std::error::Error>>(())
     /// ```
-    pub fn get_or_insert<Q>(&self, key: &Q, value: Arc<V>, weight: u32) -> Result<Arc<V>, Fault>
+    pub fn get_or_insert<Q>(&self, key: &Q, value: impl Into<Arc<V>>, weight: u32) -> Result<Arc<V>, Fault>
     where
         K: Borrow<Q>,
         Q: Hash + Eq + ToOwned<Owned = K> + ?Sized,
@@ -110,17 +117,17 @@ impl<K: Hash + Eq, V, E, S: BuildHasher> Loading<K, V, E, S> {
     /// # use rookdresser::{Loading, Setup};
     /// # let cache = Loading::<String, u64, std::io::Error>::open(&Setup { after_write: 10, ..Setup::of(100) })?;
     /// // Entries expire after 10 milliseconds here.
-    /// assert_eq!(*cache.get_or_insert_at("a", 7.into(), 1, 1000)?, 7);
-    /// assert_eq!(*cache.get_or_insert_at("a", 8.into(), 1, 1009)?, 7);
-    /// assert_eq!(*cache.get_or_insert_at("a", 9.into(), 1, 1010)?, 9);
+    /// assert_eq!(*cache.get_or_insert_at("a", 7, 1, 1000)?, 7);
+    /// assert_eq!(*cache.get_or_insert_at("a", 8, 1, 1009)?, 7);
+    /// assert_eq!(*cache.get_or_insert_at("a", 9, 1, 1010)?, 9);
     /// # Ok::<(), Box<dyn std::error::Error>>(())
     /// ```
-    pub fn get_or_insert_at<Q>(&self, key: &Q, value: Arc<V>, weight: u32, now: u64) -> Result<Arc<V>, Fault>
+    pub fn get_or_insert_at<Q>(&self, key: &Q, value: impl Into<Arc<V>>, weight: u32, now: u64) -> Result<Arc<V>, Fault>
     where
         K: Borrow<Q>,
         Q: Hash + Eq + ToOwned<Owned = K> + ?Sized,
     {
-        let value = Guarded::of(value);
+        let value = Guarded::of(value.into());
         let hash = self.hash(key);
         let mut panics = Panics::default();
         let shard = match self.hit(hash, key, now) {

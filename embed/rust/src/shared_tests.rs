@@ -27,10 +27,10 @@ fn answer(cache: &Cache, call: Call, value: u64) -> Option<u64> {
     match call {
         Call::Look(key, now) => cache.look_at(&key, now).unwrap().map(|value| *value),
         Call::Get(key, now) => Some(*cache.get_at(&key, now, || Ok((value, 1))).unwrap()),
-        Call::Store(key, now) => cache.store_at(&key, value.into(), 1, now).map(|()| None).unwrap(),
+        Call::Store(key, now) => cache.store_at(&key, value, 1, now).map(|()| None).unwrap(),
         Call::StoreFor(key, now) => {
             let life = Duration::from_millis(10);
-            cache.store_for_at(&key, value.into(), 1, life, now).map(|()| None).unwrap()
+            cache.store_for_at(&key, value, 1, life, now).map(|()| None).unwrap()
         }
         Call::Drop(key, now) => cache.drop_key_at(&key, now).unwrap().first().map(|left| *left.value),
         Call::Count => Some(cache.stats().hits),
@@ -41,8 +41,8 @@ fn answer(cache: &Cache, call: Call, value: u64) -> Option<u64> {
 fn looked_at(setup: &Setup, reads: Reads, looks: u64) -> Cache {
     use_stripe(0);
     let cache = Cache::sharded_with_hasher(1, setup, BuildHasherDefault::default()).unwrap().with_reads(reads);
-    cache.store_at(&1, 1.into(), 1, 0).unwrap();
-    cache.store_at(&2, 2.into(), 1, 8).unwrap();
+    cache.store_at(&1, 1, 1, 0).unwrap();
+    cache.store_at(&2, 2, 1, 8).unwrap();
     (0..looks).for_each(|_| assert!(cache.look_at(&2, 8).unwrap().is_some()));
     cache
 }
@@ -126,7 +126,7 @@ const LOOKS: [u64; 2] = [8, 13];
 fn an_open_shard_serves_nothing_beyond_its_life() {
     for setup in [Setup::of(64), Setup { after_write: 60, ..Setup::of(64) }] {
         let cache = looked_at(&setup, Reads::Shared, 0);
-        cache.store_for_at(&3, 3.into(), 1, Duration::from_millis(10), 20).unwrap();
+        cache.store_for_at(&3, 3, 1, Duration::from_millis(10), 20).unwrap();
         (0..20).for_each(|_| assert!(cache.look_at(&3, 20).unwrap().is_some()));
         assert_eq!(cache.open_shards(), 1);
         // Another key's hit moves the time, and the shard stays open.
@@ -257,8 +257,8 @@ fn durations_and_moments_may_be_the_greatest_there_are() {
 #[test]
 fn a_refused_call_leaves_the_latest_moment_as_it_was() {
     let cache = Loading::<u64, u64, ()>::sharded(1, &Setup { bound: 5, ..aged() }).unwrap();
-    cache.store_at(&1, 1.into(), 1, 0).unwrap();
-    assert_eq!(cache.store_at(&2, 2.into(), 6, 50), Err(Fault::TooHeavy));
+    cache.store_at(&1, 1, 1, 0).unwrap();
+    assert_eq!(cache.store_at(&2, 2, 6, 50), Err(Fault::TooHeavy));
     assert_eq!((cache.numbers().latest, cache.look_at(&1, 9).unwrap().as_deref()), (0, Some(&1)));
 }
 
@@ -319,7 +319,7 @@ fn finds_nothing_that_was_removed<K: Hash + Eq + Clone + Send + Sync>(key: fn(u6
                                 assert_eq!(cache.look(&key(of)), Ok(None), "nobody else writes the key");
                                 looks.fetch_add(1, SeqCst);
                             }
-                            cache.store(&key(of), version.into(), 1).unwrap();
+                            cache.store(&key(of), version, 1).unwrap();
                             least[of as usize].store(version, SeqCst);
                         } else {
                             let found = cache.look(&key(of)).unwrap();
@@ -415,7 +415,7 @@ fn an_adviser_is_shown_what_the_library_is_told_once_and_in_its_order() {
     }
     assert_eq!(exact.shown(), wanted[..wanted.len() / 2 * 2]);
     let shared = Cache::sharded_with_hasher(2, &following(2), BuildHasherDefault::default()).unwrap();
-    (0..400).for_each(|key| shared.store(&key, key.into(), 1).unwrap());
+    (0..400).for_each(|key| shared.store(&key, key, 1).unwrap());
     for call in 0..20_000 {
         let key = random.below(if call % 1000 == 0 { 900 } else { 200 });
         answer(&shared, if random.below(2) == 0 { Call::Look(key, 0) } else { Call::Get(key, 0) }, key);
@@ -430,7 +430,7 @@ fn calls_of_two_threads_on_shards_with_one_adviser_end_in_every_order() {
     let cache = || {
         use_stripe(0);
         let cache = Cache::sharded_with_hasher(2, &following(2), BuildHasherDefault::default()).unwrap();
-        (0..8).for_each(|key| cache.store_at(&key, key.into(), 1, 0).unwrap());
+        (0..8).for_each(|key| cache.store_at(&key, key, 1, 0).unwrap());
         (0..80).for_each(|look| assert!(cache.look_at(&(look % 8), 0).unwrap().is_some()));
         cache
     };
@@ -514,7 +514,7 @@ fn a_key_that_panics_has_no_look_up_shown_twice_or_left_out() {
         let call = || match round % 3 {
             0 => cache.look(&key).map(drop).unwrap(),
             1 => cache.get_with(&key, || round).map(drop).unwrap(),
-            _ if round % 40 == 2 => cache.store(&key, round.into(), 1).unwrap(),
+            _ if round % 40 == 2 => cache.store(&key, round, 1).unwrap(),
             _ => cache.get_with(&key, || round).map(drop).unwrap(),
         };
         panics.fetch_add(u64::from(catch_unwind(AssertUnwindSafe(call)).is_err()), SeqCst);

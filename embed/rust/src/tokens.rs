@@ -30,7 +30,7 @@ impl Fault {
     /// use rookdresser::{Fault, Loading, Setup};
     ///
     /// let cache = Loading::<u64, u64, ()>::open(&Setup { bound: 10, ..Setup::of(100) })?;
-    /// assert_eq!(cache.store(&1, 7.into(), 11), Err(Fault::TooHeavy));
+    /// assert_eq!(cache.store(&1, 7, 11), Err(Fault::TooHeavy));
     /// assert_eq!(cache.stats().refused[Fault::TooHeavy.place()], 1);
     /// # Ok::<(), Box<dyn std::error::Error>>(())
     /// ```

@@ -271,7 +271,7 @@ fn the_windows_are_those_of_a_plain_replay() {
                     cache.get_at(&key, now, load).unwrap();
                     hit
                 }
-                90..=95 => cache.store_at(&key, key.into(), 1, now).is_ok(),
+                90..=95 => cache.store_at(&key, key, 1, now).is_ok(),
                 96..=97 => {
                     cache.drop_key_at(&key, now).unwrap().iter().any(|left| left.cause != rookdresser::Cause::Expired)
                 }
@@ -317,9 +317,9 @@ fn a_refused_call_leaves_the_latest_moment_as_it_was_though_the_window_moved() {
         let key = keys.next().unwrap();
         cache.get_at(&key, 0, || Ok((key, 1))).unwrap();
     }
-    cache.store_at(&1, 7.into(), 1, 0).unwrap();
+    cache.store_at(&1, 7, 1, 0).unwrap();
     let (before, step) = (cache.window(), cache.numbers().step);
-    assert_eq!(cache.store_at(&2, 8.into(), 10_001, 50), Err(rookdresser::Fault::TooHeavy));
+    assert_eq!(cache.store_at(&2, 8, 10_001, 50), Err(rookdresser::Fault::TooHeavy));
     assert_eq!((cache.window().abs_diff(before), cache.numbers().step - step), (4, 4), "four slides, and no call");
     assert_eq!((cache.numbers().latest, cache.look_at(&1, 9).unwrap().as_deref()), (0, Some(&7)));
 }
@@ -352,7 +352,7 @@ fn threads_whose_windows_move_find_no_value_that_was_replaced() {
                             if key % 8 == thread && random.below(4) == 0 {
                                 let version = next.fetch_add(1, SeqCst);
                                 source[key as usize].store(version, SeqCst);
-                                cache.store(&key, version.into(), 1).unwrap();
+                                cache.store(&key, version, 1).unwrap();
                                 least[key as usize].store(version, SeqCst);
                             } else if random.below(2) == 0 {
                                 let found = cache.look(&key).unwrap();

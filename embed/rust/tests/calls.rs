@@ -6,6 +6,7 @@ use rookdresser::{Cache, Cause, Fault, Found, GetError, Landed, Loading, Setup};
 use std::hash::{BuildHasher, Hasher};
 use std::sync::atomic::{AtomicU64, Ordering::SeqCst};
 use std::sync::{Arc, Mutex};
+use std::time::Duration;
 
 #[test]
 fn entries_expire_and_get_due_by_the_cache_s_own_clock() {
@@ -50,6 +51,38 @@ fn a_loader_may_return_the_value_alone() {
     assert_eq!(failed, Err(GetError::Load(Arc::new(Fault::TooHeavy))));
     assert_eq!(*cache.get_with("a", || String::from("of another")).unwrap(), "of a");
     assert_eq!((cache.numbers().weight, cache.numbers().entries), (2, 2));
+}
+
+#[test]
+fn a_store_takes_a_value_or_a_share_of_one() {
+    struct Page(u64); // neither Clone nor anything else
+    let cache = Loading::<String, Page, ()>::open(&Setup::of(10)).unwrap();
+    let there = || cache.look("a").unwrap().unwrap();
+    let hour = Duration::from_secs(3600);
+    let stores: [&dyn Fn(u64); 6] = [
+        &|text| cache.store("a", Page(text), 1).unwrap(),
+        &|text| cache.store_at("a", Page(text), 1, 0).unwrap(),
+        &|text| cache.store_for("a", Page(text), 1, hour).unwrap(),
+        &|text| cache.store_for_at("a", Page(text), 1, hour, 0).unwrap(),
+        &|text| drop(cache.put("a", Page(text), 1).unwrap()),
+        &|text| drop(cache.put_at("a", Page(text), 1, 0).unwrap()),
+    ];
+    for (text, store) in (1..).zip(stores) {
+        store(text);
+        assert_eq!(there().0, text);
+    }
+    assert!(cache.replace_if("a", &there(), Page(7), 1).unwrap() && there().0 == 7);
+    assert!(cache.replace_if_at("a", &there(), Page(8), 1, 0).unwrap() && there().0 == 8);
+    assert_eq!(
+        (cache.get_or_insert("b", Page(9), 1).unwrap().0, cache.get_or_insert("b", Page(0), 1).unwrap().0),
+        (9, 9)
+    );
+    assert_eq!(cache.get_or_insert_at("c", Page(10), 1, 0).unwrap().0, 10);
+    // A share stays the same one.
+    let share = there();
+    cache.store("a", Page(11), 1).unwrap();
+    cache.store("a", share.clone(), 1).unwrap();
+    assert!(Arc::ptr_eq(&there(), &share) && Arc::ptr_eq(&cache.get_or_insert("d", share.clone(), 1).unwrap(), &share));
 }
 
 #[test]

@@ -48,7 +48,7 @@ fn a_load_is_made_once_for_all_tasks_that_ask() {
 #[test]
 fn a_hit_is_ready_at_once_and_its_loader_is_not_polled() {
     let cache = Cache::open(&SETUP).unwrap();
-    cache.store(&1, 7.into(), 1).unwrap();
+    cache.store(&1, 7, 1).unwrap();
     let never = async { unreachable!("it is there") };
     assert_eq!(Task::of(cache.get_with(&1, never)).ready(), Some(Ok(Arc::new(7))));
     assert_eq!((cache.stats().hits, cache.stats().misses), (1, 0));
@@ -149,7 +149,7 @@ fn a_value_that_is_stored_or_dropped_during_a_load_is_not_loaded_over() {
     let gate = Arc::new(Gate::default());
     let mut task = Task::of(loads(gate.clone(), 7));
     assert_eq!(task.ready(), None);
-    cache.store(&1, 8.into(), 1).unwrap();
+    cache.store(&1, 8, 1).unwrap();
     gate.open();
     assert_eq!((task.ready(), cache.look(&1)), (Some(Ok(Arc::new(7))), Ok(Some(Arc::new(8)))));
     drop(cache.drop_key(&1).unwrap());
@@ -169,7 +169,7 @@ fn a_value_that_is_stored_or_dropped_during_a_load_is_not_loaded_over() {
 fn a_due_entry_is_loaded_again_by_one_task_and_the_others_get_the_old_value() {
     let cache = Cache::open(&Setup { refresh: 10, ..SETUP }).unwrap();
     let gate = Gate::default();
-    cache.store_at(&1, 7.into(), 1, 0).unwrap();
+    cache.store_at(&1, 7, 1, 0).unwrap();
     let ready = |now, value| Task::of(cache.get_at(&1, now, async move { value })).ready();
     assert_eq!(ready(9, Ok((8, 1))), Some(Ok(Arc::new(7))));
     let mut renews = Task::of(cache.get_at(&1, 10, async {

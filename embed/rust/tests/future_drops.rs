@@ -155,7 +155,7 @@ fn tasks_that_are_polled_and_dropped_in_any_order_share_one_load_and_never_hang(
 #[test]
 fn a_refresh_that_is_dropped_leaves_the_old_value_and_another_one_refreshes() {
     let cache = Cache::open(&Setup { refresh: 10, ..SETUP }).unwrap();
-    cache.store_at(&1, 7.into(), 1, 0).unwrap();
+    cache.store_at(&1, 7, 1, 0).unwrap();
     let mut renews = Task::of(cache.get_at(&1, 10, async {
         yields(1).await;
         Ok((8, 1))

@@ -45,7 +45,7 @@ fn asks<'a, F: Future<Output = Loaded> + 'a>(
 fn tasks_and_threads_share_the_loads() {
     within_a_minute(|| {
         let (cache, gate) = (Cache::open(&SETUP).unwrap(), Gate::default());
-        cache.store(&1, 7.into(), 1).unwrap();
+        cache.store(&1, 7, 1).unwrap();
         let mut leads = asks(&cache, &[1, 2, 3], |absent| {
             assert_eq!(absent, [&2, &3]);
             gated(&gate, absent)

@@ -121,7 +121,7 @@ impl Wake for Inline {
         let Some(mut task) = self.task.lock().unwrap().take() else { return };
         match task.as_mut().poll(&mut std::task::Context::from_waker(&self.clone().into())) {
             Poll::Ready(value) => {
-                self.cache.store(&2, value.unwrap().into(), 1).unwrap();
+                self.cache.store(&2, value.unwrap(), 1).unwrap();
                 assert_eq!(self.cache.drop_key(&1).unwrap().len(), 1);
             }
             Poll::Pending => *self.task.lock().unwrap() = Some(task),

@@ -169,7 +169,7 @@ async fn calls(cache: &Cache, source: &Source, task: u64) {
         match random.below(100) {
             0..=3 => source.write(own, |_| drop(cache.drop_key_at(&own, now).unwrap())),
             4..=7 => source.write(own, |version| {
-                cache.store_at(&own, Thing::of(own, version).into(), 1, now).unwrap();
+                cache.store_at(&own, Thing::of(own, version), 1, now).unwrap();
             }),
             8 => drop(cache.forget_at(&key, now).unwrap()),
             9 if random.below(50) == 0 => drop(cache.clear_at(now).unwrap()),

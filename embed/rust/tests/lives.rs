@@ -24,8 +24,8 @@ fn an_entry_with_a_short_life_leaves_beside_one_without() {
     let told = left.clone();
     let cache = Pages::open(&Setup::of(100)).unwrap();
     let cache = cache.with_listener(move |gone| told.lock().unwrap().push((*gone.key, *gone.value, gone.cause)));
-    cache.store_for_at(&1, 11.into(), 1, ms(5), 1000).unwrap();
-    cache.store_at(&2, 12.into(), 1, 1000).unwrap();
+    cache.store_for_at(&1, 11, 1, ms(5), 1000).unwrap();
+    cache.store_at(&2, 12, 1, 1000).unwrap();
     assert_eq!(cache.look_at(&1, 1004).unwrap().as_deref(), Some(&11));
     assert_eq!(cache.keys_at(1005).len(), 1);
     assert_eq!(cache.look_at(&1, 1005).unwrap(), None);
@@ -38,7 +38,7 @@ fn an_entry_with_a_short_life_leaves_beside_one_without() {
 fn clean_takes_out_what_has_outlived_its_life() {
     let cache = Pages::open(&Setup::of(100)).unwrap();
     for life in [3, 5, 7] {
-        cache.store_for_at(&life, life.into(), 1, ms(life), 0).unwrap();
+        cache.store_for_at(&life, life, 1, ms(life), 0).unwrap();
     }
     assert_eq!(cache.clean_at(5).unwrap().len(), 2);
     assert_eq!(cache.kept(), (1, 1));
@@ -48,7 +48,7 @@ fn clean_takes_out_what_has_outlived_its_life() {
 fn a_use_lengthens_no_life() {
     for reads in [Reads::Shared, Reads::Exact] {
         let cache = Pages::open(&Setup::of(100)).unwrap().with_reads(reads);
-        cache.store_for_at(&1, 7.into(), 1, ms(1000), 0).unwrap();
+        cache.store_for_at(&1, 7, 1, ms(1000), 0).unwrap();
         for now in 0..1000 {
             assert_eq!(cache.look_at(&1, now).unwrap().as_deref(), Some(&7));
             assert_eq!(*cache.get_at(&1, now, || unreachable!("it is there")).unwrap(), 7);
@@ -61,7 +61,7 @@ fn a_use_lengthens_no_life() {
 fn a_duration_of_the_cache_ends_a_life_earlier() {
     for (after_write, after_access, life, ends) in [(5, 0, 9, 5), (9, 0, 5, 5), (0, 5, 9, 5), (0, 9, 5, 5)] {
         let cache = Pages::open(&Setup { after_write, after_access, ..Setup::of(100) }).unwrap();
-        cache.store_for_at(&1, 7.into(), 1, ms(life), 0).unwrap();
+        cache.store_for_at(&1, 7, 1, ms(life), 0).unwrap();
         assert_eq!(end(&cache, 1, 0), Some(ends));
     }
 }
@@ -78,7 +78,7 @@ fn the_shortest_life_is_a_millisecond_and_the_longest_49_days() {
     ];
     for (life, ends) in rows {
         let cache = Pages::open(&Setup::of(100)).unwrap();
-        cache.store_for_at(&1, 7.into(), 1, life, 0).unwrap();
+        cache.store_for_at(&1, 7, 1, life, 0).unwrap();
         let last = ends.unwrap_or(1 << 50) - 1;
         assert!(cache.contains_key_at(&1, last), "{life:?}");
         assert_eq!(cache.contains_key_at(&1, last + 1), ends.is_none(), "{life:?}");
@@ -108,38 +108,37 @@ fn a_replacement_has_a_life_of_its_own() {
     {
         for loads in [false, true] {
             let cache = Pages::open(&Setup { refresh: 20, ..Setup::of(100) }).unwrap();
-            cache.store_for_at(&1, 1.into(), 1, first, 0).unwrap();
+            cache.store_for_at(&1, 1, 1, first, 0).unwrap();
             // The load is of an entry that is due, or has expired.
             if loads {
                 assert_eq!(*cache.get_for_at(&1, 20, || Ok((2, 1, then))).unwrap(), 2);
             } else {
-                cache.store_for_at(&1, 2.into(), 1, then, 20).unwrap();
+                cache.store_for_at(&1, 2, 1, then, 20).unwrap();
             }
             assert_eq!(end(&cache, 1, 20), ends, "{first:?}, {then:?}, {loads}");
         }
     }
     let cache = Pages::open(&Setup::of(100)).unwrap();
-    for store in [Pages::store_at, |cache: &Pages, key: &u64, value, weight, now| {
-        cache.put_at(key, value, weight, now).map(drop)
-    }] {
-        cache.store_for_at(&1, 1.into(), 1, ms(5), 0).unwrap();
-        store(&cache, &1, 2.into(), 1, 0).unwrap();
+    for puts in [false, true] {
+        cache.store_for_at(&1, 1, 1, ms(5), 0).unwrap();
+        let stored = if puts { cache.put_at(&1, 2, 1, 0).map(drop) } else { cache.store_at(&1, 2, 1, 0) };
+        stored.unwrap();
         assert_eq!(end(&cache, 1, 0), None);
     }
     let old = Arc::new(3);
     cache.store_for_at(&1, old.clone(), 1, ms(5), 0).unwrap();
-    assert!(cache.replace_if_at(&1, &old, 4.into(), 1, 4).unwrap());
+    assert!(cache.replace_if_at(&1, &old, 4, 1, 4).unwrap());
     assert_eq!(end(&cache, 1, 4), None);
 }
 
 #[test]
 fn a_refresh_gives_a_new_life_and_one_that_fails_keeps_the_old() {
     let cache = Pages::open(&Setup { refresh: 10, ..Setup::of(100) }).unwrap();
-    cache.store_for_at(&1, 1.into(), 1, ms(15), 0).unwrap();
+    cache.store_for_at(&1, 1, 1, ms(15), 0).unwrap();
     assert_eq!(*cache.get_for_at(&1, 10, || Err(())).unwrap(), 1);
     assert_eq!(*cache.get_for_at(&1, 10, || Ok((2, 1, ms(7)))).unwrap(), 2);
     assert_eq!(end(&cache, 1, 10), Some(17));
-    cache.store_for_at(&1, 3.into(), 1, ms(15), 17).unwrap();
+    cache.store_for_at(&1, 3, 1, ms(15), 17).unwrap();
     assert_eq!(*cache.get_for_at(&1, 27, || Err(())).unwrap(), 3);
     assert_eq!(end(&cache, 1, 27), Some(32));
 }
@@ -168,7 +167,7 @@ fn the_caches_for_one_owner_take_lives_too() {
 #[test]
 fn the_calls_without_a_moment_store_with_a_life() {
     let cache = Pages::open(&Setup::of(100)).unwrap();
-    cache.store_for(&1, 7.into(), 1, Duration::from_secs(3600)).unwrap();
+    cache.store_for(&1, 7, 1, Duration::from_secs(3600)).unwrap();
     assert_eq!(*cache.get_for(&2, || Ok((8, 1, Duration::from_secs(3600)))).unwrap(), 8);
     assert_eq!((cache.look(&1).unwrap().as_deref(), cache.look(&2).unwrap().as_deref()), (Some(&7), Some(&8)));
     assert_eq!(end(&cache, 1, 4_000_000), Some(4_000_000));
@@ -193,7 +192,7 @@ fn a_hundred_thousand_random_calls_are_those_of_a_map_with_deadlines() {
             // Most calls are look-ups, and they come in runs, so that the shard opens.
             match if turn % 1000 < 700 { 2 } else { random(20) } {
                 0 => {
-                    cache.store_for_at(&key, turn.into(), 1, given, now).unwrap();
+                    cache.store_for_at(&key, turn, 1, given, now).unwrap();
                     model.insert(key, (turn, until));
                 }
                 1 => {

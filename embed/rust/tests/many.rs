@@ -31,7 +31,7 @@ fn wait_for_joins(cache: &Cache, joins: u64) {
 #[test]
 fn one_call_of_the_loader_loads_what_is_not_there() {
     let cache = Cache::open(&SETUP).unwrap();
-    cache.store(&1, 7.into(), 1).unwrap();
+    cache.store(&1, 7, 1).unwrap();
     let mut asked = vec![];
     let found = cache.get_many(&[2, 1, 3, 2], |absent| {
         asked.extend(absent.iter().map(|key| **key));
@@ -74,7 +74,7 @@ fn who_asks_meanwhile_shares_the_loads() {
 fn a_key_that_the_loader_leaves_out_is_not_there_and_others_load_it() {
     within_a_minute(|| {
         let cache = Cache::open(&Setup { refresh: 10, ..SETUP }).unwrap();
-        cache.store_at(&3, 7.into(), 1, 0).unwrap();
+        cache.store_at(&3, 7, 1, 0).unwrap();
         std::thread::scope(|s| {
             let found = cache.get_many_at(&[1, 2, 3], 10, |absent| {
                 assert_eq!(absent, [&1, &2, &3]);
@@ -94,8 +94,8 @@ fn a_key_that_the_loader_leaves_out_is_not_there_and_others_load_it() {
 fn a_loader_that_fails_fails_for_all_but_old_values_stay() {
     within_a_minute(|| {
         let cache = Cache::open(&Setup { refresh: 10, ..SETUP }).unwrap();
-        cache.store_at(&1, 7.into(), 1, 0).unwrap();
-        cache.store_at(&2, 8.into(), 1, 0).unwrap();
+        cache.store_at(&1, 7, 1, 0).unwrap();
+        cache.store_at(&2, 8, 1, 0).unwrap();
         let due = cache.get_many_at(&[1, 2], 10, |absent| {
             assert_eq!(absent.len(), 2);
             Err(Down)
@@ -252,7 +252,7 @@ fn the_listener_is_told_once_all_loads_have_landed_and_may_ask_for_their_keys() 
             })
         });
         for (key, moment) in [(1, 0), (2, 0), (3, 0), (5, 0), (4, 5)] {
-            cache.store_at(&key, key.into(), 1, moment).unwrap();
+            cache.store_at(&key, key, 1, moment).unwrap();
         }
         // 1, 2 and 3 leave by the look-ups, 5 too or by a landing; 4 is found.
         let found = cache.get_many_at(&[4, 1, 2, 3], 10, |absent| Ok(hundreds(absent)));
@@ -277,7 +277,7 @@ fn an_entry_that_expires_while_another_call_loads_its_key_is_told_once_the_loads
                 TOLD.lock().unwrap().push((*left.key, *left.value, left.cause));
             })
         });
-        cache.store_at(&5, 7.into(), 1, 0).unwrap();
+        cache.store_at(&5, 7, 1, 0).unwrap();
         // It is due at 6, and has expired at 10, while its load is open.
         let got = cache.get_at(&5, 6, || {
             let found = cache.get_many_at(&[1, 5], 10, |absent| Ok(hundreds(absent)));
@@ -293,8 +293,8 @@ fn an_entry_that_expires_while_another_call_loads_its_key_is_told_once_the_loads
 fn a_change_during_the_loader_keeps_that_key_s_value_out() {
     let cache = Cache::open(&SETUP).unwrap();
     let found = cache.get_many(&[1, 2, 3], |absent| {
-        cache.store(&1, 7.into(), 1).unwrap();
-        assert_eq!(cache.get_or_insert(&2, 8.into(), 1), Ok(Arc::new(8)));
+        cache.store(&1, 7, 1).unwrap();
+        assert_eq!(cache.get_or_insert(&2, 8, 1), Ok(Arc::new(8)));
         Ok(hundreds(absent))
     });
     assert_eq!(sorted(found.unwrap()), [(1, 100), (2, 200), (3, 300)]);

@@ -15,7 +15,7 @@ fn the_keys_are_those_that_a_look_would_find() {
     let setup = Setup { after_write: 10, ..Setup::of(100) };
     for shards in [1, 4] {
         let cache = Cache::sharded(shards, &setup).unwrap();
-        (0..50).for_each(|key| cache.store_at(&key, key.into(), 1, key / 10).unwrap());
+        (0..50).for_each(|key| cache.store_at(&key, key, 1, key / 10).unwrap());
         drop(cache.drop_key_at(&49, 4).unwrap());
         // Of 0 to 48, the first ten expire at 10, the next ten at 11, and so on.
         for (now, least) in [(4, 0), (9, 0), (10, 10), (11, 20), (13, 40), (14, 49)] {
@@ -30,7 +30,7 @@ fn the_keys_are_those_that_a_look_would_find() {
 #[test]
 fn a_peek_is_no_use_and_no_count_and_moves_no_moment() {
     let cache = Cache::open(&Setup { after_write: 10, after_access: 5, ..Setup::of(8) }).unwrap();
-    cache.store_at(&1, 7.into(), 1, 0).unwrap();
+    cache.store_at(&1, 7, 1, 0).unwrap();
     assert!(cache.contains_key_at(&1, 4) && !cache.contains_key_at(&2, 4) && !cache.contains_key_at(&1, 5));
     assert_eq!(sorted(&cache, 4), [1]);
     assert_eq!(
@@ -54,7 +54,7 @@ fn a_key_whose_load_is_open_is_not_there() {
 #[test]
 fn a_peek_of_an_open_shard_finds_what_is_there() {
     let cache = Cache::sharded(1, &Setup::of(8)).unwrap();
-    cache.store(&1, 7.into(), 1).unwrap();
+    cache.store(&1, 7, 1).unwrap();
     // The shard opens after some hundred looks.
     (0..1000).for_each(|_| assert!(cache.look(&1).unwrap().is_some()));
     assert!(cache.contains_key(&1) && !cache.contains_key(&2));

@@ -2,15 +2,14 @@
 #[path = "common/tasks.rs"]
 mod tasks;
 use rookdresser::{future::Loading, Setup};
-use std::sync::Arc;
 use tasks::{run, Spawned};
 
 #[test]
 fn the_tasks_of_moka_s_page() -> Result<(), Box<dyn std::error::Error>> {
     const NUM_TASKS: usize = 16;
     const NUM_KEYS_PER_TASK: usize = 64;
-    fn value(n: usize) -> Arc<String> {
-        format!("value {n}").into()
+    fn value(n: usize) -> String {
+        format!("value {n}")
     }
     let cache = Loading::<usize, String, ()>::open(&Setup::of(10_000))?;
     let tasks: Vec<_> = (0..NUM_TASKS)
@@ -20,7 +19,7 @@ fn the_tasks_of_moka_s_page() -> Result<(), Box<dyn std::error::Error>> {
             Box::pin(async move {
                 for key in start..end {
                     my_cache.store(&key, value(key), 1).unwrap();
-                    assert_eq!(my_cache.look(&key), Ok(Some(value(key))));
+                    assert_eq!(my_cache.look(&key), Ok(Some(value(key).into())));
                 }
                 for key in (start..end).step_by(4) {
                     my_cache.drop_key(&key).unwrap();
@@ -30,7 +29,7 @@ fn the_tasks_of_moka_s_page() -> Result<(), Box<dyn std::error::Error>> {
         .collect();
     run(4, tasks);
     for key in 0..(NUM_TASKS * NUM_KEYS_PER_TASK) {
-        let expected = if key % 4 == 0 { None } else { Some(value(key)) };
+        let expected = if key % 4 == 0 { None } else { Some(value(key).into()) };
         assert_eq!(cache.look(&key)?, expected);
     }
     Ok(())

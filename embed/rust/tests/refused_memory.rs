@@ -270,7 +270,7 @@ fn calls_whose_memory_is_refused_at_random_leave_a_whole_cache_whose_window_move
 #[test]
 fn hits_of_which_the_library_is_told_late_are_counted_though_it_refuses_some() {
     let cache = Loading::<u64, u64, ()>::sharded(1, &Setup::of(100)).unwrap();
-    (0..100).for_each(|key| cache.store(&key, key.into(), 1).unwrap());
+    (0..100).for_each(|key| cache.store(&key, key, 1).unwrap());
     // A hit of an entry in probation takes memory.
     for round in 0..20 {
         for key in 0..100 {

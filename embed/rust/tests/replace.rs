@@ -33,7 +33,7 @@ fn the_listener_is_told_what_was_replaced_and_a_load_stores_nothing_over_it() {
     let seven = Arc::new(7);
     cache.store_at(&1, seven.clone(), 1, 0).unwrap();
     let got = cache.get_at(&1, 10, || {
-        assert_eq!(cache.replace_if_at(&1, &seven, 8.into(), 1, 10), Ok(true));
+        assert_eq!(cache.replace_if_at(&1, &seven, 8, 1, 10), Ok(true));
         Ok((9, 1))
     });
     assert_eq!((got, cache.look_at(&1, 10)), (Ok(Arc::new(9)), Ok(Some(Arc::new(8)))));
@@ -43,7 +43,7 @@ fn the_listener_is_told_what_was_replaced_and_a_load_stores_nothing_over_it() {
 #[test]
 fn no_change_of_four_threads_is_lost() {
     let cache = Cache::open(&Setup::of(8)).unwrap();
-    cache.store(&1, 0.into(), 1).unwrap();
+    cache.store(&1, 0, 1).unwrap();
     std::thread::scope(|threads| {
         for _ in 0..4 {
             threads.spawn(|| {
@@ -113,7 +113,7 @@ fn keys_of_one_hash_have_their_own_values_as_they_expire_and_are_inserted() {
 fn a_load_stores_nothing_over_what_was_inserted_and_waits_for_nothing() {
     let cache = Cache::open(&Setup::of(8)).unwrap();
     let got = cache.get_with(&1, || {
-        assert_eq!(cache.get_or_insert(&1, 7.into(), 1), Ok(Arc::new(7)));
+        assert_eq!(cache.get_or_insert(&1, 7, 1), Ok(Arc::new(7)));
         9
     });
     assert_eq!((got, cache.look(&1), cache.stats().loose), (Ok(Arc::new(9)), Ok(Some(Arc::new(7))), 1));
@@ -122,10 +122,10 @@ fn a_load_stores_nothing_over_what_was_inserted_and_waits_for_nothing() {
 #[test]
 fn an_open_shard_is_asked_for_what_is_there() {
     let cache = Cache::sharded(1, &Setup::of(8)).unwrap();
-    cache.store(&1, 7.into(), 1).unwrap();
+    cache.store(&1, 7, 1).unwrap();
     // The shard opens after some hundred hits, by these calls too.
-    (0..1000).for_each(|_| assert_eq!(cache.get_or_insert(&1, 8.into(), 1), Ok(Arc::new(7))));
-    assert_eq!(cache.get_or_insert(&2, 8.into(), 1), Ok(Arc::new(8)));
+    (0..1000).for_each(|_| assert_eq!(cache.get_or_insert(&1, 8, 1), Ok(Arc::new(7))));
+    assert_eq!(cache.get_or_insert(&2, 8, 1), Ok(Arc::new(8)));
     assert_eq!((cache.stats().hits, cache.stats().misses, cache.kept()), (1000, 1, (2, 2)));
 }
 
