@@ -30,6 +30,7 @@ typedef rd_name_notice rd_loading_notice;
 #define RD_LOADING_CALL(call, cache, ...) call##_name(cache, __VA_ARGS__)
 #define RD_LOADING_PUT rd_put_name_for
 #define RD_LOADING_LAND rd_land_name_for
+#define RD_LOADING_DROP rd_drop_key_name_with_notice
 #define RD_LOADING_KEY(key) (&(key))
 static inline uint64_t rd_loading_number(rd_name key) {
     const uint64_t seed[2] = {0, 0};
@@ -43,6 +44,7 @@ typedef rd_notice rd_loading_notice;
 #define RD_LOADING_CALL(call, cache, ...) call(cache, __VA_ARGS__)
 #define RD_LOADING_PUT rd_put_for
 #define RD_LOADING_LAND rd_land_for
+#define RD_LOADING_DROP rd_drop_key_with_notice
 #define RD_LOADING_KEY(key) (key)
 static inline uint64_t rd_loading_number(uint64_t key) { return key; }
 #endif
@@ -139,12 +141,17 @@ static inline void rd_loading_release(rd_loading *l, rd_shared *value) {
     if (value && __atomic_sub_fetch(&value->shares, 1, __ATOMIC_ACQ_REL) == 0) l->destroy(value);
 }
 
-/* Counts a call. Returns its fault, with what left by it put before `left`, in the order of its notices. The lock is held. */
-static inline uint64_t rd_loading_made(rd_loading *l, uint64_t fault, const rd_answer *answer, rd_shared **left) {
+/* Counts a call. Returns its fault, with what left by it put before `left`, in the order of its notices, of which `first` is the first one,
+ * or null if the call doesn't write it. The lock is held. */
+static inline uint64_t rd_loading_made(rd_loading *l, uint64_t fault, const rd_answer *answer, const rd_loading_notice *first,
+                                       rd_shared **left) {
     rd_loading_notice notice;
     if (rd_count(&l->stats, fault, answer)) return fault;
     for (uint64_t i = answer->notices; i-- > 0;) {
-        RD_LOADING_NOTICE(&l->cache, i, &notice);
+        if (first && i == 0)
+            notice = *first;
+        else
+            RD_LOADING_NOTICE(&l->cache, i, &notice);
         rd_count_left(&l->stats, notice.cause);
         rd_shared *value = (rd_shared *)(uintptr_t)notice.token;
         value->key = notice.key;
@@ -200,7 +207,7 @@ static inline uint64_t rd_loading_put_for(rd_loading *l, rd_loading_key key, rd_
     value->shares = 1;
     pthread_mutex_lock(&l->lock);
     uint64_t fault = RD_LOADING_PUT(&l->cache, RD_LOADING_KEY(key), rd_loading_token(value, weight), life, now, &answer, &first);
-    fault = rd_loading_made(l, fault, &answer, &left);
+    fault = rd_loading_made(l, fault, &answer, &first, &left);
     rd_loading_leave(l, left);
     if (fault) rd_loading_release(l, value);
     return fault;
@@ -218,7 +225,7 @@ static inline uint64_t rd_loading_look(rd_loading *l, rd_loading_key key, uint64
     *value = 0;
     pthread_mutex_lock(&l->lock);
     uint64_t fault = RD_LOADING_CALL(rd_look, &l->cache, RD_LOADING_KEY(key), now, &answer);
-    if (!rd_loading_made(l, fault, &answer, &left) && answer.kind == RD_HIT)
+    if (!rd_loading_made(l, fault, &answer, 0, &left) && answer.kind == RD_HIT)
         *value = rd_loading_share((rd_shared *)(uintptr_t)answer.token);
     rd_loading_follow(l, fault, key);
     rd_loading_leave(l, left);
@@ -253,14 +260,14 @@ static inline void rd_loading_land(rd_loading *l, const rd_flight *of, rd_loadin
     uint64_t fault;
     if (of->error) {
         fault = RD_LOADING_CALL(rd_land_failed, &l->cache, of->id, RD_LOADING_KEY(key), now, &answer);
-        rd_loading_made(l, fault, &answer, left);
+        rd_loading_made(l, fault, &answer, 0, left);
         return;
     }
     rd_loading_share(of->value);
     fault = RD_LOADING_LAND(&l->cache, of->id, RD_LOADING_KEY(key), rd_loading_token(of->value, weight), life, now, &answer, &first);
-    if (rd_loading_made(l, fault, &answer, left) == RD_OUT_OF_MEMORY) {
+    if (rd_loading_made(l, fault, &answer, &first, left) == RD_OUT_OF_MEMORY) {
         fault = RD_LOADING_CALL(rd_land_loose, &l->cache, of->id, RD_LOADING_KEY(key), now, &answer);
-        rd_loading_made(l, fault, &answer, left);
+        rd_loading_made(l, fault, &answer, 0, left);
     }
     if (fault || answer.kind != RD_KEPT) rd_loading_release(l, of->value);
 }
@@ -310,7 +317,7 @@ static inline uint64_t rd_loading_ask(rd_loading *l, rd_loading_key key, uint64_
     *value = 0;
     pthread_mutex_lock(&l->lock);
     uint64_t fault = RD_LOADING_CALL(rd_seek, &l->cache, RD_LOADING_KEY(key), now, &answer);
-    rd_loading_made(l, fault, &answer, &left);
+    rd_loading_made(l, fault, &answer, 0, &left);
     rd_loading_follow(l, fault, key);
     if (fault) {
         rd_loading_leave(l, left);
@@ -373,9 +380,11 @@ static inline uint64_t rd_loading_get_for_until(rd_loading *l, rd_loading_key ke
 /* Removes the key's entry. An open load of the key will store nothing. */
 static inline uint64_t rd_loading_drop(rd_loading *l, rd_loading_key key, uint64_t now) {
     rd_answer answer;
+    rd_loading_notice first;
     rd_shared *left = 0;
     pthread_mutex_lock(&l->lock);
-    uint64_t fault = rd_loading_made(l, RD_LOADING_CALL(rd_drop_key, &l->cache, RD_LOADING_KEY(key), now, &answer), &answer, &left);
+    uint64_t fault = RD_LOADING_DROP(&l->cache, RD_LOADING_KEY(key), now, &answer, &first);
+    fault = rd_loading_made(l, fault, &answer, &first, &left);
     rd_loading_leave(l, left);
     return fault;
 }
@@ -386,7 +395,7 @@ static inline uint64_t rd_loading_forget(rd_loading *l, rd_loading_key key, uint
     rd_shared *left = 0;
     pthread_mutex_lock(&l->lock);
     uint64_t fault = RD_LOADING_CALL(rd_forget, &l->cache, RD_LOADING_KEY(key), now, &answer);
-    fault = rd_loading_made(l, fault, &answer, &left);
+    fault = rd_loading_made(l, fault, &answer, 0, &left);
     rd_loading_leave(l, left);
     return fault;
 }
@@ -395,7 +404,7 @@ static inline uint64_t rd_loading_sweep(rd_loading *l, uint64_t (*call)(rd_cache
     rd_answer answer;
     rd_shared *left = 0;
     pthread_mutex_lock(&l->lock);
-    uint64_t fault = rd_loading_made(l, call(&l->cache, now, &answer), &answer, &left);
+    uint64_t fault = rd_loading_made(l, call(&l->cache, now, &answer), &answer, 0, &left);
     if (closes && !fault) {
         fault = rd_close(&l->cache);
         rd_close_follower(&l->follower);
