@@ -5,7 +5,7 @@ use std::sync::Barrier;
 use std::time::Duration;
 
 fn main() {
-    let setup = Setup { after_write: 60_000, ..Setup::of(1000) };
+    let setup = Setup::of(1000).after_write(Duration::from_secs(60));
     let cache = Loading::<String, String, ()>::open(&setup).expect("the setup is within its ranges");
     let (gate, loads, same) = (Barrier::new(64), AtomicU64::new(0), AtomicU64::new(0));
     std::thread::scope(|threads| {

@@ -16,7 +16,8 @@ use std::time::Duration;
 /// What left a cache by one call. The cache shares a key with a load of it that is open.
 type AllLeft<K, V> = Vec<Left<Arc<K>, V>>;
 
-/// A cache for one owner. Each call is given the moment, in milliseconds, and also returns what left if it changes the cache.
+/// A cache for one owner. Each call is given the moment, in milliseconds of the caller's clock, and also returns what left if it changes
+/// the cache.
 ///
 /// The library gets a number for each key: its hash by `S`, whose random seed keeps strangers who choose keys from aiming at the
 /// cache's tables.
@@ -70,7 +71,8 @@ impl<K: Hash + Eq + Clone, V, S: BuildHasher> Cache<K, V, S> {
     ///
     /// ```
     /// # use rookdresser::{Cache, Cause, Setup};
-    /// # let mut cache = Cache::<String, u64>::open(&Setup { after_write: 10, ..Setup::of(100) })?;
+    /// # use std::time::Duration;
+    /// # let mut cache = Cache::<String, u64>::open(&Setup::of(100).after_write(Duration::from_millis(10)))?;
     /// cache.put(&"a".into(), 7, 1, 1000)?;
     /// // Entries expire after 10 milliseconds here.
     /// assert_eq!(cache.look("a", 1009)?, (Some(&7), vec![]));
@@ -96,7 +98,8 @@ impl<K: Hash + Eq + Clone, V, S: BuildHasher> Cache<K, V, S> {
     ///
     /// ```
     /// # use rookdresser::{Cache, Setup};
-    /// # let mut cache = Cache::<String, u64>::open(&Setup { after_write: 10, ..Setup::of(100) })?;
+    /// # use std::time::Duration;
+    /// # let mut cache = Cache::<String, u64>::open(&Setup::of(100).after_write(Duration::from_millis(10)))?;
     /// cache.put(&"a".into(), 7, 1, 1000)?;
     /// // Entries expire after 10 milliseconds here.
     /// assert_eq!(cache.peek("a", 1009), Some(&7));
@@ -357,7 +360,8 @@ impl<K: Hash + Eq + Clone, V, S: BuildHasher> Cache<K, V, S> {
     ///
     /// ```
     /// # use rookdresser::{Cache, Setup};
-    /// # let mut cache = Cache::<String, u64>::open(&Setup { after_write: 10, ..Setup::of(100) })?;
+    /// # use std::time::Duration;
+    /// # let mut cache = Cache::<String, u64>::open(&Setup::of(100).after_write(Duration::from_millis(10)))?;
     /// // Entries expire after 10 milliseconds here.
     /// cache.put(&"a".into(), 7, 1, 1000)?;
     /// assert_eq!((cache.clean(1009)?.len(), cache.clean(1010)?.len()), (0, 1));

@@ -33,7 +33,8 @@ impl<K: Hash + Eq, V, E, S: BuildHasher> Loading<K, V, E, S> {
     ///
     /// ```
     /// # use rookdresser::{Loading, Setup};
-    /// # let cache = Loading::<String, u64, std::io::Error>::open(&Setup { after_write: 10, ..Setup::of(100) })?;
+    /// # use std::time::Duration;
+    /// # let cache = Loading::<String, u64, std::io::Error>::open(&Setup::of(100).after_write(Duration::from_millis(10)))?;
     /// // Entries expire after 10 milliseconds here.
     /// cache.store_at("a", 7, 1, 1000)?;
     /// assert_eq!((cache.look_at("a", 1009)?, cache.look_at("a", 1010)?), (Some(7.into()), None));
@@ -96,7 +97,8 @@ impl<K: Hash + Eq, V, E, S: BuildHasher> Loading<K, V, E, S> {
     ///
     /// ```
     /// # use rookdresser::{Cause, Loading, Setup};
-    /// # let cache = Loading::<String, u64, std::io::Error>::open(&Setup { after_write: 10, ..Setup::of(100) })?;
+    /// # use std::time::Duration;
+    /// # let cache = Loading::<String, u64, std::io::Error>::open(&Setup::of(100).after_write(Duration::from_millis(10)))?;
     /// cache.store_at("a", 7, 1, 1000)?;
     /// assert_eq!(cache.drop_key_at("a", 1005)?[0].cause, Cause::Explicit);
     /// # Ok::<(), Box<dyn std::error::Error>>(())
@@ -141,7 +143,8 @@ impl<K: Hash + Eq, V, E, S: BuildHasher> Loading<K, V, E, S> {
     ///
     /// ```
     /// # use rookdresser::{Loading, Setup};
-    /// # let cache = Loading::<String, u64, std::io::Error>::open(&Setup { after_write: 10, ..Setup::of(100) })?;
+    /// # use std::time::Duration;
+    /// # let cache = Loading::<String, u64, std::io::Error>::open(&Setup::of(100).after_write(Duration::from_millis(10)))?;
     /// assert_eq!(cache.forget_at("a", 1000), Ok(false)); // no load of it is open
     /// # Ok::<(), Box<dyn std::error::Error>>(())
     /// ```
@@ -186,7 +189,8 @@ impl<K: Hash + Eq, V, E, S: BuildHasher> Loading<K, V, E, S> {
     ///
     /// ```
     /// # use rookdresser::{Loading, Setup};
-    /// # let cache = Loading::<String, u64, std::io::Error>::open(&Setup { after_write: 10, ..Setup::of(100) })?;
+    /// # use std::time::Duration;
+    /// # let cache = Loading::<String, u64, std::io::Error>::open(&Setup::of(100).after_write(Duration::from_millis(10)))?;
     /// cache.store_at("a", 7, 1, 1000)?;
     /// assert_eq!(cache.look_at("a", 1005)?.as_deref(), Some(&7));
     /// # Ok::<(), Box<dyn std::error::Error>>(())
@@ -281,7 +285,8 @@ impl<K: Hash + Eq, V, E, S: BuildHasher> Loading<K, V, E, S> {
     ///
     /// ```
     /// # use rookdresser::{Cause, Loading, Setup};
-    /// # let cache = Loading::<String, u64, std::io::Error>::open(&Setup { after_write: 10, ..Setup::of(100) })?;
+    /// # use std::time::Duration;
+    /// # let cache = Loading::<String, u64, std::io::Error>::open(&Setup::of(100).after_write(Duration::from_millis(10)))?;
     /// cache.put_at("a", 7, 1, 1000)?;
     /// assert_eq!(cache.put_at("a", 8, 1, 1010)?[0].cause, Cause::Expired);
     /// # Ok::<(), Box<dyn std::error::Error>>(())

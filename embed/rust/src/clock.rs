@@ -12,7 +12,7 @@ pub(crate) struct Clock {
 
 impl Clock {
     pub(crate) fn of(setup: &Setup) -> Clock {
-        let has_durations = setup.after_write != 0 || setup.after_access != 0 || setup.refresh != 0;
+        let has_durations = setup.milliseconds() != [0; 3];
         Clock { begun: Instant::now(), is_read: AtomicBool::new(has_durations) }
     }
 

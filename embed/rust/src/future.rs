@@ -157,9 +157,10 @@ impl<K: Hash + Eq, V, E, S: BuildHasher> Loading<K, V, E, S> {
     ///
     /// ```
     /// # use rookdresser::{future::Loading, Setup};
+    /// # use std::time::Duration;
     /// # mod runtime { include!(concat!(env!("CARGO_MANIFEST_DIR"), "/tests/common/block_on.rs")); }
     /// # runtime::block_on(async {
-    /// # let cache = Loading::<String, u64, std::io::Error>::open(&Setup { after_write: 10, ..Setup::of(100) })?;
+    /// # let cache = Loading::<String, u64, std::io::Error>::open(&Setup::of(100).after_write(Duration::from_millis(10)))?;
     /// // Entries expire after 10 milliseconds here.
     /// assert_eq!(*cache.get_at("a", 1000, async { Ok((7, 1)) }).await?, 7);
     /// assert_eq!(*cache.get_at("a", 1010, async { Ok((8, 1)) }).await?, 8);
@@ -331,9 +332,10 @@ impl<K: Hash + Eq, V, E, S: BuildHasher> Loading<K, V, E, S> {
     ///
     /// ```
     /// # use rookdresser::{future::Loading, Setup};
+    /// # use std::time::Duration;
     /// # mod runtime { include!(concat!(env!("CARGO_MANIFEST_DIR"), "/tests/common/block_on.rs")); }
     /// # runtime::block_on(async {
-    /// # let cache = Loading::<u64, u64, std::io::Error>::open(&Setup { after_write: 10, ..Setup::of(100) })?;
+    /// # let cache = Loading::<u64, u64, std::io::Error>::open(&Setup::of(100).after_write(Duration::from_millis(10)))?;
     /// // Entries expire after 10 milliseconds here.
     /// let load = |_| async { Ok([(1, (7, 1))].into()) };
     /// assert_eq!(cache.get_many_at(&[1], 1000, load).await?.len(), 1);

@@ -93,7 +93,8 @@ impl<K: Hash + Eq, V, E, S: BuildHasher> Loading<K, V, E, S> {
     ///
     /// ```
     /// # use rookdresser::{Loading, Setup};
-    /// # let cache = Loading::<String, u64, std::io::Error>::open(&Setup { after_write: 10, ..Setup::of(100) })?;
+    /// # use std::time::Duration;
+    /// # let cache = Loading::<String, u64, std::io::Error>::open(&Setup::of(100).after_write(Duration::from_millis(10)))?;
     /// // Entries expire after 10 milliseconds here.
     /// assert_eq!(*cache.get_at("a", 1000, || Ok((7, 1)))?, 7);
     /// assert_eq!(*cache.get_at("a", 1010, || Ok((8, 1)))?, 8);

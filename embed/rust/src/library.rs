@@ -43,9 +43,10 @@ impl Library {
         let window = Window::of(setup, share);
         let tokens = Tokens::of(&setup.with_window(window.holds()))?;
         let inner = Lock::new(Inner { tokens, seen, looks: Vec::new() });
-        let shortest = [setup.after_write, setup.refresh].into_iter().filter(|&duration| duration != 0).min();
+        let [after_write, after_access, refresh] = setup.milliseconds();
+        let shortest = [after_write, refresh].into_iter().filter(|&duration| duration != 0).min();
         // The library has to hear of each use at once if `after_access` is set: a hit it hears of late would keep nothing from expiring.
-        let sure_for = if setup.after_access == 0 { shortest.unwrap_or(u64::MAX) } else { 0 };
+        let sure_for = if after_access == 0 { shortest.unwrap_or(u64::MAX) } else { 0 };
         Ok(Library { inner, latest: Moment::default(), window, sure_for, has_durations: shortest.is_some() })
     }
 

@@ -76,7 +76,8 @@ impl<K: Hash + Eq, V, E, S: BuildHasher> Loading<K, V, E, S> {
     ///
     /// ```
     /// # use rookdresser::{Loading, Setup};
-    /// # let cache = Loading::<u64, u64, std::io::Error>::open(&Setup { after_write: 10, ..Setup::of(100) })?;
+    /// # use std::time::Duration;
+    /// # let cache = Loading::<u64, u64, std::io::Error>::open(&Setup::of(100).after_write(Duration::from_millis(10)))?;
     /// // Entries expire after 10 milliseconds here.
     /// let squares = |absent: &[&u64]| Ok(absent.iter().map(|&&n| (n, (n * n, 1))).collect());
     /// assert_eq!(*cache.get_many_at(&[3, 4], 1000, squares)?[&4], 16);

@@ -32,7 +32,8 @@ impl<K, V, E, S> Loading<K, V, E, S> {
     ///
     /// ```
     /// # use rookdresser::{Loading, Setup};
-    /// # let cache = Loading::<String, u64, std::io::Error>::open(&Setup { after_write: 10, ..Setup::of(100) })?;
+    /// # use std::time::Duration;
+    /// # let cache = Loading::<String, u64, std::io::Error>::open(&Setup::of(100).after_write(Duration::from_millis(10)))?;
     /// // Entries expire after 10 milliseconds here.
     /// cache.store_at("a", 7, 1, 1000)?;
     /// assert!(cache.contains_key_at("a", 1009) && !cache.contains_key_at("a", 1010));
@@ -74,7 +75,8 @@ impl<K, V, E, S> Loading<K, V, E, S> {
     ///
     /// ```
     /// # use rookdresser::{Loading, Setup};
-    /// # let cache = Loading::<String, u64, std::io::Error>::open(&Setup { after_write: 10, ..Setup::of(100) })?;
+    /// # use std::time::Duration;
+    /// # let cache = Loading::<String, u64, std::io::Error>::open(&Setup::of(100).after_write(Duration::from_millis(10)))?;
     /// cache.store_at("a", 7, 1, 1000)?;
     /// assert_eq!((cache.keys_at(1009).len(), cache.keys_at(1010).len()), (1, 0));
     /// # Ok::<(), Box<dyn std::error::Error>>(())

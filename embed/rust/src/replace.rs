@@ -44,7 +44,8 @@ impl<K: Hash + Eq, V, E, S: BuildHasher> Loading<K, V, E, S> {
     ///
     /// ```
     /// # use rookdresser::{Loading, Setup};
-    /// # let cache = Loading::<String, u64, std::io::Error>::open(&Setup { after_write: 10, ..Setup::of(100) })?;
+    /// # use std::time::Duration;
+    /// # let cache = Loading::<String, u64, std::io::Error>::open(&Setup::of(100).after_write(Duration::from_millis(10)))?;
     /// // Entries expire after 10 milliseconds here.
     /// let old = std::sync::Arc::new(7);
     /// cache.store_at("a", old.clone(), 1, 1000)?;
@@ -115,7 +116,8 @@ impl<K: Hash + Eq, V, E, S: BuildHasher> Loading<K, V, E, S> {
     ///
     /// ```
     /// # use rookdresser::{Loading, Setup};
-    /// # let cache = Loading::<String, u64, std::io::Error>::open(&Setup { after_write: 10, ..Setup::of(100) })?;
+    /// # use std::time::Duration;
+    /// # let cache = Loading::<String, u64, std::io::Error>::open(&Setup::of(100).after_write(Duration::from_millis(10)))?;
     /// // Entries expire after 10 milliseconds here.
     /// assert_eq!(*cache.get_or_insert_at("a", 7, 1, 1000)?, 7);
     /// assert_eq!(*cache.get_or_insert_at("a", 8, 1, 1009)?, 7);

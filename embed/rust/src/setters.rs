@@ -1,4 +1,4 @@
-//! A setup by calls, with durations of the standard library.
+//! A setup by calls.
 use crate::Setup;
 use std::time::Duration;
 
@@ -43,20 +43,17 @@ impl Setup {
         Setup { bound: weight, ..self }
     }
 
-    /// This setup with entries that expire so long after they were written.
-    ///
-    /// The cache counts whole milliseconds: the duration is rounded up, and one of 2^64 milliseconds or more counts as the longest. Zero
-    /// stands for never, as in the field. So it is of the other durations.
+    /// This setup with entries that expire so long after they were written, or never if that is zero. So it is of the other durations.
     ///
     /// ```
     /// use rookdresser::Setup;
     /// use std::time::Duration;
     ///
     /// let setup = Setup::of(5000).after_write(Duration::from_secs(60));
-    /// assert_eq!(setup, Setup { after_write: 60_000, ..Setup::of(5000) });
+    /// assert_eq!(setup, Setup { after_write: Duration::from_secs(60), ..Setup::of(5000) });
     /// ```
     pub const fn after_write(self, age: Duration) -> Setup {
-        Setup { after_write: milliseconds(age), ..self }
+        Setup { after_write: age, ..self }
     }
 
     /// This setup with entries that expire so long after they were used.
@@ -65,10 +62,10 @@ impl Setup {
     /// # use rookdresser::Setup;
     /// # use std::time::Duration;
     /// let setup = Setup::of(5000).after_access(Duration::from_secs(60));
-    /// assert_eq!(setup, Setup { after_access: 60_000, ..Setup::of(5000) });
+    /// assert_eq!(setup, Setup { after_access: Duration::from_secs(60), ..Setup::of(5000) });
     /// ```
     pub const fn after_access(self, time: Duration) -> Setup {
-        Setup { after_access: milliseconds(time), ..self }
+        Setup { after_access: time, ..self }
     }
 
     /// This setup with entries that are due for a further load so long after they were written: below `after_write`, if both are set.
@@ -77,18 +74,9 @@ impl Setup {
     /// # use rookdresser::Setup;
     /// # use std::time::Duration;
     /// let setup = Setup::of(5000).refresh(Duration::from_secs(50));
-    /// assert_eq!(setup, Setup { refresh: 50_000, ..Setup::of(5000) });
+    /// assert_eq!(setup, Setup { refresh: Duration::from_secs(50), ..Setup::of(5000) });
     /// ```
     pub const fn refresh(self, age: Duration) -> Setup {
-        Setup { refresh: milliseconds(age), ..self }
+        Setup { refresh: age, ..self }
     }
-}
-
-// Rounded up: a short duration isn't 0, which stands for never.
-const fn milliseconds(duration: Duration) -> u64 {
-    let whole = duration.as_nanos().div_ceil(1_000_000);
-    if whole > u64::MAX as u128 {
-        return u64::MAX;
-    }
-    whole as u64
 }

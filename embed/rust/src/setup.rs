@@ -5,9 +5,12 @@ use crate::sys::Settings;
 use crate::Fault;
 use std::error::Error;
 use std::fmt::{Display, Formatter, Result as Written};
+use std::time::Duration;
 
-/// What a cache is opened for. In the fields durations are milliseconds, and 0 stands for never; the calls of the same names take a
-/// [`Duration`](std::time::Duration).
+/// What a cache is opened for. There is a call of each field's name.
+///
+/// The cache counts whole milliseconds: a duration is rounded up, and one of 2^64 milliseconds or more counts as the longest. Zero stands
+/// for never.
 #[derive(Clone, Copy, Debug, PartialEq, Eq)]
 pub struct Setup {
     /// How many entries the cache may hold: 1 to 65,536, and more if [`Loading::open`](crate::Loading::open) divides them.
@@ -23,11 +26,11 @@ pub struct Setup {
     /// How much the entries may weigh together: 1 to 2^48.
     pub bound: u64,
     /// An entry expires so long after it was written.
-    pub after_write: u64,
+    pub after_write: Duration,
     /// An entry expires so long after it was used.
-    pub after_access: u64,
+    pub after_access: Duration,
     /// An entry is due for a further load so long after it was written: below `after_write`, if both are set.
-    pub refresh: u64,
+    pub refresh: Duration,
 }
 
 impl Setup {
@@ -47,9 +50,9 @@ impl Setup {
             adaptive: None,
             flights: 1024,
             bound: 1 << 48,
-            after_write: 0,
-            after_access: 0,
-            refresh: 0,
+            after_write: Duration::ZERO,
+            after_access: Duration::ZERO,
+            refresh: Duration::ZERO,
         }
     }
 }
@@ -108,7 +111,7 @@ impl Display for Setting {
 pub struct BadSetting {
     /// Which it is.
     pub setting: Setting,
-    /// What it was set to.
+    /// What it was set to. Here `refresh` counts in milliseconds, as in the cache, since all other settings that have a range are numbers.
     pub value: u64,
     /// The least that it may be.
     pub least: u64,
@@ -122,7 +125,10 @@ impl Display for BadSetting {
     fn fmt(&self, f: &mut Formatter<'_>) -> Written {
         let BadSetting { setting, value, least, most, depends } = self;
         match setting {
-            Setting::Refresh => write!(f, "refresh is {value}, and has to be below after_write, {}", most + 1),
+            Setting::Refresh => {
+                let [refresh, after_write] = [*value, most + 1].map(Duration::from_millis);
+                write!(f, "refresh is {refresh:?}, and has to be below after_write, {after_write:?}")
+            }
             Setting::Adaptive => write!(f, "adaptive is true, and has to be false or not given{depends}"),
             _ => write!(f, "{setting} is {value}, and has to be from {least} to {most}{depends}"),
         }
@@ -171,10 +177,11 @@ impl Setup {
     ///
     /// ```
     /// use rookdresser::Setup;
+    /// use std::time::Duration;
     ///
     /// assert_eq!(Setup::of(70_000).check(), Ok(()));
-    /// let bad = Setup { after_write: 5, refresh: 10, ..Setup::of(8) }.check().unwrap_err();
-    /// assert_eq!(bad.to_string(), "refresh is 10, and has to be below after_write, 5");
+    /// let bad = Setup::of(8).after_write(Duration::from_millis(5)).refresh(Duration::from_secs(1)).check().unwrap_err();
+    /// assert_eq!(bad.to_string(), "refresh is 1s, and has to be below after_write, 5ms");
     /// ```
     pub fn check(&self) -> Result<(), BadSetting> {
         if self.has_bound() {
@@ -212,12 +219,21 @@ impl Setup {
 
     /// What the library is handed.
     pub(crate) fn with_window(&self, window: u32) -> Settings {
-        let Setup { entries, flights, bound, after_write, after_access, refresh, .. } = *self;
+        let Setup { entries, flights, bound, .. } = *self;
+        let [after_write, after_access, refresh] = self.milliseconds();
         Settings { entries, window, flights, bound, after_write, after_access, refresh }
     }
 
+    /// `after_write`, `after_access` and `refresh` as the library counts them: in milliseconds, 0 for never.
+    pub(crate) fn milliseconds(&self) -> [u64; 3] {
+        // Rounded up: a short duration isn't 0.
+        [self.after_write, self.after_access, self.refresh]
+            .map(|duration| u64::try_from(duration.as_nanos().div_ceil(1_000_000)).unwrap_or(u64::MAX))
+    }
+
     fn checked(&self, most_entries: u32, depends: &'static str, shards: u32) -> Result<(), BadSetting> {
-        let Setup { entries, flights, bound, after_write, refresh, .. } = *self;
+        let Setup { entries, flights, bound, .. } = *self;
+        let [after_write, _, refresh] = self.milliseconds();
         in_range(Setting::Entries, entries.into(), 1, most_entries.into(), depends)?;
         in_range(Setting::Window, self.fixed_window().into(), 1, entries.into(), ", the entries")?;
         in_range(Setting::Bound, bound, 1, 1 << 48, "")?;

@@ -116,7 +116,7 @@ fn calls_have_an_order(setup: &Setup, looks: u64, calls: [&[Call]; 2], most: usi
 
 // Entries expire after 10 milliseconds.
 fn aged() -> Setup {
-    Setup { after_write: 10, ..Setup::of(64) }
+    Setup::of(64).after_write(Duration::from_millis(10))
 }
 
 // The looks that leave a shard about to open, and open.
@@ -124,7 +124,7 @@ const LOOKS: [u64; 2] = [8, 13];
 
 #[test]
 fn an_open_shard_serves_nothing_beyond_its_life() {
-    for setup in [Setup::of(64), Setup { after_write: 60, ..Setup::of(64) }] {
+    for setup in [Setup::of(64), Setup::of(64).after_write(Duration::from_millis(60))] {
         let cache = looked_at(&setup, Reads::Shared, 0);
         cache.store_for_at(&3, 3, 1, Duration::from_millis(10), 20).unwrap();
         (0..20).for_each(|_| assert!(cache.look_at(&3, 20).unwrap().is_some()));
@@ -201,7 +201,8 @@ impl Random {
 fn a_shard_that_opens_answers_as_one_that_never_does() {
     for (round, (after_write, refresh)) in [(0, 0), (40, 0), (0, 15), (60, 25)].into_iter().enumerate() {
         // No entry is evicted: hits that are told late, or never, change no answer.
-        let setup = Setup { after_write, refresh, ..Setup::of(64) };
+        let setup =
+            Setup::of(64).after_write(Duration::from_millis(after_write)).refresh(Duration::from_millis(refresh));
         let of =
             |reads| Cache::sharded_with_hasher(2, &setup, BuildHasherDefault::default()).unwrap().with_reads(reads);
         let (cache, exact) = (of(Reads::Shared), of(Reads::Exact));
@@ -243,7 +244,8 @@ fn a_hit_of_an_open_shard_makes_its_moment_the_latest() {
 #[test]
 fn durations_and_moments_may_be_the_greatest_there_are() {
     for (after_write, refresh) in [(u64::MAX, 0), (0, u64::MAX), (u64::MAX, u64::MAX - 1), (0, 0)] {
-        let setup = Setup { after_write, refresh, ..Setup::of(64) };
+        let setup =
+            Setup::of(64).after_write(Duration::from_millis(after_write)).refresh(Duration::from_millis(refresh));
         let [cache, exact] = [Reads::Shared, Reads::Exact].map(|reads| looked_at(&setup, reads, 13));
         for now in [0, 9, u64::MAX - 2, u64::MAX - 1, u64::MAX, 5] {
             for key in [1, 2] {
@@ -265,7 +267,7 @@ fn a_refused_call_leaves_the_latest_moment_as_it_was() {
 #[test]
 fn a_hit_that_is_told_after_later_ones_takes_no_entry_out() {
     for round in 0..8 {
-        let cache = looked_at(&Setup { after_write: 15, ..Setup::of(64) }, Reads::Shared, 13);
+        let cache = looked_at(&Setup::of(64).after_write(Duration::from_millis(15)), Reads::Shared, 13);
         let hits = |key: u64, now| (0..400).for_each(|_| assert!(cache.look_at(&key, now).unwrap().is_some()));
         let barrier = Barrier::new(2);
         std::thread::scope(|threads| {
@@ -380,7 +382,7 @@ fn one_load_for_all_who_miss_in_a_shard_that_was_open() {
 
 #[test]
 fn a_cache_whose_entries_expire_unused_never_opens() {
-    let setup = Setup { after_access: 10, ..Setup::of(64) };
+    let setup = Setup::of(64).after_access(Duration::from_millis(10));
     let cache = looked_at(&setup, Reads::Shared, 100);
     assert_eq!((cache.open_shards(), cache.look_at(&1, 9)), (0, Ok(Some(1.into()))));
 }

@@ -157,7 +157,7 @@ pub struct Numbers {
     pub weight: u64,
     /// Calls made that weren't refused, and [slides](crate::Tokens::slide) of the window, the cache's own included.
     pub step: u64,
-    /// The latest moment.
+    /// The latest moment, in milliseconds of the clock by which the calls were made.
     pub latest: u64,
     /// Loads that are open now.
     pub flights: u64,

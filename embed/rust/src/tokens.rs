@@ -104,6 +104,8 @@ pub struct Notice<K> {
 }
 
 /// One cache, and the notices of its latest call. Its keys are numbers, or names of at most 24 bytes.
+///
+/// Each call is given the moment, in milliseconds of the caller's clock, as the calls for C are.
 pub struct Tokens<K = u64> {
     handle: Handle,
     told: u64,
@@ -368,8 +370,9 @@ impl<K: Key> Tokens<K> {
     ///
     /// ```
     /// # use rookdresser::{Setup, Token, Tokens};
+    /// # use std::time::Duration;
     /// // Entries expire after 10 milliseconds here.
-    /// let mut cache = Tokens::<u64>::open(&Setup { after_write: 10, ..Setup::of(100) })?;
+    /// let mut cache = Tokens::<u64>::open(&Setup::of(100).after_write(Duration::from_millis(10)))?;
     /// cache.put(1, Token { token: 7, weight: 1 }, 1000)?;
     /// cache.clean(1010)?;
     /// assert_eq!(cache.notices().count(), 1);

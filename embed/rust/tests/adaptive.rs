@@ -10,6 +10,7 @@ use rookdresser::{Adviser, Cache, Found, Landed, Loading, Numbers, OpenError, Re
 use std::hash::{BuildHasher, Hasher};
 use std::sync::atomic::{AtomicU64, Ordering::SeqCst};
 use std::sync::Arc;
+use std::time::Duration;
 use streams::{passing, popular, OneSeed};
 
 #[test]
@@ -256,7 +257,9 @@ fn moves_as_the_driver(
 
 #[test]
 fn the_windows_are_those_of_a_plain_replay() {
-    for setup in [Setup::of(512), Setup { after_write: 700, refresh: 500, ..Setup::of(1000) }] {
+    for setup in
+        [Setup::of(512), Setup::of(1000).after_write(Duration::from_millis(700)).refresh(Duration::from_millis(500))]
+    {
         let cache =
             Loading::<u64, u64, (), _>::sharded_with_hasher(1, &setup, Itself(0)).unwrap().with_reads(Reads::Exact);
         let made = |what, key, now| {
@@ -286,7 +289,7 @@ fn the_windows_are_those_of_a_plain_replay() {
 
 #[test]
 fn the_windows_of_a_cache_of_one_owner_are_those_of_a_plain_replay() {
-    let setup = Setup { after_write: 700, refresh: 500, ..Setup::of(600) };
+    let setup = Setup::of(600).after_write(Duration::from_millis(700)).refresh(Duration::from_millis(500));
     let cache = std::cell::RefCell::new(Cache::<u64, u64, _>::with_hasher(&setup, Itself(0)).unwrap());
     let made = |what, key, now| {
         let mut cache = cache.borrow_mut();
@@ -308,7 +311,7 @@ fn the_windows_of_a_cache_of_one_owner_are_those_of_a_plain_replay() {
 
 #[test]
 fn a_refused_call_leaves_the_latest_moment_as_it_was_though_the_window_moved() {
-    let setup = Setup { bound: 10_000, after_write: 10, ..Setup::of(512) };
+    let setup = Setup::of(512).bound(10_000).after_write(Duration::from_millis(10));
     let cache = Loading::<u64, u64, (), _>::sharded_with_hasher(1, &setup, OneSeed::default()).unwrap();
     let first = cache.window();
     // Keys pass until the window is about to move.

@@ -7,6 +7,7 @@ use rookdresser::{Cache, Cause, Fault, Found, GetError, Landed, Loading, Setup, 
 use std::panic::catch_unwind;
 use std::sync::atomic::{AtomicU64, Ordering};
 use std::sync::{Arc, Barrier, Mutex, OnceLock};
+use std::time::Duration;
 use whole::{holds_exactly, panics, Down, SETUP};
 
 #[test]
@@ -134,7 +135,7 @@ fn a_weight_out_of_range_stores_nothing_and_is_no_error_of_a_get() {
 
 #[test]
 fn a_refresh_that_fails_returns_the_old_value() {
-    let cache = Loading::<u64, u64, Down>::open(&Setup { refresh: 50, ..SETUP }).unwrap();
+    let cache = Loading::<u64, u64, Down>::open(&SETUP.refresh(Duration::from_millis(50))).unwrap();
     cache.put_at(&1, Arc::new(7), 1, 0).unwrap();
     assert_eq!(cache.get_at(&1, 60, || Err(Down)), Ok(Arc::new(7)));
     assert_eq!(cache.get_at(&1, 60, || Ok((8, 1))), Ok(Arc::new(8)));
@@ -144,7 +145,7 @@ fn a_refresh_that_fails_returns_the_old_value() {
 
 #[test]
 fn an_entry_that_expires_while_its_refresh_fails_is_let_go() {
-    let setup = Setup { after_write: 100, refresh: 50, ..SETUP };
+    let setup = SETUP.after_write(Duration::from_millis(100)).refresh(Duration::from_millis(50));
     let mut alone = Cache::<String, Vec<u8>>::open(&setup).unwrap();
     let key = String::from("a page");
     alone.put(&key, vec![0; 10], 1, 0).unwrap();
@@ -166,7 +167,7 @@ fn an_entry_that_expires_while_its_refresh_fails_is_let_go() {
 
 #[test]
 fn the_age_of_a_loaded_value_counts_from_the_get() {
-    let cache = Loading::<u64, u64, Down>::open(&Setup { after_write: 100, ..SETUP }).unwrap();
+    let cache = Loading::<u64, u64, Down>::open(&SETUP.after_write(Duration::from_millis(100))).unwrap();
     assert_eq!(cache.get_at(&1, 1000, || Ok((7, 1))), Ok(Arc::new(7)));
     assert_eq!(cache.look_at(&1, 1099), Ok(Some(Arc::new(7))));
     assert_eq!(cache.look_at(&1, 1100), Ok(None));
@@ -255,7 +256,7 @@ fn a_listener_is_told_what_left_in_a_get_and_may_use_the_cache() {
         static CACHE: OnceLock<Loading<u64, u64, Down>> = OnceLock::new();
         static TOLD: Mutex<Vec<(u64, u64)>> = Mutex::new(Vec::new());
         let cache = CACHE.get_or_init(|| {
-            let cache = Loading::open(&Setup { after_write: 100, ..SETUP }).unwrap();
+            let cache = Loading::open(&SETUP.after_write(Duration::from_millis(100))).unwrap();
             cache.with_listener(|left| {
                 let again = CACHE.get().unwrap().get_at(&left.key, 200, || Ok((9, 1)));
                 TOLD.lock().unwrap().push((*left.key, *again.unwrap()));

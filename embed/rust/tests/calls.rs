@@ -16,14 +16,16 @@ fn entries_expire_and_get_due_by_the_cache_s_own_clock() {
             cache.store(&1, Arc::new(7), 1).unwrap();
             cache
         };
-        for setup in [Setup { after_write: 1, ..Setup::of(10) }, Setup { after_access: 1, ..Setup::of(10) }] {
+        for setup in
+            [Setup::of(10).after_write(Duration::from_millis(1)), Setup::of(10).after_access(Duration::from_millis(1))]
+        {
             let cache = open(setup);
             while cache.clean().unwrap().is_empty() {
                 std::thread::yield_now();
             }
             assert_eq!((cache.look(&1), cache.stats().expired, cache.kept()), (Ok(None), 1, (0, 0)));
         }
-        let cache = open(Setup { refresh: 1, ..Setup::of(10) });
+        let cache = open(Setup::of(10).refresh(Duration::from_millis(1)));
         while *cache.get_with(&1, || 8).unwrap() == 7 {
             std::thread::yield_now();
         }

@@ -13,6 +13,7 @@ use std::cell::Cell;
 use std::sync::atomic::{AtomicU64, Ordering::SeqCst};
 use std::sync::{Arc, Mutex};
 use std::task::{Poll, Waker};
+use std::time::Duration;
 use tasks::{run, yields, Gate, Spawned, Task};
 use whole::{holds_exactly, Down, SETUP};
 
@@ -167,7 +168,7 @@ fn a_value_that_is_stored_or_dropped_during_a_load_is_not_loaded_over() {
 
 #[test]
 fn a_due_entry_is_loaded_again_by_one_task_and_the_others_get_the_old_value() {
-    let cache = Cache::open(&Setup { refresh: 10, ..SETUP }).unwrap();
+    let cache = Cache::open(&SETUP.refresh(Duration::from_millis(10))).unwrap();
     let gate = Gate::default();
     cache.store_at(&1, 7, 1, 0).unwrap();
     let ready = |now, value| Task::of(cache.get_at(&1, now, async move { value })).ready();
@@ -187,7 +188,7 @@ fn a_due_entry_is_loaded_again_by_one_task_and_the_others_get_the_old_value() {
 
 #[test]
 fn the_age_of_a_loaded_value_counts_from_the_get() {
-    let (cache, gate) = (Cache::open(&Setup { after_write: 10, ..SETUP }).unwrap(), Gate::default());
+    let (cache, gate) = (Cache::open(&SETUP.after_write(Duration::from_millis(10))).unwrap(), Gate::default());
     let load = async {
         gate.is_open().await;
         Ok((7, 1))

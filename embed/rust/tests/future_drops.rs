@@ -5,11 +5,12 @@ mod tasks;
 #[path = "common/whole.rs"]
 mod whole;
 use common::within_a_minute;
-use rookdresser::{future, Setup};
+use rookdresser::future;
 use std::future::poll_fn;
 use std::sync::atomic::{AtomicU64, Ordering::SeqCst};
 use std::sync::Arc;
 use std::task::Poll;
+use std::time::Duration;
 use tasks::{yields, Gate, Task, Wakes};
 use whole::{holds_exactly, Down, SETUP};
 
@@ -154,7 +155,7 @@ fn tasks_that_are_polled_and_dropped_in_any_order_share_one_load_and_never_hang(
 
 #[test]
 fn a_refresh_that_is_dropped_leaves_the_old_value_and_another_one_refreshes() {
-    let cache = Cache::open(&Setup { refresh: 10, ..SETUP }).unwrap();
+    let cache = Cache::open(&SETUP.refresh(Duration::from_millis(10))).unwrap();
     cache.store_at(&1, 7, 1, 0).unwrap();
     let mut renews = Task::of(cache.get_at(&1, 10, async {
         yields(1).await;

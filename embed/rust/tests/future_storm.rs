@@ -195,7 +195,11 @@ async fn calls(cache: &Cache, source: &Source, task: u64) {
 #[test]
 fn no_answer_of_a_million_calls_is_stale_and_nothing_is_kept_for_good() {
     within(Duration::from_secs(600), || {
-        let setup = Setup { flights: 24, bound: 2000, after_write: 300, refresh: 60, ..Setup::of(300) };
+        let setup = Setup::of(300)
+            .flights(24)
+            .bound(2000)
+            .after_write(Duration::from_millis(300))
+            .refresh(Duration::from_millis(60));
         let cache = Cache::from(rookdresser::Loading::sharded(2, &setup).unwrap());
         let source = Source::new();
         run(4, (0..TASKS).map(|task| Box::pin(calls(&cache, &source, task)) as Spawned).collect());

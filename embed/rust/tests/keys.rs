@@ -7,6 +7,7 @@ use rookdresser::{Fault, Loading, Setup};
 use std::hash::{Hash, Hasher};
 use std::sync::atomic::{AtomicU64, Ordering};
 use std::sync::{Arc, Barrier, OnceLock};
+use std::time::Duration;
 use whole::{holds_exactly, panics, Down, SETUP};
 
 // A key whose hash, equality and clone do as they are told. All of them have one hash.
@@ -73,7 +74,7 @@ fn a_key_s_hash_equality_and_clone_may_panic_and_use_the_cache() {
 #[test]
 fn a_key_alone_of_its_hash_is_not_taken_for_another() {
     ODD.get_or_init(|| Loading::open(&SETUP).unwrap());
-    let cache = Loading::<Odd, u64, Down>::open(&Setup { refresh: 10, ..SETUP }).unwrap();
+    let cache = Loading::<Odd, u64, Down>::open(&SETUP.refresh(Duration::from_millis(10))).unwrap();
     cache.put_at(&Odd(1), Arc::new(1), 1, 0).unwrap();
     // The one row of the hash is tried first, and another key's due entry then stays as it is.
     assert_eq!(cache.get_at(&Odd(2), 20, || Ok((2, 1))), Ok(Arc::new(2)));
@@ -392,7 +393,10 @@ fn a_key_s_hash_and_equality_that_contradict_themselves_leak_nothing() {
     within_a_minute(|| {
         // Each value is a share of one thing.
         let thing = Arc::new(());
-        let cache = Loading::<Fickle, Arc<()>, Down>::open(&Setup { after_write: 40, refresh: 15, ..SETUP }).unwrap();
+        let cache = Loading::<Fickle, Arc<()>, Down>::open(
+            &SETUP.after_write(Duration::from_millis(40)).refresh(Duration::from_millis(15)),
+        )
+        .unwrap();
         for now in 0..3000 {
             let key = Fickle;
             match now % 5 {

@@ -8,6 +8,7 @@ use rookdresser::{Loading, Reads, Setup};
 use std::hash::{Hash, Hasher};
 use std::sync::atomic::{AtomicU64, Ordering::SeqCst};
 use std::sync::{Arc, Mutex};
+use std::time::Duration;
 
 // A key that isn't of the standard library's, of which two have one hash.
 #[derive(Clone, PartialEq, Eq)]
@@ -89,7 +90,7 @@ fn calls<K: Hash + Eq + Clone>(cache: &Loading<K, u64, ()>, sources: &[Source], 
 fn only_grow<K: Hash + Eq + Clone + Send + Sync + 'static>(key_of: fn(u64) -> K) {
     for (shards, reads) in [(1, Reads::Shared), (2, Reads::Shared), (2, Reads::Exact)] {
         // Four entries for six keys, which are due at times.
-        let setup = Setup { refresh: 5, after_write: 40, ..Setup::of(4 / shards) };
+        let setup = Setup::of(4 / shards).refresh(Duration::from_millis(5)).after_write(Duration::from_millis(40));
         within_a_minute(move || {
             let cache = Loading::sharded(shards as usize, &setup).unwrap().with_reads(reads);
             let sources: Vec<_> = (0..6).map(|_| Source::default()).collect();

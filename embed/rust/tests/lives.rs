@@ -60,7 +60,8 @@ fn a_use_lengthens_no_life() {
 #[test]
 fn a_duration_of_the_cache_ends_a_life_earlier() {
     for (after_write, after_access, life, ends) in [(5, 0, 9, 5), (9, 0, 5, 5), (0, 5, 9, 5), (0, 9, 5, 5)] {
-        let cache = Pages::open(&Setup { after_write, after_access, ..Setup::of(100) }).unwrap();
+        let setup = Setup::of(100).after_write(ms(after_write)).after_access(ms(after_access));
+        let cache = Pages::open(&setup).unwrap();
         cache.store_for_at(&1, 7, 1, ms(life), 0).unwrap();
         assert_eq!(end(&cache, 1, 0), Some(ends));
     }
@@ -107,7 +108,7 @@ fn a_replacement_has_a_life_of_its_own() {
         [(ms(50), ms(5), Some(25)), (ms(5), ms(50), Some(70)), (ms(5), none, None), (none, ms(5), Some(25))]
     {
         for loads in [false, true] {
-            let cache = Pages::open(&Setup { refresh: 20, ..Setup::of(100) }).unwrap();
+            let cache = Pages::open(&Setup::of(100).refresh(ms(20))).unwrap();
             cache.store_for_at(&1, 1, 1, first, 0).unwrap();
             // The load is of an entry that is due, or has expired.
             if loads {
@@ -133,7 +134,7 @@ fn a_replacement_has_a_life_of_its_own() {
 
 #[test]
 fn a_refresh_gives_a_new_life_and_one_that_fails_keeps_the_old() {
-    let cache = Pages::open(&Setup { refresh: 10, ..Setup::of(100) }).unwrap();
+    let cache = Pages::open(&Setup::of(100).refresh(ms(10))).unwrap();
     cache.store_for_at(&1, 1, 1, ms(15), 0).unwrap();
     assert_eq!(*cache.get_for_at(&1, 10, || Err(())).unwrap(), 1);
     assert_eq!(*cache.get_for_at(&1, 10, || Ok((2, 1, ms(7)))).unwrap(), 2);
@@ -176,7 +177,7 @@ fn the_calls_without_a_moment_store_with_a_life() {
 #[test]
 fn a_hundred_thousand_random_calls_are_those_of_a_map_with_deadlines() {
     for (after_write, reads) in [(0, Reads::Shared), (300, Reads::Shared), (300, Reads::Exact)] {
-        let cache = Pages::sharded(1, &Setup { after_write, ..Setup::of(1000) }).unwrap().with_reads(reads);
+        let cache = Pages::sharded(1, &Setup::of(1000).after_write(ms(after_write))).unwrap().with_reads(reads);
         let (mut model, mut now, mut hits, mut seed) = (HashMap::new(), 0, 0, 70_u64);
         let mut random = |below: u64| {
             seed = seed.wrapping_mul(6_364_136_223_846_793_005).wrapping_add(1_442_695_040_888_963_407);

@@ -6,6 +6,7 @@ use common::within_a_minute;
 use rookdresser::{Cause, Fault, GetError, Loading, Setup};
 use std::collections::HashMap;
 use std::sync::{Arc, Mutex, OnceLock};
+use std::time::Duration;
 use whole::{holds_exactly, panics, Down, SETUP};
 
 type Cache = Loading<u64, u64, Down>;
@@ -73,7 +74,7 @@ fn who_asks_meanwhile_shares_the_loads() {
 #[test]
 fn a_key_that_the_loader_leaves_out_is_not_there_and_others_load_it() {
     within_a_minute(|| {
-        let cache = Cache::open(&Setup { refresh: 10, ..SETUP }).unwrap();
+        let cache = Cache::open(&SETUP.refresh(Duration::from_millis(10))).unwrap();
         cache.store_at(&3, 7, 1, 0).unwrap();
         std::thread::scope(|s| {
             let found = cache.get_many_at(&[1, 2, 3], 10, |absent| {
@@ -93,7 +94,7 @@ fn a_key_that_the_loader_leaves_out_is_not_there_and_others_load_it() {
 #[test]
 fn a_loader_that_fails_fails_for_all_but_old_values_stay() {
     within_a_minute(|| {
-        let cache = Cache::open(&Setup { refresh: 10, ..SETUP }).unwrap();
+        let cache = Cache::open(&SETUP.refresh(Duration::from_millis(10))).unwrap();
         cache.store_at(&1, 7, 1, 0).unwrap();
         cache.store_at(&2, 8, 1, 0).unwrap();
         let due = cache.get_many_at(&[1, 2], 10, |absent| {
@@ -243,7 +244,7 @@ fn the_listener_is_told_once_all_loads_have_landed_and_may_ask_for_their_keys() 
     static TOLD: Mutex<Vec<(u64, u64, Cause)>> = Mutex::new(vec![]);
     within_a_minute(|| {
         let cache = CACHE.get_or_init(|| {
-            Cache::open(&Setup { after_write: 10, ..SETUP }).unwrap().with_listener(|left| {
+            Cache::open(&SETUP.after_write(Duration::from_millis(10))).unwrap().with_listener(|left| {
                 for key in [1, 2, 3] {
                     let got = CACHE.get().unwrap().get_at(&key, 10, || unreachable!("it is there"));
                     assert_eq!(got, Ok(Arc::new(100 * key)));
@@ -271,11 +272,13 @@ fn an_entry_that_expires_while_another_call_loads_its_key_is_told_once_the_loads
     static TOLD: Mutex<Vec<(u64, u64, Cause)>> = Mutex::new(vec![]);
     within_a_minute(|| {
         let cache = CACHE.get_or_init(|| {
-            Cache::open(&Setup { refresh: 5, after_write: 10, ..SETUP }).unwrap().with_listener(|left| {
-                let got = CACHE.get().unwrap().get_at(&1, 10, || unreachable!("it is there"));
-                assert_eq!(got, Ok(Arc::new(100)));
-                TOLD.lock().unwrap().push((*left.key, *left.value, left.cause));
-            })
+            Cache::open(&SETUP.refresh(Duration::from_millis(5)).after_write(Duration::from_millis(10)))
+                .unwrap()
+                .with_listener(|left| {
+                    let got = CACHE.get().unwrap().get_at(&1, 10, || unreachable!("it is there"));
+                    assert_eq!(got, Ok(Arc::new(100)));
+                    TOLD.lock().unwrap().push((*left.key, *left.value, left.cause));
+                })
         });
         cache.store_at(&5, 7, 1, 0).unwrap();
         // It is due at 6, and has expired at 10, while its load is open.

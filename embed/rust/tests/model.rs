@@ -7,6 +7,7 @@ use std::collections::HashMap;
 use std::fmt::Debug;
 use std::hash::{Hash, Hasher};
 use std::sync::{Arc, Mutex};
+use std::time::Duration;
 
 const AFTER_WRITE: u64 = 50;
 
@@ -71,7 +72,8 @@ impl Hash for Coarse {
 }
 
 fn agrees<K: Hash + Eq + Clone + Debug + Send + Sync + 'static>(key_of: fn(u64) -> K, after_access: u64, seed: u64) {
-    let setup = Setup { after_write: AFTER_WRITE, after_access, ..Setup::of(64) };
+    let setup =
+        Setup::of(64).after_write(Duration::from_millis(AFTER_WRITE)).after_access(Duration::from_millis(after_access));
     let told = Arc::new(Mutex::new(Vec::<Gone<K, u64>>::new()));
     let telling = told.clone();
     let cache = Loading::<K, u64, u64>::sharded(1, &setup)

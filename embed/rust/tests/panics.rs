@@ -6,6 +6,7 @@ use std::panic::{catch_unwind, AssertUnwindSafe};
 use std::sync::atomic::{AtomicBool, AtomicU64, Ordering::SeqCst};
 use std::sync::{Arc, OnceLock};
 use std::thread;
+use std::time::Duration;
 
 // How many things there are, and whether they panic as they are cloned or dropped.
 #[derive(Default)]
@@ -69,7 +70,7 @@ fn panic_of<T>(work: impl FnOnce() -> T) -> Option<&'static str> {
 #[test]
 fn nothing_is_cloned_as_an_entry_leaves_during_a_load() {
     let (keys, values) = (Arc::new(Fuse::default()), Arc::new(Fuse::default()));
-    let mut cache = Cache::<Thing, Thing>::open(&Setup { refresh: 10, ..Setup::of(8) }).unwrap();
+    let mut cache = Cache::<Thing, Thing>::open(&Setup::of(8).refresh(Duration::from_millis(10))).unwrap();
     for number in 0..5 {
         cache.put(&keys.thing(number), values.thing(number), 1, 0).unwrap();
     }
@@ -89,7 +90,7 @@ fn nothing_is_cloned_as_an_entry_leaves_during_a_load() {
 #[test]
 fn a_loaded_value_isn_t_kept_for_good_if_the_old_one_panics_as_it_is_dropped() {
     let values = Arc::new(Fuse::default());
-    let cache = Loading::<u64, Thing, ()>::open(&Setup { refresh: 10, ..Setup::of(10) }).unwrap();
+    let cache = Loading::<u64, Thing, ()>::open(&Setup::of(10).refresh(Duration::from_millis(10))).unwrap();
     cache.put_at(&1, Arc::new(values.thing(0)), 1, 0).unwrap();
     for now in [20, 40, 60] {
         values.light();
@@ -157,7 +158,7 @@ fn a_loader_and_the_drop_of_its_key_may_both_panic() {
 #[test]
 fn a_loader_and_the_drop_of_the_old_value_may_both_panic() {
     let values = Arc::new(Fuse::default());
-    let cache = Loading::<u64, Thing, ()>::open(&Setup { refresh: 10, ..Setup::of(4) }).unwrap();
+    let cache = Loading::<u64, Thing, ()>::open(&Setup::of(4).refresh(Duration::from_millis(10))).unwrap();
     cache.put_at(&1, Arc::new(values.thing(1)), 1, 0).unwrap();
     let got = panic_of(|| {
         cache.get_at(&1, 20, || {
@@ -213,7 +214,10 @@ fn what_a_loader_owns_may_panic_as_it_is_dropped() {
 #[test]
 fn a_loader_of_many_keys_and_the_drops_of_all_that_was_found_may_panic() {
     let (keys, values) = (Arc::new(Fuse::default()), Arc::new(Fuse::default()));
-    let cache = Loading::<Thing, Thing, ()>::open(&Setup { refresh: 10, after_write: 50, ..Setup::of(8) }).unwrap();
+    let cache = Loading::<Thing, Thing, ()>::open(
+        &Setup::of(8).refresh(Duration::from_millis(10)).after_write(Duration::from_millis(50)),
+    )
+    .unwrap();
     let asked: Vec<_> = (0..6).map(|number| keys.thing(number)).collect();
     for number in 0..4 {
         cache.store_at(&asked[number as usize], Arc::new(values.thing(number)), 1, 5 * number).unwrap();
@@ -274,7 +278,8 @@ fn a_hash_that_panics_among_many_keys_ends_the_loads_that_were_begun() {
 #[test]
 fn an_insert_and_the_drops_of_what_it_replaces_may_panic() {
     let (keys, values) = (Arc::new(Fuse::default()), Arc::new(Fuse::default()));
-    let cache = Loading::<Thing, Thing, ()>::open(&Setup { after_write: 10, bound: 10, ..Setup::of(8) }).unwrap();
+    let cache =
+        Loading::<Thing, Thing, ()>::open(&Setup::of(8).after_write(Duration::from_millis(10)).bound(10)).unwrap();
     let key = keys.thing(1);
     let insert = |number, weight, now| {
         let value = Arc::new(values.thing(number));
@@ -400,7 +405,7 @@ fn a_listener_and_the_drop_of_the_key_may_both_panic() {
 #[test]
 fn a_listener_and_the_drop_of_an_expired_key_may_both_panic() {
     let keys = Arc::new(Fuse::default());
-    let setup = Setup { after_write: 10, ..Setup::of(4) };
+    let setup = Setup::of(4).after_write(Duration::from_millis(10));
     let cache = Loading::<Thing, u64, ()>::open(&setup).unwrap().with_listener(|_| panic!("of the listener"));
     let key = keys.thing(1);
     for asks in [

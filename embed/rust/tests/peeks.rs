@@ -1,6 +1,7 @@
 //! What is there, with no use of it.
 use rookdresser::{Loading, Numbers, Setup};
 use std::sync::Arc;
+use std::time::Duration;
 
 type Cache = Loading<u64, u64, ()>;
 
@@ -12,7 +13,7 @@ fn sorted(cache: &Cache, now: u64) -> Vec<u64> {
 
 #[test]
 fn the_keys_are_those_that_a_look_would_find() {
-    let setup = Setup { after_write: 10, ..Setup::of(100) };
+    let setup = Setup::of(100).after_write(Duration::from_millis(10));
     for shards in [1, 4] {
         let cache = Cache::sharded(shards, &setup).unwrap();
         (0..50).for_each(|key| cache.store_at(&key, key, 1, key / 10).unwrap());
@@ -29,7 +30,9 @@ fn the_keys_are_those_that_a_look_would_find() {
 
 #[test]
 fn a_peek_is_no_use_and_no_count_and_moves_no_moment() {
-    let cache = Cache::open(&Setup { after_write: 10, after_access: 5, ..Setup::of(8) }).unwrap();
+    let cache =
+        Cache::open(&Setup::of(8).after_write(Duration::from_millis(10)).after_access(Duration::from_millis(5)))
+            .unwrap();
     cache.store_at(&1, 7, 1, 0).unwrap();
     assert!(cache.contains_key_at(&1, 4) && !cache.contains_key_at(&2, 4) && !cache.contains_key_at(&1, 5));
     assert_eq!(sorted(&cache, 4), [1]);

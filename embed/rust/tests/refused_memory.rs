@@ -10,6 +10,7 @@ use std::alloc::{GlobalAlloc, Layout};
 use std::cell::Cell;
 use std::ffi::c_void;
 use std::sync::{Arc, Mutex};
+use std::time::Duration;
 use streams::{passing, popular, OneSeed};
 
 extern "C" {
@@ -98,7 +99,7 @@ static OWN: Own = Own;
 // Puts so many entries and drops the last of them. The others expire during a refresh of the first, and then there is no memory to
 // store its value. Returns whether the landing asked for memory.
 fn landing_is_refused(entries: u64) -> bool {
-    let setup = Setup { after_write: 100, refresh: 50, ..Setup::of(64) };
+    let setup = Setup::of(64).after_write(Duration::from_millis(100)).refresh(Duration::from_millis(50));
     let told = Arc::new(Mutex::new(Vec::new()));
     let telling = told.clone();
     let cache = Loading::<u64, u64, ()>::open(&setup)

@@ -2,12 +2,13 @@
 use rookdresser::{Cause, Fault, Loading, Setup};
 use std::hash::{Hash, Hasher};
 use std::sync::{Arc, Mutex};
+use std::time::Duration;
 
 type Cache = Loading<u64, u64, ()>;
 
 #[test]
 fn a_value_is_replaced_if_it_is_the_same_one() {
-    let cache = Cache::open(&Setup { after_write: 10, bound: 100, ..Setup::of(8) }).unwrap();
+    let cache = Cache::open(&Setup::of(8).after_write(Duration::from_millis(10)).bound(100)).unwrap();
     let (seven, eight) = (Arc::new(7), Arc::new(8));
     assert_eq!(cache.replace_if_at(&1, &seven, eight.clone(), 1, 0), Ok(false));
     cache.store_at(&1, seven.clone(), 1, 0).unwrap();
@@ -28,7 +29,7 @@ fn a_value_is_replaced_if_it_is_the_same_one() {
 fn the_listener_is_told_what_was_replaced_and_a_load_stores_nothing_over_it() {
     let told = Arc::new(Mutex::new(vec![]));
     let tells = told.clone();
-    let cache = Cache::open(&Setup { refresh: 10, ..Setup::of(8) }).unwrap();
+    let cache = Cache::open(&Setup::of(8).refresh(Duration::from_millis(10))).unwrap();
     let cache = cache.with_listener(move |left| tells.lock().unwrap().push((*left.value, left.cause)));
     let seven = Arc::new(7);
     cache.store_at(&1, seven.clone(), 1, 0).unwrap();
@@ -65,7 +66,7 @@ fn no_change_of_four_threads_is_lost() {
 fn a_value_is_inserted_if_there_is_none() {
     let told = Arc::new(Mutex::new(vec![]));
     let tells = told.clone();
-    let cache = Cache::open(&Setup { after_write: 10, bound: 100, ..Setup::of(8) }).unwrap();
+    let cache = Cache::open(&Setup::of(8).after_write(Duration::from_millis(10)).bound(100)).unwrap();
     let cache = cache.with_listener(move |left| tells.lock().unwrap().push((*left.key, *left.value, left.cause)));
     let (seven, eight) = (Arc::new(7), Arc::new(8));
     assert_eq!(cache.get_or_insert_at(&1, seven.clone(), 2, 0), Ok(seven.clone()));
@@ -96,7 +97,7 @@ impl Hash for Alike {
 
 #[test]
 fn keys_of_one_hash_have_their_own_values_as_they_expire_and_are_inserted() {
-    let cache = Loading::<Alike, u64, ()>::open(&Setup { after_write: 10, ..Setup::of(8) }).unwrap();
+    let cache = Loading::<Alike, u64, ()>::open(&Setup::of(8).after_write(Duration::from_millis(10))).unwrap();
     for now in [0, 5, 10, 15, 20] {
         let round = now / 10;
         for key in 0..4 {

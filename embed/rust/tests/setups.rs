@@ -13,6 +13,10 @@ fn sharded(shards: usize, setup: &Setup) -> Result<(), OpenError> {
     Loading::<u64, u64, ()>::sharded(shards, setup).map(drop)
 }
 
+fn ms(milliseconds: u64) -> Duration {
+    Duration::from_millis(milliseconds)
+}
+
 fn text(opened: Result<(), OpenError>) -> String {
     opened.expect_err("the setup is bad").to_string()
 }
@@ -29,9 +33,9 @@ fn open_and_check_take_the_same_setups_and_name_what_is_out_of_its_range() {
         Setup { adaptive: Some(true), ..Setup::of(512) },
         Setup { flights: 4096, ..SETUP },
         Setup { bound: 1, ..Setup::of(65_536) },
-        Setup { after_write: 10, refresh: 9, ..SETUP },
-        Setup { after_write: 10, after_access: 10, ..SETUP },
-        Setup { refresh: u64::MAX, ..SETUP },
+        SETUP.after_write(ms(10)).refresh(ms(9)),
+        SETUP.after_write(ms(10)).after_access(ms(10)),
+        SETUP.refresh(ms(u64::MAX)),
     ] {
         assert_eq!((good.check(), opened(&good)), (Ok(()), Ok(())));
     }
@@ -45,8 +49,8 @@ fn open_and_check_take_the_same_setups_and_name_what_is_out_of_its_range() {
         (Setup { flights: 4097, ..SETUP }, "flights is 4097, and has to be from 1 to 4096"),
         (Setup { bound: 0, ..SETUP }, "bound is 0, and has to be from 1 to 281474976710656"),
         (Setup { bound: 1 << 49, ..SETUP }, "bound is 562949953421312, and has to be from 1 to 281474976710656"),
-        (Setup { after_write: 5, refresh: 5, ..SETUP }, "refresh is 5, and has to be below after_write, 5"),
-        (Setup { after_write: 5, refresh: 10, ..SETUP }, "refresh is 10, and has to be below after_write, 5"),
+        (SETUP.after_write(ms(5)).refresh(ms(5)), "refresh is 5ms, and has to be below after_write, 5ms"),
+        (SETUP.after_write(ms(2000)).refresh(ms(9000)), "refresh is 9s, and has to be below after_write, 2s"),
     ] {
         let error = bad.check().expect_err("the setup is bad");
         assert_eq!((error.to_string(), opened(&bad)), (said.to_string(), Err(OpenError::BadSetup(error))));
@@ -68,7 +72,7 @@ fn an_error_has_the_setting_its_value_and_its_range() {
         };
         assert_eq!((setting, value, least, most), (Setting::Window, 20, 1, 10));
     }
-    let refresh = Setup { after_write: 5, refresh: 10, ..SETUP }.check().unwrap_err();
+    let refresh = SETUP.after_write(ms(5)).refresh(ms(10)).check().unwrap_err();
     assert_eq!((refresh.setting, refresh.value, refresh.least, refresh.most), (Setting::Refresh, 10, 0, 4));
     assert_eq!(OpenError::OutOfMemory.to_string(), "out of memory");
 }
@@ -116,18 +120,41 @@ fn caches_have_a_debug_form_whatever_their_keys_and_values_are() {
 }
 
 #[test]
-fn a_setup_by_calls_is_the_one_by_fields_and_its_durations_are_rounded_up() {
+fn a_setup_by_calls_is_the_one_by_fields() {
     let by_calls = Setup::of(600).window(6).adaptive(false).flights(7).bound(8);
     let by_fields = Setup { window: Some(6), adaptive: Some(false), flights: 7, bound: 8, ..Setup::of(600) };
     assert_eq!(by_calls, by_fields);
-    let durations = |duration| {
-        let setup = SETUP.after_write(duration).after_access(duration).refresh(duration);
-        assert_eq!(setup, Setup { after_write: setup.refresh, after_access: setup.refresh, ..setup });
-        setup.refresh
-    };
-    let of = [Duration::ZERO, Duration::from_nanos(1), Duration::from_micros(1500), Duration::from_secs(60)];
-    assert_eq!(of.map(durations), [0, 1, 2, 60_000]);
+    let by_fields = Setup { after_write: ms(3), after_access: ms(4), refresh: ms(2), ..SETUP };
+    assert_eq!(SETUP.after_write(ms(3)).after_access(ms(4)).refresh(ms(2)), by_fields);
+}
+
+#[test]
+fn a_duration_counts_in_whole_milliseconds_rounded_up_and_zero_is_never() {
+    let least = Duration::from_nanos(1);
+    for (duration, ends) in [(least, 1), (ms(1), 1), (ms(1) + least, 2), (Duration::from_secs(60), 60_000)] {
+        for setup in [SETUP.after_write(duration), SETUP.after_access(duration)] {
+            let cache = Loading::<u64, u64, ()>::open(&setup).unwrap();
+            cache.store_at(&1, 7, 1, 0).unwrap();
+            assert!(cache.contains_key_at(&1, ends - 1) && !cache.contains_key_at(&1, ends), "{duration:?}");
+        }
+        let cache = Loading::<u64, u64, ()>::open(&SETUP.refresh(duration)).unwrap();
+        cache.store_at(&1, 7, 1, 0).unwrap();
+        let got = [ends - 1, ends].map(|now| *cache.get_at(&1, now, || Ok((8, 1))).unwrap());
+        assert_eq!(got, [7, 8], "{duration:?}");
+    }
     // 2^64 - 1 milliseconds are the longest.
-    assert_eq!([Duration::from_millis(u64::MAX), Duration::MAX].map(durations), [u64::MAX, u64::MAX]);
-    assert_eq!(Setup { refresh: 9, ..SETUP }.after_write(Duration::from_millis(10)).check(), Ok(()));
+    for (duration, is_there) in
+        [(Duration::ZERO, true), (ms(u64::MAX - 1), false), (ms(u64::MAX), false), (Duration::MAX, false)]
+    {
+        let cache = Loading::<u64, u64, ()>::open(&SETUP.after_write(duration)).unwrap();
+        cache.store_at(&1, 7, 1, 0).unwrap();
+        assert_eq!(cache.contains_key_at(&1, u64::MAX), is_there, "{duration:?}");
+        assert_eq!(cache.contains_key_at(&1, u64::MAX - 1), duration != ms(u64::MAX - 1), "{duration:?}");
+    }
+    // Both are of ten milliseconds as they are counted.
+    let refresh = ms(9) + least;
+    assert!(
+        SETUP.after_write(ms(10)).refresh(refresh).check().is_err()
+            && SETUP.after_write(ms(11)).refresh(refresh).check().is_ok()
+    );
 }

@@ -7,6 +7,7 @@ use std::alloc::{GlobalAlloc, Layout, System};
 use std::hash::{Hash, Hasher};
 use std::sync::atomic::{AtomicI64, Ordering::Relaxed};
 use std::sync::Arc;
+use std::time::Duration;
 
 static LIVE: AtomicI64 = AtomicI64::new(0);
 
@@ -62,7 +63,7 @@ fn calls<K: Hash + Eq + Clone>(cache: &Cache<K>, random: &mut Random, from: u64,
 }
 
 fn leave_no_memory_behind<K: Hash + Eq + Clone>(key_of: fn(u64) -> K) {
-    let setup = Setup { after_write: 2000, refresh: 500, ..Setup::of(100) };
+    let setup = Setup::of(100).after_write(Duration::from_millis(2000)).refresh(Duration::from_millis(500));
     let before = LIVE.load(Relaxed);
     let cache = Cache::sharded(2, &setup).unwrap();
     let mut random = Random::of(1);

@@ -10,6 +10,7 @@ use std::hash::{Hash, Hasher};
 use std::panic::{catch_unwind, AssertUnwindSafe};
 use std::sync::atomic::{AtomicBool, AtomicU64, Ordering::SeqCst};
 use std::sync::{Arc, OnceLock};
+use std::time::Duration;
 
 type Cache = Loading<Key, Value, ()>;
 
@@ -148,7 +149,8 @@ fn call(cache: &Cache) {
 #[test]
 fn a_cache_whose_callbacks_panic_and_use_it_stays_whole() {
     within_a_minute(|| {
-        let setup = Setup { after_write: 300, refresh: 100, bound: 300, ..Setup::of(256) };
+        let setup =
+            Setup::of(256).after_write(Duration::from_millis(300)).refresh(Duration::from_millis(100)).bound(300);
         let cache = CACHE.get_or_init(|| Loading::sharded(2, &setup).unwrap().with_listener(|_| strikes()));
         std::thread::scope(|threads| {
             for seed in 1..9 {

@@ -7,6 +7,7 @@ use random::Random;
 use rookdresser::{Fault, GetError, Loading, Setup};
 use std::sync::atomic::{AtomicU64, Ordering};
 use std::sync::Arc;
+use std::time::Duration;
 
 static LIVE: AtomicU64 = AtomicU64::new(0);
 
@@ -61,7 +62,11 @@ fn requests(cache: &Loading<u64, Value, u64>, clock: &AtomicU64, seed: u64) {
 
 #[test]
 fn after_a_hundred_thousand_requests_exactly_what_is_held_is_kept() {
-    let setup = Setup { flights: 64, bound: 4000, after_write: 1500, refresh: 600, ..Setup::of(500) };
+    let setup = Setup::of(500)
+        .flights(64)
+        .bound(4000)
+        .after_write(Duration::from_millis(1500))
+        .refresh(Duration::from_millis(600));
     for shards in [1, 4] {
         let cache = within_a_minute(move || {
             let (cache, clock) = (Loading::sharded(shards, &setup).unwrap(), AtomicU64::new(0));
