@@ -17,6 +17,7 @@ use std::sync::Arc;
 /// # Ok::<(), rookdresser::OpenError>(())
 /// ```
 #[derive(Debug, PartialEq, Eq)]
+#[non_exhaustive]
 pub enum GetError<E> {
     /// The load failed, for all who shared it.
     Load(Arc<E>),

@@ -148,6 +148,7 @@ impl Error for BadSetting {}
 /// }
 /// ```
 #[derive(Clone, Copy, Debug, PartialEq, Eq, Hash)]
+#[non_exhaustive]
 pub enum OpenError {
     /// A setting is out of its range.
     BadSetup(BadSetting),

@@ -13,6 +13,7 @@ use std::sync::Arc;
 
 /// How the hits of a [`Loading`](crate::Loading) are made.
 #[derive(Clone, Copy, Debug, Default, PartialEq, Eq, Hash)]
+#[non_exhaustive]
 pub enum Reads {
     /// Threads that hit don't wait for each other, after some hundred look-ups of a shard with no other call. The library, which
     /// chooses what to evict, then hears of one hit in 16, and somewhat later. Each hit is in [`Stats`](crate::Stats).

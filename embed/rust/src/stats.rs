@@ -8,6 +8,7 @@ use std::time::Duration;
 ///
 /// If keys have the same hash, a call may be counted for another key of that hash too, by the library's numbers as well.
 #[derive(Clone, Copy, Debug, Default, PartialEq, Eq)]
+#[non_exhaustive]
 pub struct Stats {
     /// Calls of `look`, `get` and `get_or_insert`, and keys of a `get_many`, that found a value.
     pub hits: u64,

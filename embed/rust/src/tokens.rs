@@ -8,7 +8,21 @@ use std::fmt::{Debug, Display, Formatter};
 use std::time::Duration;
 
 /// Why a call was refused. A refused call changes nothing.
+///
+/// A later version may have further faults, so a `match` has a last arm for them. Without it this doesn't compile:
+///
+/// ```compile_fail,E0004
+/// use rookdresser::Fault;
+///
+/// fn may_succeed_later(fault: Fault) -> bool {
+///     match fault {
+///         Fault::OutOfMemory | Fault::TooManyFlights => true,
+///         Fault::TooHeavy | Fault::StepsSpent => false,
+///     }
+/// }
+/// ```
 #[derive(Clone, Copy, Debug, PartialEq, Eq, Hash)]
+#[non_exhaustive]
 pub enum Fault {
     /// An allocation failed. The same call may succeed later.
     OutOfMemory,
@@ -21,7 +35,7 @@ pub enum Fault {
 }
 
 impl Fault {
-    /// All faults, each at the place that [`Fault::place`] tells.
+    /// All faults of this version, each at the place that [`Fault::place`] tells.
     pub const ALL: [Fault; 4] = [Fault::OutOfMemory, Fault::TooHeavy, Fault::TooManyFlights, Fault::StepsSpent];
 
     /// Its place in [`Fault::ALL`].

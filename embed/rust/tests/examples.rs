@@ -1,4 +1,4 @@
-//! Each public call has an example, which `cargo test` runs.
+//! Each public call has an example, which `cargo test` runs, and the public types that may grow say so.
 use std::fs::{read_dir, read_to_string};
 
 // The calls of a file that have no example: their names, where they are public outside `sys.rs`'s declarations.
@@ -22,12 +22,32 @@ fn without_example(source: &str) -> Vec<String> {
     found
 }
 
+fn sources() -> Vec<String> {
+    let files = read_dir(concat!(env!("CARGO_MANIFEST_DIR"), "/src")).unwrap().map(|file| file.unwrap().path());
+    files.map(|file| read_to_string(file).unwrap()).collect()
+}
+
 #[test]
 fn each_public_call_has_an_example() {
     let source = "    /// Opens.\n    ///\n    /// ```\n    /// x\n    /// ```\n    #[inline]\n    pub fn open() {\n    pub fn close<T>() {";
     assert_eq!(without_example(source), ["close"]);
-    let files = read_dir(concat!(env!("CARGO_MANIFEST_DIR"), "/src")).unwrap().map(|file| file.unwrap().path());
-    let sources: Vec<_> = files.map(|file| read_to_string(file).unwrap()).collect();
+    let sources = sources();
     assert!(sources.iter().map(|source| source.matches("    pub fn ").count()).sum::<usize>() >= 50);
     assert_eq!(sources.iter().flat_map(|source| without_example(source)).collect::<Vec<_>>(), [""; 0]);
+}
+
+#[test]
+fn the_enums_that_a_match_may_list_as_a_whole_are_those_of_the_header() {
+    let mut whole = Vec::new();
+    for source in sources() {
+        let mut before = "";
+        for line in source.lines() {
+            if let Some(name) = line.strip_prefix("pub enum ").filter(|_| before != "#[non_exhaustive]") {
+                whole.push(name.trim_end_matches(" {").to_string());
+            }
+            before = line;
+        }
+    }
+    whole.sort();
+    assert_eq!(whole, ["Cause", "Found", "Landed"]);
 }

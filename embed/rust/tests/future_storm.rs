@@ -118,6 +118,7 @@ fn get<'a>(cache: &'a Cache, source: &'a Source, key: u64, what: u64, polls: u64
             }
             Some(Err(GetError::Refused(fault))) => assert_eq!(fault, Fault::TooManyFlights),
             Some(Err(GetError::WaitsForItself)) => return true,
+            Some(Err(error)) => unreachable!("{error:?}"),
             None => {}
         }
         false
@@ -152,7 +153,7 @@ async fn get_many(cache: &Cache, source: &Source, keys: [u64; 3], what: u64, pol
             assert!(error.key == SEVERAL || keys.iter().zip(least).any(is_fresh));
         }
         Some(Err(GetError::Refused(fault))) => assert_eq!(fault, Fault::TooManyFlights),
-        Some(Err(GetError::WaitsForItself)) => unreachable!("nobody waits for a task that isn't within a load"),
+        Some(Err(error)) => unreachable!("nobody waits for a task that isn't within a load: {error:?}"),
         None => {}
     }
 }
