@@ -25,8 +25,8 @@ static int look(Table *self, PyObject *key, int takes, PyObject **value) {
         *value = is_there ? ((Use *)(uintptr_t)answer.token)->value : NULL;
         Py_XINCREF(*value);
         if (self->advice) note(self, number);
-        take_left(self, cache, &answer, &left);
-        if (takes && !rd_drop_key(cache, number, now, &answer)) take_left(self, cache, &answer, &left);
+        take_left(self, cache, &answer, NULL, &left);
+        if (takes && !rd_drop_key(cache, number, now, &answer)) take_left(self, cache, &answer, NULL, &left);
     }
     END_STEP
     if (fault) refuse(self, fault);
@@ -157,7 +157,7 @@ static int put(Table *self, PyObject *key, PyObject *value, PyObject *ttl, PyObj
     if (is_found == 0 && !(fault = rd_put_for(cache, number, token, life, now, &answer, &first))) {
         link_use(self, use, hash, number);
         use = NULL;
-        take_left(self, cache, &answer, &left);
+        take_left(self, cache, &answer, &first, &left);
     }
     END_STEP
     free_uses(use);
@@ -194,7 +194,7 @@ static int by_key(Table *self, PyObject *key, KeyCall *key_call) {
     STEP
     is_found = find(self, key, hash, &number);
     rd_cache *cache = shard_of(self, number);
-    if (is_found == 0 && !(fault = key_call(cache, number, now, &answer))) take_left(self, cache, &answer, &left);
+    if (is_found == 0 && !(fault = key_call(cache, number, now, &answer))) take_left(self, cache, &answer, NULL, &left);
     END_STEP
     if (fault) refuse(self, fault);
     if (is_found < 0 || fault || tell(self, left) < 0) return -1;

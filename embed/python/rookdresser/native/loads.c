@@ -52,7 +52,7 @@ int seek(Table *self, PyObject *key, Load *mine, PyObject **found) {
             kind = RD_LEAD;
         }
         Py_INCREF(*found);
-        take_left(self, cache, &answer, kind == RD_LEAD ? &load->left : &left);
+        take_left(self, cache, &answer, NULL, kind == RD_LEAD ? &load->left : &left);
     }
     if (!mine && !load->is_open && !self->spare) self->spare = load, load = NULL;
     END_STEP
@@ -100,7 +100,7 @@ int fail(Table *self, Load *load, PyObject *error) {
         Py_INCREF(error);
         load->error = error, load->trace = trace, trace = NULL;
         self->counts.failed++;
-        if (!rd_land_failed(cache, load->id, number, load->now, &answer)) take_left(self, cache, &answer, &left);
+        if (!rd_land_failed(cache, load->id, number, load->now, &answer)) take_left(self, cache, &answer, NULL, &left);
     }
     END_STEP
     Py_XDECREF(trace);
@@ -149,8 +149,9 @@ int land(Table *self, Load *load, PyObject *value, PyObject *ttl) {
             use = NULL;
         } else
             self->counts.loose++;
+        const rd_notice *told = fault ? NULL : &first;
         if (fault) fault = rd_land_loose(cache, load->id, number, load->now, &answer);
-        if (!fault) take_left(self, cache, &answer, &left);
+        if (!fault) take_left(self, cache, &answer, told, &left);
     }
     END_STEP
     free_uses(use);

@@ -126,7 +126,7 @@ void unlink_use(Table *self, Use *use);
 void free_uses(Use *use);
 int find(Table *self, PyObject *key, uint64_t hash, uint64_t *number);
 Load *load_of(Table *self, uint64_t number, uint64_t id);
-void take_left(Table *self, rd_cache *cache, const rd_answer *answer, Use **left);
+void take_left(Table *self, rd_cache *cache, const rd_answer *answer, const rd_notice *first, Use **left);
 void close_all(Table *self);
 Use *take_all(Table *self, int with_loads);
 

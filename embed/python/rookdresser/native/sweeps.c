@@ -12,7 +12,7 @@ static PyObject *sweep(Table *self, SweepCall *sweep_call) {
     for (uint64_t i = 0; i < self->shards && !fault; i++) {
         rd_cache *cache = &self->caches[i];
         fault = sweep_call(cache, now, &answer);
-        if (!fault) take_left(self, cache, &answer, &left);
+        if (!fault) take_left(self, cache, &answer, NULL, &left);
     }
     END_STEP
     int reported = tell(self, left);
@@ -45,7 +45,7 @@ static PyObject *table_popitem(Table *self, PyObject *none) {
         Py_INCREF(key);
         Py_INCREF(value);
         fault = rd_drop_key(cache, use->number, now, &answer);
-        if (!fault) take_left(self, cache, &answer, &left);
+        if (!fault) take_left(self, cache, &answer, NULL, &left);
     } else if (!self->caches->is_open)
         fault = RD_CLOSED;
     END_STEP

@@ -100,12 +100,15 @@ Load *load_of(Table *self, uint64_t number, uint64_t id) {
     return use ? use->load : NULL;
 }
 
-/* Takes what left in the call out of the table, and appends it to `left`. */
-void take_left(Table *self, rd_cache *cache, const rd_answer *answer, Use **left) {
+/* Takes what left in the call out of the table, and appends it to `left`. `first` is the first notice, or null if the call doesn't write
+ * it. */
+void take_left(Table *self, rd_cache *cache, const rd_answer *answer, const rd_notice *first, Use **left) {
     rd_notice notice;
     if (!answer->notices) return;
     while (*left) left = &(*left)->next;
-    for (uint64_t i = 0; i < answer->notices && !rd_get_notice(cache, i, &notice); i++, left = &(*left)->next) {
+    for (uint64_t i = 0; i < answer->notices; i++, left = &(*left)->next) {
+        if (first && i == 0) notice = *first;
+        else if (rd_get_notice(cache, i, &notice)) return;
         Use *use = (Use *)(uintptr_t)notice.token;
         unlink_use(self, use);
         use->cause = notice.cause, *left = use;
