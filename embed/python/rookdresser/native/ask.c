@@ -98,12 +98,12 @@ static int milliseconds_of(PyObject *given, const char *what, long long *number)
     return PyErr_Occurred() ? -1 : 0;
 }
 
-/* The life of an entry by a caller's ttl, which may be null or None: 0 is none, as it is of one that 32 bits don't hold. Less than a
+/* The life of an entry by a caller's ttl, which may be None: 0 is none, as it is of one that 32 bits don't hold. Less than a
  * millisecond counts as one. */
 int life_of(PyObject *ttl, PyObject *key, PyObject *value, uint32_t *life) {
     long long number = 0;
     *life = 0;
-    if (!ttl || ttl == Py_None) return 0;
+    if (ttl == Py_None) return 0;
     int is_called = PyCallable_Check(ttl);
     PyObject *given = is_called ? PyObject_CallFunctionObjArgs(ttl, key, value, NULL) : ttl;
     if (!given) return -1;

@@ -133,12 +133,12 @@ int table_contains(Table *self, PyObject *key) {
 /* Stores the value, or returns 1 with the value that is there if the caller asks for it; 0, or -1. */
 static int put(Table *self, PyObject *key, PyObject *value, PyObject *ttl, PyObject **there) {
     uint64_t weight, now, hash, number, fault = 0;
-    uint32_t life;
+    uint32_t life = 0;
     rd_answer answer;
     rd_notice first;
     Use *left = NULL;
     int is_found = -1, is_there = 0;
-    if (weight_of(self, key, value, &weight) < 0 || life_of(ttl, key, value, &life) < 0) return -1;
+    if (weight_of(self, key, value, &weight) < 0 || (ttl && life_of(ttl, key, value, &life) < 0)) return -1;
     if (now_of(self, &now) < 0 || hash_of(self, key, &hash) < 0) return -1;
     Use *use = zeroed(sizeof(Use));
     if (!use) return PyErr_NoMemory(), -1;

@@ -123,7 +123,8 @@ int land(Table *self, Load *load, PyObject *value, PyObject *ttl) {
     Py_XINCREF(key);
     END_STEP
     if (!key) return 0; /* it has ended already */
-    int asked = weight_of(self, key, value, &weight) < 0 ? -1 : life_of(ttl, key, value, &life);
+    int asked = weight_of(self, key, value, &weight);
+    if (asked == 0 && ttl) asked = life_of(ttl, key, value, &life);
     Py_DECREF(key);
     if (asked < 0) return -1;
     STEP
