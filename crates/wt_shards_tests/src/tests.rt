@@ -5,6 +5,7 @@ mod books;
 mod caller;
 mod compare;
 mod loads;
+mod missing;
 mod peeks;
 mod plain;
 mod refusals;
