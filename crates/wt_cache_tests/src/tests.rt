@@ -5,6 +5,7 @@ mod calls;
 mod codes;
 mod compare;
 mod leads;
+mod posted;
 mod refusals;
 mod soak;
 mod stage;

@@ -34,9 +34,9 @@ fn gets_later<N: Names, R: Wait>(
     gets_at(rt, alloc, cache, key, TODAY)
 }
 
-// Releases the load of this number once two look-ups for each load have missed, within 10,000,000
-// turns, and the caller that joined it sleeps.
-fn releases<N: Names, R: Wait>(rt: &R, cache: &Cache<N>, marks: &Marks, load: u64) -> bool {
+/// Releases the load of this number once two look-ups for each load have missed, within 10,000,000
+/// turns, and the caller that joined it sleeps.
+pub fn releases<N: Names, R: Wait>(rt: &R, cache: &Cache<N>, marks: &Marks, load: u64) -> bool {
     for _ in 0..10_000_000u64 {
         if cache.stats(rt).misses == load.wrapping_mul(2) {
             pause();

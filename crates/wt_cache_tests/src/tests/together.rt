@@ -6,6 +6,7 @@ use crate::tests::asleep::sleepers;
 use crate::tests::calls::{Answer, Led, get, led, put};
 use crate::tests::codes::{failed_jobs, failed_shares};
 use crate::tests::leads::alone;
+use crate::tests::posted::posted_load;
 use crate::tests::stage::{Cache, Marks, Plain, Rules, Version, Way, light, new_marks};
 use crate::tests::threads::{given_up, one_load, put_beside_load};
 use crate::tests::workers::{full_line, heavy_load, many_loads, one_worker, refresh, two_workers};
@@ -52,13 +53,15 @@ pub enum Scene {
     FailedShares,
     /// One worker runs three loads, which fail.
     FailedJobs,
+    /// Two callers ask for a key at this moment while a worker's load of it is held.
+    Posted(u64),
 }
 
 impl Scene {
     // How the loader answers.
     fn way(self) -> Way {
         match self {
-            Scene::OneLoad | Scene::PutBesideLoad => Way::HoldsOne,
+            Scene::OneLoad | Scene::PutBesideLoad | Scene::Posted(_) => Way::HoldsOne,
             Scene::Dropped
             | Scene::Abandoned
             | Scene::Forgotten
@@ -89,6 +92,7 @@ impl Scene {
             | Scene::OneWorker
             | Scene::ManyLoads
             | Scene::Refresh
+            | Scene::Posted(_)
             | Scene::FailedJobs => 1,
             Scene::TwoWorkers | Scene::Sleepers => 2,
         }
@@ -193,6 +197,7 @@ fn act<N: Names + Send + Sync, R: Threads + Wait + Abort + Sync>(
         Scene::GivenUp => given_up(rt, alloc, cache, open),
         Scene::FailedShares => failed_shares(rt, alloc, cache, marks),
         Scene::FailedJobs => failed_jobs(rt, alloc, cache, marks),
+        Scene::Posted(now) => posted_load(rt, alloc, cache, marks, now),
     }
 }
 
