@@ -2,6 +2,7 @@
 
 mod asleep;
 mod calls;
+mod closing;
 mod codes;
 mod compare;
 mod leads;
