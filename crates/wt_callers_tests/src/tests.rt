@@ -10,5 +10,6 @@ mod lender;
 mod lending;
 mod lines;
 mod serving;
+mod settings;
 mod shares;
 mod tallies;
