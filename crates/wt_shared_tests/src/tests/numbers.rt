@@ -27,7 +27,7 @@ fn numbers_are_of_one_moment(rt: HostRuntime) -> Result<(), Fail> {
         failed: 0,
         evicted: 0,
         entries: 1,
-        weight: 6,
+        weight: 1,
     };
     let numbers = Numbers {
         stats,
