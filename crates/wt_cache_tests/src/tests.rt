@@ -2,7 +2,6 @@
 
 mod asleep;
 mod calls;
-mod closing;
 mod codes;
 mod compare;
 mod leads;

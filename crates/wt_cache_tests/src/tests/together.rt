@@ -139,12 +139,8 @@ pub fn puts_and_gets<N: Names, R: Wait>(
     puts_and_gets_by(rt, alloc, cache, &mut pass, now)
 }
 
-/// A load of key 1, opened by a pass that is dropped then.
-pub fn led_alone<N: Names, R: Wait>(
-    rt: &R,
-    alloc: Global,
-    shards: &Plain<N>,
-) -> Result<Led, Fault> {
+// A load of key 1, opened by a pass that is dropped then.
+fn led_alone<N: Names, R: Wait>(rt: &R, alloc: Global, shards: &Plain<N>) -> Result<Led, Fault> {
     let mut pass = shards.pass(rt, alloc)?;
     led(rt, alloc, shards, &mut pass, 1)
 }
