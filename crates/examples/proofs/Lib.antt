@@ -1,1 +1,2 @@
 pub mod Reflexive
+pub mod Handed

@@ -1,6 +1,7 @@
 // Two threads put into a cache for many threads, and one reads what the other has put. A value is
 // served for less than 1000 ms. At the end the passes show that no step is missing; the second time
 // one pass is left out, and `settle` returns a fault.
+mod fresh;
 mod handing;
 mod page;
 mod peeking;
@@ -47,6 +48,8 @@ pub fn show<R: Print + Threads + Wait + Sync>(rt: &R, alloc: Global) -> anyhow::
                 println!(rt; "it peeks at version {}", seen.peeked.new)?;
                 println!(rt; "after 999 ms it peeks at version {}", seen.peeked.young)?;
                 println!(rt; "after 1000 ms it peeks at version {}", seen.peeked.old)?;
+                println!(rt; "behind a put it seeks version {}", seen.fresh.put)?;
+                println!(rt; "behind a removal it reads version {}", seen.fresh.dropped)?;
                 println!(rt; "{} steps, and no pass is missing", seen.steps)?;
             }
             Err(fault) => println!(rt; "fault {}: {fault}", fault.number())?,

@@ -1,5 +1,5 @@
 -- A peek shows the shard's history, and what a look behind it would be answered.
-use Rattle.std.proofs.Common.{◌≡◌, ◌⊎◌, ℕ, ◌+◌, Bool, true, List, [], ◌∷◌, ◌++◌, length, Option, Some, None, ap, sym, subst, ◌∙◌, arith, append_assoc, length-append}
+use Rattle.std.proofs.Common.{◌≡◌, ℕ, Bool, true, List, [], ◌∷◌, ◌++◌, length, Option, Some, None, ap, sym, subst, ◌∙◌, arith, append_assoc, length-append}
 use Rattle.std.specs.Cmp.{IsEquivalence}
 use Rattle.wt_regions.specs.declared.weighs.Measure.{Measure}
 use mathlib.Core.List.{IsPrefix}
@@ -10,13 +10,14 @@ use Rattle.wt_core.specs.State.{State}
 use Rattle.wt_core.specs.Peeks.{look_reply}
 use Rattle.wt_core.specs.Step.{step}
 use Rattle.wt_shards.specs.Asked.{ReplyAnswers}
-use Rattle.wt_shards.specs.History.{IsMade, state_after}
+use Rattle.wt_shards.specs.Brought.{IsFresh}
+use Rattle.wt_shards.specs.History.{state_after}
 use Rattle.wt_shards.specs.Members.{members_by}
 use Rattle.wt_shards.specs.Place.{Place}
 use Rattle.wt_shards.specs.Peeks.{FindsOwnPut, FindsYoung, FoundAnswers, FoundOnly, IsPeek}
-use Rattle.wt_shards.specs.Served.{HitsOnly, IsBroughtIn, IsBroughtYoung}
+use Rattle.wt_shards.specs.Served.{HitsOnly, IsBroughtYoung}
 use Rattle.wt_shards.specs.StateAt.{IsStateAt}
-use Rattle.wt_shards.proofs.Served.{reads-own-put}
+use Rattle.wt_shards.proofs.Fresh.{reads-own-put}
 use Rattle.wt_shards.proofs.Young.{serves-young}
 
 -- what holds of a hit holds of what was found
@@ -58,7 +59,7 @@ module _ {K V : Type 0} (eq : K → K → Bool) (word : K → ℕ) (measure : V 
       let start : met ≡ (before ++ one) ++ seen.0 = sym seen.1 ∙ ap (λ w. w ++ seen.0) put.placed.place in
       let whole : last ≡ before ++ Put k v now ∷ between = peek.seen ∙ (ap (λ w. w ++ peek.between) start
       ∙ (append_assoc (before ++ one) seen.0 peek.between ∙ append_assoc before one between)) in
-      let law = reads-own-put eq same word measure laws p.config before between k v now later
+      let law = reads-own-put eq same word measure p.config laws before between k v now later
       put.placed.lawful.lawful.lawful put.placed.allowed in
       let is : (step eq word measure (state_after eq word measure p.config (before ++ Put k v now ∷ between)) (Look k later)).reply
       ≡ look_reply found =
@@ -68,8 +69,8 @@ module _ {K V : Type 0} (eq : K → K → Bool) (word : K → ℕ) (measure : V 
         between = between;
         place = whole;
         numbered = omega (arith, put.numbered, ap length put.placed.place, length-append before one);
-        reads = found-only (λ w. (w ≡ v) ⊎ IsBroughtIn between k w) found
-            (subst (λ (r : Reply V). HitsOnly (λ w. (w ≡ v) ⊎ IsBroughtIn between k w) r) is law);
+        reads = found-only (IsFresh eq word measure p.config before (Put k v now) between k) found
+            (subst (λ (r : Reply V). HitsOnly (IsFresh eq word measure p.config before (Put k v now) between k) r) is law);
       }
 
   -- a peek finds only what was brought not too long ago

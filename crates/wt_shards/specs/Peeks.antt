@@ -1,8 +1,9 @@
 -- What a peek promises, which is no step.
-use Rattle.std.specs.Prelude.{◌≡◌, ◌⊎◌, ℕ, ◌+◌, Bool, List, [], ◌∷◌, ◌++◌, length, Option, Some, None, Result, IfOk, IfErr, OnErr, IsTrue}
+use Rattle.std.specs.Prelude.{◌≡◌, ℕ, ◌+◌, Bool, List, ◌∷◌, ◌++◌, length, Option, Some, None, Result, IfOk, IfErr, OnErr, IsTrue}
 use Rattle.wt_keys.specs.declared.fault.Fault.{Fault}
 use Rattle.wt_keys.specs.declared.fault.Fault.TheVariants.{NoMemory}
 use mathlib.Core.List.{IsPrefix}
+use Rattle.wt_regions.specs.declared.weighs.Measure.{Measure}
 use Rattle.wt_regions.specs.Notices.{NoticeList}
 use Rattle.wt_core.specs.declared.calls.Call.{Call}
 use Rattle.wt_core.specs.declared.calls.Call.TheVariants.{Look, Put}
@@ -10,11 +11,12 @@ use Rattle.wt_core.specs.declared.calls.Reply.{Reply}
 use Rattle.wt_core.specs.declared.config.Config.{Config}
 use Rattle.wt_core.specs.Peeks.{look_reply}
 use Rattle.wt_core.specs.Step.{step}
+use Rattle.wt_shards.specs.Brought.{IsFresh}
 use Rattle.wt_shards.specs.History.{IsMade, state_at}
 use Rattle.wt_shards.specs.Members.{Members}
 use Rattle.wt_shards.specs.Passes.{Mine, Seen, SeenAt, front_at}
 use Rattle.wt_shards.specs.Place.{Place}
-use Rattle.wt_shards.specs.Served.{HitsOnly, IsBroughtIn, IsBroughtYoung}
+use Rattle.wt_shards.specs.Served.{IsBroughtYoung}
 use Rattle.wt_shards.specs.StateAt.{IsStateAt}
 
 -- a value that is found may stand for the key
@@ -64,23 +66,23 @@ module _ {K V : Type 0} (members : Members K V) (p : Place) where
     -- a fault moves nothing
     pub err : OnErr result (new ≡ old)
 
-module _ {K V : Type 0} where
-  -- a put stands in the history, and a peek behind it finds no value but that one, or one that a call behind the put brought for the
+module _ {K V : Type 0} (eq : K → K → Bool) (word : K → ℕ) (measure : V → Measure) (config : Config) where
+  -- a put stands in the history, and a peek behind it finds no value but that one, or one that calls behind the put brought for the
   -- key. `last` is what the caller of the peek has then seen, and `number` the put's
   pub record IsPeekBehindPut (k : K) (v : V) (now number : ℕ) (last : List (Call K V)) (found : Option V) : Type 0 where
     pub before : List (Call K V)
     pub between : List (Call K V)
     pub place : last ≡ before ++ Put k v now ∷ between
     pub numbered : number ≡ length before + 1
-    pub reads : FoundOnly (λ w. (w ≡ v) ⊎ IsBroughtIn between k w) found
+    pub reads : FoundOnly (IsFresh eq word measure config before (Put k v now) between k) found
 
 module _ {K V : Type 0} (members : Members K V) (p : Place) where
-  -- a peek whose caller has seen a put of its key finds no value but that one, or one that a call behind the put brought for the key
+  -- a peek whose caller has seen a put of its key finds no value but that one, or one that calls behind the put brought for the key
   abbrev pub FindsOwnPut : Type 0
   FindsOwnPut = (k : K) (v : V) (now later : ℕ) (me mine met last : List (Call K V)) (stored : Reply V) (number : ℕ)
       (before list : NoticeList K V) (found : Option V)
       → IsMade members p (Put k v now) stored number me mine before list → IsPrefix mine met → IsPeek members p k later met last found
-      → IsPeekBehindPut k v now number last found
+      → IsPeekBehindPut members.eq members.word members.measure p.config k v now number last found
 
   -- a peek finds no value but one that the history which it shows brought for the key, not too long ago
   abbrev pub FindsYoung : Type 0

@@ -1,5 +1,5 @@
 -- What is true of the calls that a caller has seen.
-use Rattle.std.specs.Prelude.{◌≡◌, ◌⊎◌, ℕ, ◌+◌, Bool, List, ◌∷◌, ◌++◌, None, IfSome}
+use Rattle.std.specs.Prelude.{◌≡◌, ℕ, ◌+◌, Bool, List, ◌∷◌, ◌++◌, None, IfSome}
 use Rattle.wt_regions.specs.declared.weighs.Measure.{Measure}
 use Rattle.wt_core.specs.declared.calls.Call.{Call}
 use Rattle.wt_core.specs.declared.calls.Call.TheVariants.{Land, Put}
@@ -11,7 +11,8 @@ use Rattle.wt_core.specs.Run.{taken}
 use Rattle.wt_core.specs.Stale.{StaleIsUnstored}
 use Rattle.wt_core.specs.State.{opening}
 use Rattle.wt_core.specs.Step.{refusal_of}
-use Rattle.wt_shards.specs.Served.{IsBroughtIn, IsBroughtYoung}
+use Rattle.wt_shards.specs.Brought.{IsFresh}
+use Rattle.wt_shards.specs.Served.{IsBroughtYoung}
 use Rattle.wt_shared.specs.Served.{ServesOnly}
 use Rattle.wt_shared.specs.Shared.{state_after}
 
@@ -32,9 +33,9 @@ module _ {K V : Type 0} (eq : K → K → Bool) (word : K → ℕ) (measure : V 
     -- at each place among them, and behind them, no value of a key is hit but one that the calls before brought for it, not too long ago
     pub young : (before after : List (Call K V)) (k : K) (now : ℕ) → before ++ after ≡ calls
         → ServesOnly eq word measure (IsBroughtYoung eq word measure config before k now) (state_after eq word measure config before) k now
-    -- behind a put of the key among them no other value is hit but one that a call between brought for the key, if the put wasn't refused
+    -- behind a put of the key among them no other value is hit but one that calls between brought for the key, if the put wasn't refused
     pub own : (before between after : List (Call K V)) (k : K) (v : V) (now later : ℕ) → (before ++ Put k v now ∷ between) ++ after ≡ calls
         -- as each call says of its place
         → IsLawful eq measure (state_after eq word measure config before)
         → refusal_of eq word measure (state_after eq word measure config before) (Put k v now) ≡ None
-        → ServesOnly eq word measure (λ w. (w ≡ v) ⊎ IsBroughtIn between k w) (state_after eq word measure config (before ++ Put k v now ∷ between)) k later
+        → ServesOnly eq word measure (IsFresh eq word measure config before (Put k v now) between k) (state_after eq word measure config (before ++ Put k v now ∷ between)) k later

@@ -205,10 +205,10 @@ impl<K: CacheKey, V: Share + Weighs> Caller<K, V> {
     /// has at most one current load; an id is opened at most once, and is then open or landed once; a
     /// landing tells of the lead and of each call that joins; and a stale load isn't stored.
     ///
-    /// What a look, a seek or a peek hits was put or landed for the key less than `after_write`
-    /// before, and its own life isn't over. Behind a put of the key that wasn't refused it is that
-    /// value, or one that a call between the two brought, if the cache was lawful at the put, as each
-    /// call says of its place.
+    /// What a look, a seek or a peek hits was stored for the key, by a put or a landing, less than
+    /// `after_write` before, and its own life isn't over. Behind a put of the key that wasn't refused
+    /// it is that value, or one that a call between the two stored: a put, or the landing of a load
+    /// that was opened between. It holds if the cache was lawful at the put, as each call says.
     ///
     /// The function does nothing, and takes no memory.
     pub fn laws(&self)

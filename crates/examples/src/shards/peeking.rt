@@ -27,8 +27,8 @@ pub fn put_and_peek<K: CacheKey, V: Value<K>, B: Books, R: Wait>(
 ) -> Result<(Done<()>, Option<V>), Fault>
     requires answers { IsTrue (V.answers value key) }
     requires room { shards.now.config.entries ≤ notices.old.room }
-    ensures { IfOk result (λ r. IsPeekBehindPut key value now r.0.step
-        (front_at (home_of K.word key shards.now) taker.new) r.1) }
+    ensures { IfOk result (λ r. IsPeekBehindPut K.eq K.word V.measure shards.now.config key
+        value now r.0.step (front_at (home_of K.word key shards.now) taker.new) r.1) }
 {
     // For the prover: shows what a peek behind a put finds.
     own_put_is_found::<K, V>();

@@ -1,5 +1,6 @@
 // A caller looks a key up, and never gets a value that is older than `after_write`.
 ghost use Rattle.std.specs.Prelude.{IfOk};
+ghost use Rattle.wt_core.specs.declared.calls.Call.TheVariants.{Look};
 ghost use Rattle.wt_shards.specs.Passes.{front_at};
 ghost use Rattle.wt_shards.specs.Place.{home_of};
 ghost use Rattle.wt_shards.specs.Served.{IsReadYoung};
@@ -8,7 +9,7 @@ use std::alloc::Global;
 use std::sync::Wait;
 use wt_core::{Notices, Reply};
 use wt_keys::{CacheKey, Fault};
-use wt_shards::{Books, Done, Pass, Shards, Value};
+use wt_shards::{Books, Done, Pass, Shards, Value, reads_are_young};
 
 /// Looks the key up.
 ///
@@ -23,8 +24,10 @@ pub fn read<K: CacheKey, V: Value<K>, B: Books, R: Wait>(
     now: u64,
 ) -> Result<Done<Reply<V>>, Fault>
     ensures { IfOk result (λ done. IsReadYoung K.eq K.word V.measure shards.now.config key now
-        (front_at (home_of K.word key shards.now) pass.new) done.reply) }
+        (Look key now) (front_at (home_of K.word key shards.now) pass.new) done.reply) }
 {
+    // For the prover: shows how old a served value may be.
+    reads_are_young::<K, V>();
     let mut notices = Notices::new(alloc, shards.entries() as usize)?;
     let found = shards.look(rt, pass, key, now, &mut notices)?;
     Ok(found)

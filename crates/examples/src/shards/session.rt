@@ -3,6 +3,7 @@
 ghost use Rattle.std.specs.Prelude.{◌≡◌};
 ghost use Rattle.wt_shards.specs.Opening.{AreBlanksOf};
 
+use crate::shards::fresh::{drop_and_look, put_and_seek};
 use crate::shards::handing::hand_over;
 use crate::shards::page::Page;
 use crate::shards::peeking::{peek, put_and_peek};
@@ -14,7 +15,7 @@ use std::thread;
 use std::thread::Threads;
 use wt_core::{Config, Notices, Reply};
 use wt_keys::Fault;
-use wt_shards::{Blanks, Books, Names, Of, Pass, Shards};
+use wt_shards::{Blanks, Books, Names, Of, Pass, Shards, Sought};
 
 /// The versions of a page that was put for the second caller; 0 if it isn't served.
 #[derive(Clone, Copy)]
@@ -27,6 +28,15 @@ pub struct Versions {
     pub old: u64,
 }
 
+/// The versions of a page that the second caller gets behind a write of the first; 0 if none.
+#[derive(Clone, Copy)]
+pub struct Fresh {
+    /// By a seek behind a put.
+    pub put: u64,
+    /// By a look-up behind the page's removal.
+    pub dropped: u64,
+}
+
 /// What the second caller finds, and how many steps were made.
 #[derive(Clone, Copy)]
 pub struct Seen {
@@ -34,6 +44,8 @@ pub struct Seen {
     pub read: Versions,
     /// What it peeks at, which is no step.
     pub peeked: Versions,
+    /// What it gets behind writes.
+    pub fresh: Fresh,
     /// How many steps the settled books hold.
     pub steps: u64,
 }
@@ -102,6 +114,37 @@ fn puts_and_peeks<B: Books, R: Wait>(
     })
 }
 
+// The version that a seek hits, or 0.
+fn sought_version(sought: &Sought<u64, Page>) -> u64 {
+    match sought {
+        Sought::Hit(page) | Sought::HitLead(page, _, _) => page.version,
+        Sought::Join(_) | Sought::Lead(_, _) => 0,
+    }
+}
+
+// Puts a page with the first caller's pass, and lets the second one seek it. Then the first one
+// removes it, and the second one looks it up.
+fn puts_and_drops<B: Books, R: Wait>(
+    rt: &R,
+    alloc: Global,
+    shards: &Shards<u64, Page, B>,
+    a: &mut Pass<u64, Page, B>,
+    b: &mut Pass<u64, Page, B>,
+) -> Result<Fresh, Fault> {
+    let mut notices = Notices::new(alloc, 2 * shards.entries() as usize)?;
+    let page = Page {
+        number: 7,
+        version: 97,
+    };
+    let (_, sought) = put_and_seek(rt, shards, a, b, page.number, page, 2000, &mut notices)?;
+    notices.empty();
+    let (_, found) = drop_and_look(rt, shards, a, b, page.number, 2000, &mut notices)?;
+    Ok(Fresh {
+        put: sought_version(&sought.reply),
+        dropped: version_of(found.reply),
+    })
+}
+
 type Passes<B> = (Pass<u64, Page, B>, Pass<u64, Page, B>);
 
 // Two passes, made here so that whoever makes them has one exit at which it drops neither.
@@ -153,7 +196,7 @@ fn settles<N: Names, R: Wait>(
     Ok(steps)
 }
 
-/// Lets two threads put ten pages each, and hands two pages over from the first one to the second.
+/// Lets two threads put ten pages each, and hands three pages over from the first to the second.
 ///
 /// Returns what the second one finds of them, then and later. If not all passes are handed back,
 /// returns the fault that tells of it.
@@ -171,10 +214,12 @@ pub fn session<N: Names + Send + Sync, R: Threads + Wait + Sync>(
     let (mut a, mut b) = puts(rt, alloc, &shards)?;
     let read = hands_over(rt, alloc, &shards, &mut a, &mut b)?;
     let peeked = puts_and_peeks(rt, alloc, &shards, &mut a, &mut b)?;
+    let fresh = puts_and_drops(rt, alloc, &shards, &mut a, &mut b)?;
     let steps = settles(rt, alloc, shards, (a, b), all)?;
     Ok(Seen {
         read,
         peeked,
+        fresh,
         steps,
     })
 }

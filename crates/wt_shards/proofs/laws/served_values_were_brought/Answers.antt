@@ -1,4 +1,4 @@
-use Rattle.wt_shards.proofs.Served.{serves-brought}
+use Rattle.wt_shards.proofs.Fresh.{serves-brought}
 use Rattle.wt_shards.proofs.laws.served_values_were_brought.Goals as goal
 
 pub returns : goal.returns

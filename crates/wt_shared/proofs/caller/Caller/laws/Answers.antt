@@ -1,11 +1,12 @@
-use Rattle.std.proofs.Common.{◌≡◌, ◌⊎◌, ◌+◌, List, ◌∷◌, ◌++◌, refl, subst}
+use Rattle.std.proofs.Common.{◌≡◌, ◌+◌, List, ◌∷◌, ◌++◌, refl, subst}
 use Rattle.std.specs.Prelude.{IfSome}
 use Rattle.wt_core.specs.Laws.{joins, sharers_told}
 use Rattle.wt_core.specs.Run.{taken}
 use Rattle.wt_core.specs.State.{opening}
 use Rattle.wt_core.specs.declared.calls.Call.{Call}
 use Rattle.wt_core.specs.declared.calls.Call.TheVariants.{Land, Put}
-use Rattle.wt_shards.specs.Served.{IsBroughtIn, IsBroughtYoung}
+use Rattle.wt_shards.specs.Brought.{IsFresh}
+use Rattle.wt_shards.specs.Served.{IsBroughtYoung}
 use Rattle.wt_shared.proofs.Serving.{serves-only}
 use Rattle.wt_shared.specs.Shared.{state_after}
 use Rattle.wt_shared.proofs.caller.Caller.laws.Goals as goal
@@ -27,7 +28,7 @@ returns g c =
       young = λ before after k now is. serves-only eq word measure (IsBroughtYoung eq word measure c.args.self.now.known.config before k now)
           (state_after eq word measure c.args.self.now.known.config before) k now
           (c.served_values_are_young.ensures c.args.self.now.known.config before k now).0;
-      own = λ before between after k v now later is lawful allowed. serves-only eq word measure (λ w. (w ≡ v) ⊎ IsBroughtIn between k w)
+      own = λ before between after k v now later is lawful allowed. serves-only eq word measure (IsFresh eq word measure c.args.self.now.known.config before (Put k v now) between k)
           (state_after eq word measure c.args.self.now.known.config (before ++ Put k v now ∷ between)) k later
           (c.own_put_is_read.ensures c.args.self.now.known.config before between k v now later lawful allowed);
       stale = c.stale_results_are_not_stored.ensures (state_after eq word measure c.args.self.now.known.config calls);

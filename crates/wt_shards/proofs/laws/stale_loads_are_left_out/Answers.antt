@@ -1,0 +1,7 @@
+use Rattle.wt_shards.proofs.LoadLaws.{leaves-out}
+use Rattle.wt_shards.proofs.laws.stale_loads_are_left_out.Goals as goal
+
+pub returns : goal.returns
+returns g c = λ p. leaves-out g.K.PartialEq.eq
+    (g.met.K.CacheKey g.world.𝓛 g.world.𝓜 g.world.𝓡 ((λ s x. x), (λ x. x), (λ x. x), λ x. x)).same
+    g.K.CacheKey.word g.V.Weighs.measure g.V.Answers.answers p
