@@ -6,13 +6,15 @@ import java.util.concurrent.atomic.AtomicLong;
 import java.util.concurrent.atomic.LongAdder;
 
 /**
- * Through caffeine|guava skewed|held THREADS CALLS MULTIPLICATIONS: what the harness does, on Caffeine or Guava. Rounds
+ * Through caffeine|guava skewed|held|puts-N THREADS CALLS MULTIPLICATIONS: what the harness does, on Caffeine or Guava. Rounds
  * on other caches come first and warm the compiler up. Prints the nanoseconds, how many loads began, the sum of all values, and the
  * nanoseconds of processor, of the last round alone.
  */
 class Through {
     interface Cache {
         long get(long key) throws Exception;
+
+        void put(long key, long value);
     }
 
     static final int ENTRIES = 4096, WARM_ROUNDS = 10, WARM_CALLS = 100_000, WARM_MULTIPLICATIONS = 625;
@@ -39,24 +41,36 @@ class Through {
         }
     }
 
-    static long load(long key, int multiplications, LongAdder loads) {
-        loads.increment();
+    static long value(long key, int multiplications) {
         long z = key;
         for (int i = 0; i < multiplications; i++) z = (z ^ (z >>> 30)) * 0xBF58476D1CE4E5B9L + 1;
         return z;
     }
 
+    static long load(long key, int multiplications, LongAdder loads) {
+        loads.increment();
+        return value(key, multiplications);
+    }
+
     static Cache made(String name, int multiplications, LongAdder loads) {
         if (name.equals("caffeine")) {
             com.github.benmanes.caffeine.cache.Cache<Long, Long> cache = Caffeine.newBuilder().maximumSize(ENTRIES).build();
-            return key -> cache.get(key, k -> load(k, multiplications, loads));
+            return new Cache() {
+                public long get(long key) { return cache.get(key, k -> load(k, multiplications, loads)); }
+
+                public void put(long key, long value) { cache.put(key, value); }
+            };
         }
         com.google.common.cache.Cache<Long, Long> cache = CacheBuilder.newBuilder().maximumSize(ENTRIES).build();
-        return key -> cache.get(key, () -> load(key, multiplications, loads));
+        return new Cache() {
+            public long get(long key) throws Exception { return cache.get(key, () -> load(key, multiplications, loads)); }
+
+            public void put(long key, long value) { cache.put(key, value); }
+        };
     }
 
-    /** All threads' gets: the sum of the values. */
-    static long gets(Cache cache, boolean held, int threads, int calls) throws Exception {
+    /** All threads' gets: the sum of the values. Each call of a number is a put, if the number isn't 0. */
+    static long gets(Cache cache, boolean held, int every, int multiplications, int threads, int calls) throws Exception {
         AtomicLong sum = new AtomicLong();
         Thread[] running = new Thread[threads];
         for (int t = 0; t < threads; t++) {
@@ -64,7 +78,11 @@ class Through {
             running[t] = new Thread(() -> {
                 long values = 0;
                 try {
-                    for (int i = 0; i < calls; i++) values += cache.get(held ? keys.held() : keys.skewed());
+                    for (int i = 0; i < calls; i++) {
+                        long key = held ? keys.held() : keys.skewed();
+                        if (every > 0 && i % every == 0) cache.put(key, value(key, multiplications));
+                        else values += cache.get(key);
+                    }
                 } catch (Exception fault) {
                     throw new RuntimeException(fault);
                 }
@@ -77,16 +95,17 @@ class Through {
     }
 
     public static void main(String[] given) throws Exception {
-        boolean held = given[1].equals("held");
+        boolean held = !given[1].equals("skewed");
+        int every = given[1].startsWith("puts-") ? Integer.parseInt(given[1].substring("puts-".length())) : 0;
         int threads = Integer.parseInt(given[2]), calls = Integer.parseInt(given[3]), multiplications = Integer.parseInt(given[4]);
         for (int round = 0; round < WARM_ROUNDS; round++) {
-            gets(made(given[0], WARM_MULTIPLICATIONS, new LongAdder()), held, threads, WARM_CALLS / threads);
+            gets(made(given[0], WARM_MULTIPLICATIONS, new LongAdder()), held, every, WARM_MULTIPLICATIONS, threads, WARM_CALLS / threads);
         }
         OperatingSystemMXBean system = (OperatingSystemMXBean) ManagementFactory.getOperatingSystemMXBean();
         LongAdder loads = new LongAdder();
         Cache cache = made(given[0], multiplications, loads);
         long processor = system.getProcessCpuTime(), begun = System.nanoTime();
-        long values = gets(cache, held, threads, calls);
+        long values = gets(cache, held, every, multiplications, threads, calls);
         long nanos = System.nanoTime() - begun;
         processor = system.getProcessCpuTime() - processor;
         System.out.printf("%d %d %s %d%n", nanos, loads.sum(), Long.toUnsignedString(values), processor);

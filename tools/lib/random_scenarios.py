@@ -1,11 +1,12 @@
 """Random scenarios for tools/gate/check_scenarios, each of settings, layers and calls that are likely to meet one another."""
 from cases import skewed
+from model.sampler import Sampler
 from model.scenario import Played, told
 from options import BELOW_64
 
 # How often each call is drawn: on layers with loads by hand, and on those with gets.
-BY_HAND = {"look": 4, "peek": 3, "seek": 8, "land": 7, "put": 5, "drop": 2, "forget": 2, "clean": 0.5, "clear": 0.2, "slide": 3}
-BY_GETS = {"look": 4, "peek": 3, "get": 10, "put": 4, "drop": 2, "forget": 1, "clean": 0.5, "clear": 0.2, "slide": 3}
+BY_HAND = {"look": 4, "peek": 3, "read": 3, "seek": 8, "land": 7, "put": 5, "drop": 2, "forget": 2, "clean": 0.5, "clear": 0.2, "slide": 3}
+BY_GETS = {"look": 4, "peek": 3, "read": 3, "get": 10, "put": 4, "drop": 2, "forget": 1, "clean": 0.5, "clear": 0.2, "slide": 3}
 LINES, MOST_WEIGHT = 150, 1_000_000
 
 
@@ -28,7 +29,8 @@ class Maker:
 
     def __init__(self, rng, settings, calls):
         self.rng, self.settings, self.calls = rng, settings, calls
-        self.shards = [Played(settings) for _ in range(settings["shards"])]
+        sampler = Sampler()
+        self.shards = [Played(settings, sampler) for _ in range(settings["shards"])]
         self.keys = range(1, rng.randint(1, 2 * settings["entries"] + 2) * settings["shards"] + 1)
         self.often = skewed(rng, len(self.keys))
         self.moment, self.version, self.opened = rng.choice((0, 0, 1000, 1_700_000_000_000, BELOW_64 - 500)), 0, []

@@ -4,14 +4,15 @@ The form of a scenario and of what is printed stands in crates/wt_scenarios/READ
 """
 from model import COUNTED, shard_of
 from model.regions import REGIONS
+from model.sampler import Sampler
 from model.shard import Shard
 
 DEFAULTS = {"entries": 4, "window": 1, "weight": 2 ** 48, "write": None, "access": None, "refresh": None, "flights": 64, "ring": 128, "shards": 1}
 OF_SHARDS = {"look", "peek", "seek", "land", "put", "drop", "forget", "clean", "clear", "slide"}
 OF_CACHE = OF_SHARDS - {"seek", "land"} | {"get"}
-CALLS = {"core": OF_SHARDS | {"get"}, "shards": OF_SHARDS, "cache": OF_CACHE, "callers": OF_CACHE}
-# A caller isn't told how many steps its sweeps made, and a peek is no step.
-UNTOLD = {("callers", "clean"), ("callers", "clear")} | {(layer, "peek") for layer in CALLS}
+CALLS = {"core": OF_SHARDS | {"get"}, "shards": OF_SHARDS | {"read"}, "cache": OF_CACHE | {"read"}, "callers": OF_CACHE | {"read"}}
+# A caller isn't told how many steps its sweeps made, nor of the look behind a read, and a peek is no step.
+UNTOLD = {("callers", "clean"), ("callers", "clear")} | {(layer, word) for layer in CALLS for word in ("peek", "read")}
 HEAVY, FULL, FAILED = 3, 4, 6
 
 
@@ -24,9 +25,10 @@ class Played(Shard):
     """One cache whose calls are handed their values: `given` is what the present call stores, as its number, weight and life, or None if the
     load fails."""
 
-    def __init__(self, s):
+    def __init__(self, s, sampler):
         super().__init__(s)
-        self.steps, self.given = 0, None
+        # The sampler is the caller's, of whom there is one for all shards.
+        self.steps, self.given, self.sampler = 0, None, sampler
         # Each load that a seek opened, by its number and key.
         self.sought = set()
 
@@ -71,6 +73,15 @@ class Played(Shard):
         found = self.entries.get(key)
         words = "absent" if found is None or self.is_expired(found) else "hit " + self.entry_words(found)
         self.latest = latest
+        return words
+
+    def call_read(self, moment, key):
+        """A peek, and then a look if the policy hears of this hit."""
+        words = self.call_peek(moment, key)
+        if words == "absent":
+            self.sampler.missed()
+        elif self.s["access"] is not None or self.sampler.is_told():
+            self.look(moment, key)
         return words
 
     def call_seek(self, moment, key):
@@ -196,7 +207,8 @@ def order(shard):
 
 def foretell(scenario, layer, shard_type=Played):
     """The lines that are printed of a scenario on a layer."""
-    shards = [shard_type(scenario.settings) for _ in range(1 if layer == "core" else scenario.settings["shards"])]
+    sampler = Sampler()
+    shards = [shard_type(scenario.settings, sampler) for _ in range(1 if layer == "core" else scenario.settings["shards"])]
     printed = []
     for words in scenario.lines:
         if words == ["stats"]:

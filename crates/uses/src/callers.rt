@@ -42,6 +42,19 @@ pub fn peek<B: Books, R: Wait>(
     }
 }
 
+/// Returns the words of a page: by a read, or else by a get, which loads it if it isn't there.
+pub fn read<B: Books, R: Wait>(
+    caller: &mut Caller<u64, Page, &Source, B, R>,
+    number: u64,
+    now: u64,
+) -> Result<u64, Fault> {
+    if let Some(page) = caller.read(number, now)? {
+        return Ok(page.value);
+    }
+    let got = caller.get(number, now)?;
+    Ok(got.value.value)
+}
+
 /// Stores a page, and returns how many pages left for it.
 pub fn put<B: Books, R: Wait>(
     caller: &mut Caller<u64, Page, &Source, B, R>,

@@ -1,5 +1,5 @@
 -- What a caller's calls met, counted in a tally.
-use Rattle.std.specs.Prelude.{ℕ, ◌+◌, ◌-◌, ◌^◌, min, Bool, true, false, List, Result, Ok, Err}
+use Rattle.std.specs.Prelude.{ℕ, ◌+◌, ◌-◌, ◌^◌, min, Bool, true, false, List, Option, Some, None, Result, Ok, Err}
 use Rattle.std.specs.List.{count_by}
 use Rattle.wt_keys.specs.declared.fault.Fault.{Fault}
 use Rattle.wt_keys.specs.declared.fault.Fault.TheVariants.{NoMemory, TooHeavy, TooManyFlights, LoadFailed, Abandoned}
@@ -51,6 +51,11 @@ tally_of_reply (reply.Kept n) = record no_tally { loads = 1 }
 tally_of_reply (reply.Loose n) = record no_tally { loads = 1; loose = 1 }
 tally_of_reply (reply.Failed n) = record no_tally { failed = 1 }
 tally_of_reply r = no_tally
+
+-- what a read adds: a hit, or nothing, since a get follows
+abbrev pub tally_of_found : {V : Type 0} → Option V → Tally
+tally_of_found (Some v) = record no_tally { hits = 1 }
+tally_of_found None = no_tally
 
 -- what a get adds, by how its value was got
 abbrev pub tally_of_how : How → Tally

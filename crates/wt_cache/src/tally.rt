@@ -259,6 +259,21 @@ impl<K, V> Countable for Sought<K, V> {
     }
 }
 
+/// A read that found a value counts as a hit. One that found none isn't counted: the `get` that
+/// follows it counts the miss.
+impl<V> Countable for Option<V> {
+    ghost use Rattle.wt_cache.specs.Tally.{tally_of_found};
+
+    ghost tally = { tally_of_found };
+
+    fn tally(&self) -> Tally {
+        match self {
+            Some(_) => HIT,
+            None => Tally::NOTHING,
+        }
+    }
+}
+
 /// Of a put, and of a sweep of all shards, only the entries that left are counted.
 impl Countable for () {
     ghost use Rattle.wt_cache.specs.Tally.{no_tally};

@@ -24,6 +24,8 @@ pub struct Slide {
 pub enum Line {
     /// A call of the cache.
     Call(Call<u64, Loaded>),
+    /// A read of a key at a moment.
+    Read(u64, u64),
     /// A peek at a key at a moment.
     Peek(u64, u64),
     /// A get of a key at a moment, and what the source returns if it is asked.
@@ -86,6 +88,7 @@ fn line_of(words: &[&str]) -> Option<Line> {
         [moment, "clean"] => Some(Line::Call(Call::Clean(number(moment)?))),
         [moment, "clear"] => Some(Line::Call(Call::Clear(number(moment)?))),
         [moment, "peek", key] => Some(Line::Peek(number(key)?, number(moment)?)),
+        [moment, "read", key] => Some(Line::Read(number(key)?, number(moment)?)),
         [moment, word, key] => Some(Line::Call(asked(word, number(key)?, number(moment)?)?)),
         [moment, "slide", key, way] => {
             let wider = is_wider(way)?;

@@ -60,6 +60,7 @@ fn play_line<'s, B: Books, R: Print + Wait>(
         Line::Call(Call::Clear(now)) => play_sweep(rt, alloc, cache, pass, true, now),
         Line::Call(call) => play_call(rt, alloc, cache, pass, call),
         Line::Peek(key, now) => play_peek(rt, cache, pass, key, now),
+        Line::Read(key, now) => play_read(rt, alloc, cache, pass, key, now),
         Line::Get(key, load, now) => {
             source.tell(load);
             play_get(rt, alloc, cache, pass, key, now)
@@ -79,6 +80,20 @@ fn play_peek<'s, B: Books, R: Print + Wait>(
 ) -> anyhow::Result<()> {
     let (step, said) = peek_told(cache.peek(rt, pass, key, now));
     print_told(rt, step, &said, &[], &[])?;
+    Ok(())
+}
+
+fn play_read<'s, B: Books, R: Print + Wait>(
+    rt: &R,
+    alloc: Global,
+    cache: &Cache<'s, B>,
+    pass: &mut Pass<u64, Loaded, B>,
+    key: u64,
+    now: u64,
+) -> anyhow::Result<()> {
+    let mut left = Notices::new(alloc, cache.entries() as usize)?;
+    let (step, said) = peek_told(cache.read(rt, pass, key, now, &mut left));
+    print_told(rt, step, &said, left.list(), &[])?;
     Ok(())
 }
 

@@ -56,6 +56,7 @@ fn play_line<'s, B: Books, R: Print + Wait>(
         Line::Call(Call::Clear(now)) => play_sweep(rt, alloc, callers, true, now),
         Line::Call(call) => play_call(rt, callers, call),
         Line::Peek(key, now) => play_peek(rt, callers, key, now),
+        Line::Read(key, now) => play_read(rt, callers, key, now),
         Line::Get(key, load, now) => play_get(rt, callers, source, key, load, now),
         Line::Slide(key, slide) => play_slide(rt, callers, key, slide),
         Line::Stats => Ok(print_stats(rt, &callers.cache().stats(rt))?),
@@ -71,6 +72,20 @@ fn play_peek<'s, B: Books, R: Print + Wait>(
 ) -> anyhow::Result<()> {
     let mut caller = callers.lend(rt)?;
     let (step, said) = peek_told(caller.peek(key, now));
+    let printed = print_told(rt, step, &said, caller.left(), &[]);
+    caller.give_back();
+    printed?;
+    Ok(())
+}
+
+fn play_read<'s, B: Books, R: Print + Wait>(
+    rt: &R,
+    callers: &Lender<'s, B>,
+    key: u64,
+    now: u64,
+) -> anyhow::Result<()> {
+    let mut caller = callers.lend(rt)?;
+    let (step, said) = peek_told(caller.read(key, now));
     let printed = print_told(rt, step, &said, caller.left(), &[]);
     caller.give_back();
     printed?;

@@ -41,6 +41,7 @@ fn play_line<R: Print>(rt: &R, alloc: Global, core: &mut Cache, line: Line) -> a
     match line {
         Line::Call(call) => play_call(rt, alloc, core, call),
         Line::Peek(key, now) => play_peek(rt, core, key, now),
+        Line::Read(_, _) => Ok(print_told(rt, 0, &Said::NoSuchCall, &[], &[])?),
         Line::Get(key, load, now) => play_get(rt, alloc, core, key, load, now),
         Line::Slide(_, Slide { wider, now }) => {
             play_call(rt, alloc, core, Call::Slide { wider, now })

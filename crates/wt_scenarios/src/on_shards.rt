@@ -63,6 +63,7 @@ fn play_line<B: Books, R: Print + Wait>(
         Line::Call(Call::Clear(now)) => play_sweep(rt, alloc, shards, pass, true, now),
         Line::Call(call) => play_call(rt, alloc, shards, pass, leads, call),
         Line::Peek(key, now) => play_peek(rt, shards, pass, key, now),
+        Line::Read(key, now) => play_read(rt, alloc, shards, pass, key, now),
         Line::Slide(key, slide) => play_slide(rt, alloc, shards, pass, key, slide),
         Line::Get(_, _, _) => Ok(print_told(rt, 0, &Said::NoSuchCall, &[], &[])?),
         Line::Stats => Ok(print_stats(rt, &shards.stats(rt))?),
@@ -79,6 +80,20 @@ fn play_peek<B: Books, R: Print + Wait>(
 ) -> anyhow::Result<()> {
     let (step, said) = peek_told(shards.peek(rt, pass, key, now));
     print_told(rt, step, &said, &[], &[])?;
+    Ok(())
+}
+
+fn play_read<B: Books, R: Print + Wait>(
+    rt: &R,
+    alloc: Global,
+    shards: &Cache<B>,
+    pass: &mut Pass<u64, Loaded, B>,
+    key: u64,
+    now: u64,
+) -> anyhow::Result<()> {
+    let mut left = Notices::new(alloc, shards.entries() as usize)?;
+    let (step, said) = peek_told(shards.read(rt, pass, key, now, &mut left));
+    print_told(rt, step, &said, left.list(), &[])?;
     Ok(())
 }
 

@@ -34,7 +34,7 @@ pub fn refused(fault: Fault) -> Told {
     (0, Said::Reply(Reply::Refused(fault)))
 }
 
-/// Returns the result of a peek, which is no step.
+/// Returns the result of a peek or a read, which tells no step.
 pub fn peek_told(outcome: Result<Option<Loaded>, Fault>) -> Told {
     match outcome {
         Ok(Some(value)) => (0, Said::Reply(Reply::Hit(value))),

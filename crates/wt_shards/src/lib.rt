@@ -15,6 +15,7 @@ mod mine;
 mod names;
 mod pass;
 mod recorded;
+mod sampler;
 mod shade;
 mod shading;
 mod shard;

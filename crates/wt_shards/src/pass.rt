@@ -5,6 +5,7 @@ ghost use Rattle.wt_shards.specs.Passes.{SeenMore, steps_in, hits_in, counts_of,
 
 use crate::books::Books;
 use crate::mine::Mine;
+use crate::sampler::Sampler;
 use crate::shard_ledger::ShardLedger;
 use std::marker::Model;
 use std::sync::ledger::Ledger;
@@ -21,6 +22,7 @@ pub struct Pass<K, V, B: Books> {
     pub(crate) one: Option<Mine<K, V, B::S1, B::H1>>,
     pub(crate) two: Option<Mine<K, V, B::S2, B::H2>>,
     pub(crate) three: Option<Mine<K, V, B::S3, B::H3>>,
+    pub(crate) sampler: Sampler,
 }
 
 impl<K, V, B: Books> Model for Pass<K, V, B> {

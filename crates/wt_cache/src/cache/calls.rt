@@ -7,6 +7,7 @@ ghost use Rattle.wt_shards.specs.Asked.{ReplyAnswers};
 ghost use Rattle.wt_shards.specs.Contract.{IsHomeCall, IsSweepCall};
 ghost use Rattle.wt_shards.specs.Peeks.{FoundAnswers, IsHomePeek};
 ghost use Rattle.wt_shards.specs.Members.{members_of};
+ghost use Rattle.wt_shards.specs.Tells.{IsHomeRead};
 ghost use Rattle.wt_shards.specs.Place.{home_at};
 ghost use Rattle.wt_cache.specs.Cached.{most_entries};
 ghost use Rattle.wt_cache.specs.Contract.{IsPutCall};
@@ -60,6 +61,35 @@ impl<K: CacheKey, V: Value<K>, L: Loader<K, V> + Drop, B: Books> LoadingCache<K,
         ensures answers { IfOk result (FoundAnswers V.answers key) }
     {
         self.shards.peek(rt, pass, key, now)
+    }
+
+    /// Returns a share of the value that `get_if_present` would return at `now`, if it would hit, and
+    /// lets the policy hear of a part of the hits. Where it finds nothing, call `get`.
+    ///
+    /// Is a `peek`, which several threads make faster than looks, and then a `get_if_present` of the
+    /// same key for each of the first 8 hits after a read of this pass that found nothing, and for
+    /// one in 16 of the others. With `after_access` each hit is followed by one, which renews its
+    /// entry. If it is refused, nothing changes, and the read returns its value all the same. Only
+    /// these look-ups are counted: by the cache, and by the pass. `Tally` counts reads.
+    ///
+    /// `now` is in milliseconds. `NoMemory` comes only if the share of the value is refused. Takes
+    /// the lock of the key's shard, once or twice. Expected O(1), unless an attacker chooses the
+    /// keys (see `Seeded`).
+    pub fn read<R: Wait>(
+        &self,
+        rt: &R,
+        pass: &mut Pass<K, V, B>,
+        key: K,
+        now: u64,
+        notices: &mut Notices<K, V>,
+    ) -> Result<Option<V>, Fault>
+        requires room { self.now.layout.config.entries ≤ notices.old.room }
+        ensures made { IsHomeRead (members_of K.CacheKey V.Value)
+            (home_at K.word key self.now.layout) key now pass.old pass.new notices.old notices.new
+            result }
+        ensures answers { IfOk result (FoundAnswers V.answers key) }
+    {
+        self.shards.read(rt, pass, key, now, notices)
     }
 
     /// Stores the value under the key, in place of one that is there. A load of the key that is

@@ -9,7 +9,7 @@ ghost use Rattle.wt_cache.specs.Cached.{most_entries};
 ghost use Rattle.wt_cache.specs.Follows.{IsFollowed};
 ghost use Rattle.wt_shards.specs.Place.{home_at};
 ghost use Rattle.wt_cache.specs.Contract.{IsLentCall, IsLentGet, IsLentPut, IsLentSweep};
-ghost use Rattle.wt_cache.specs.Peeks.{IsLentPeek};
+ghost use Rattle.wt_cache.specs.Peeks.{IsLentPeek, IsLentRead};
 ghost use Rattle.wt_shards.specs.Peeks.{FoundAnswers};
 
 use crate::caller::Caller;
@@ -71,6 +71,21 @@ impl<'c, K: CacheKey, V: Value<K>, L: Loader<K, V> + Drop, B: Books, R: Wait> Ca
     {
         let cache = self.callers.cache();
         cache.peek(self.rt, &mut self.pass, key, now)
+    }
+
+    /// Returns the key's value if it is there, and lets the policy hear of a part of the hits:
+    /// `LoadingCache::read`, whose documentation has the rest. Where it finds nothing, call `get`.
+    ///
+    /// `now` is in milliseconds. First the list of entries that left is emptied.
+    ///
+    /// In use: `uses::callers::read`.
+    pub fn read(&mut self, key: K, now: u64) -> Result<Option<V>, Fault>
+        ensures made { IsLentRead (members_of K.CacheKey V.Value) key now self.old self.new result }
+        ensures answers { IfOk result (FoundAnswers V.answers key) }
+    {
+        self.left.empty();
+        let cache = self.callers.cache();
+        cache.read(self.rt, &mut self.pass, key, now, &mut self.left)
     }
 
     /// Stores the value under the key: `LoadingCache::put`, whose documentation has the rest.

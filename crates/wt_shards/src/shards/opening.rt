@@ -11,6 +11,7 @@ use crate::hold::hold;
 use crate::mine::Mine;
 use crate::pass::Pass;
 use crate::recorded::Recorded;
+use crate::sampler::Sampler;
 use crate::shard::Shard;
 use crate::shard_ledger::ShardLedger;
 use crate::shards::Shards;
@@ -194,6 +195,7 @@ impl<K: CacheKey, V: Value<K>, B: Books> Shards<K, V, B> {
             one,
             two,
             three,
+            sampler: Sampler::new(),
         })
     }
 }

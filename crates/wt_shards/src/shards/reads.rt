@@ -1,10 +1,11 @@
-// The reads of shards: settings, numbers, and the value of a key. None of them is a step, and each
-// lock is held only while its shard is read.
+// The reads of shards: settings, numbers, and the value of a key. None of them is a step, but that
+// `read` tells the policy of some hits by a look. Each lock is held only while its shard is read.
 ghost use Rattle.std.specs.Prelude.{◌≡◌, ◌+◌, ◌≤◌, ◌==◌, ◌||◌, IfOk, IsTrue};
 ghost use Rattle.wt_core.specs.Lawful.{AreSmall};
 ghost use Rattle.wt_shards.specs.Members.{members_of};
 ghost use Rattle.wt_shards.specs.Peeks.{FoundAnswers, IsHomePeek, IsLockedPeek};
 ghost use Rattle.wt_shards.specs.Place.{home_at};
+ghost use Rattle.wt_shards.specs.Tells.{IsHomeRead, IsTold};
 
 use crate::at_home::at_home;
 use crate::books::Books;
@@ -17,7 +18,7 @@ use crate::shards::Shards;
 use crate::value::Value;
 use std::sync::ledger::Ledger;
 use std::sync::{Mutex, Wait};
-use wt_core::Stats;
+use wt_core::{Notices, Stats};
 use wt_keys::{CacheKey, Fault, shard_of};
 
 // The numbers of one shard, if there is one.
@@ -94,6 +95,59 @@ impl<K: CacheKey, V: Value<K>, B: Books> Shards<K, V, B> {
             pass,
             |shard, mine| peek_at(rt, shard, mine, key, now)
         )
+    }
+
+    /// Returns a share of the value that a look of the key would hit at `now`, if it would hit, and
+    /// lets the policy hear of a part of the hits.
+    ///
+    /// Is a `peek`, and then a `look` of the same key for each of the first 8 hits after a read of
+    /// this pass that found nothing, and for one in 16 of the others. With `after_access` each hit
+    /// is followed by a look, which renews its entry. A look that is refused changes nothing, and
+    /// is no fault of the read. Only looks are counted: by the shard, and by the pass. A read that
+    /// finds nothing is followed by no look, since a seek or a put of the key comes next.
+    ///
+    /// `now` is in milliseconds. `NoMemory` comes only if the share of the value is refused. Takes
+    /// that shard's lock, and for a look once more. Expected O(1), unless an attacker chooses the
+    /// keys (see `Seeded`). Not promised: that the call returns, and that the result still holds
+    /// when it does.
+    pub fn read<R: Wait>(
+        &self,
+        rt: &R,
+        pass: &mut Pass<K, V, B>,
+        key: K,
+        now: u64,
+        notices: &mut Notices<K, V>,
+    ) -> Result<Option<V>, Fault>
+        requires room { self.now.config.entries ≤ notices.old.room }
+        ensures made { IsHomeRead (members_of K.CacheKey V.Value) (home_at K.word key self.now)
+            key now pass.old pass.new notices.old notices.new result }
+        ensures answers { IfOk result (FoundAnswers V.answers key) }
+    {
+        let Some(value) = self.peek(rt, pass, key, now)? else {
+            pass.sampler.missed();
+            return Ok(None);
+        };
+        if self.config.after_access.is_none() && !pass.sampler.is_told() {
+            return Ok(Some(value));
+        }
+        self.tell(rt, pass, key, now, notices);
+        Ok(Some(value))
+    }
+
+    // Lets the policy hear of a read by a look of its key, whose answer nobody gets.
+    fn tell<R: Wait>(
+        &self,
+        rt: &R,
+        pass: &mut Pass<K, V, B>,
+        key: K,
+        now: u64,
+        notices: &mut Notices<K, V>,
+    )
+        requires room { self.now.config.entries ≤ notices.old.room }
+        ensures told { IsTold (members_of K.CacheKey V.Value) (home_at K.word key self.now) key now
+            pass.old pass.new notices.old notices.new }
+    {
+        let _ = self.look(rt, pass, key, now, notices);
     }
 
     /// Returns the numbers of all shards, added up.

@@ -1,5 +1,5 @@
-// Four threads put, take away and peek at eight keys: no peek finds what a call that had ended before
-// the peek began took away.
+// Four threads put, take away, read and peek at eight keys: no peek or read finds what a call that had
+// ended before it began took away.
 ghost use Rattle.std.specs.Prelude.{◌≡◌, ◌≤◌};
 ghost use Rattle.wt_shards.specs.Opening.{AreBlanksOf};
 
@@ -21,7 +21,7 @@ use wt_tests::{Dice, Loaded, light};
 // How many threads call, and the calls of each. One call in eight is a put or a removal.
 const CALLERS: usize = 4;
 
-const CALLS: u64 = 5_000;
+const CALLS: u64 = 125_000;
 
 const KEYS: u64 = 8;
 
@@ -31,7 +31,7 @@ type Cache<N> = Shards<u64, Loaded, Of<N>>;
 // Of each key the last version that was taken away. One thread alone puts a key and takes it away.
 type Marks = Vec<AtomicU64>;
 
-// How many peeks found a value, and how many found one that was gone.
+// How many peeks and reads found a value, and how many found one that was gone.
 #[derive(Clone, Copy)]
 struct Seen {
     found: u64,
@@ -77,17 +77,25 @@ fn change<N: Names, R: Wait>(
     Ok(())
 }
 
-// Peeks at a key, and counts what is found.
+// Reads a key, or peeks at it, and counts what is found.
 fn look<N: Names, R: Wait>(
     rt: &R,
+    alloc: Global,
     shards: &Cache<N>,
     pass: &mut Pass<u64, Loaded, Of<N>>,
     marks: &Marks,
+    reads: bool,
     key: u64,
     seen: &mut Seen,
 ) -> Result<(), Fault> {
+    let mut left = Notices::new(alloc, shards.entries() as usize)?;
     let gone = gone_of(marks, key);
-    if let Some(value) = shards.peek(rt, pass, key, 0)? {
+    let found = if reads {
+        shards.read(rt, pass, key, 0, &mut left)?
+    } else {
+        shards.peek(rt, pass, key, 0)?
+    };
+    if let Some(value) = found {
         seen.found = seen.found.wrapping_add(1);
         if value.version <= gone {
             seen.gone = seen.gone.wrapping_add(1);
@@ -109,7 +117,8 @@ fn call<N: Names, R: Wait>(
     seen: &mut Seen,
 ) -> Result<(), Fault> {
     if number % 8 > 0 {
-        return look(rt, shards, pass, marks, key, seen);
+        let reads = number % 2 == 1;
+        return look(rt, alloc, shards, pass, marks, reads, key, seen);
     }
     let turn = number / 8;
     let own = (thread % 4) * 2 + (turn / 2) % 2;
@@ -203,15 +212,15 @@ fn soaks<R: Threads + Wait + Sync>(rt: &R, alloc: Global, shards: usize) -> Resu
 fn expect_none_gone(rt: &impl Abort, seen: Result<Seen, Fault>) {
     match seen {
         Ok(seen) => {
-            same(rt, "the peeks that found what was gone", seen.gone, 0);
-            holds(rt, "many peeks find a value", seen.found > 1_000);
+            same(rt, "what was found and gone", seen.gone, 0);
+            holds(rt, "much is found", seen.found > 1_000);
         }
         Err(fault) => same(rt, "no fault", Some(fault), None),
     }
 }
 
 #[test]
-fn no_peek_finds_what_was_taken_away_before_it(rt: HostRuntime) -> Result<(), Fail> {
+fn no_read_finds_what_was_taken_away_before_it(rt: HostRuntime) -> Result<(), Fail> {
     expect_none_gone(&rt, soaks(&rt, rt.alloc(), 1));
     expect_none_gone(&rt, soaks(&rt, rt.alloc(), 4));
     Ok(())
