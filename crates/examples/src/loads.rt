@@ -1,8 +1,9 @@
 // Pages of a slow source: one load for all that ask at once, a put that a load made meanwhile
-// doesn't overwrite, and the source's errors as codes.
+// doesn't overwrite, the source's errors as codes, and a request that reads what another one put.
 mod error;
 mod page;
 mod readers;
+mod requests;
 mod session;
 mod source;
 mod writer;
@@ -46,5 +47,7 @@ pub fn show<R: Print + Threads + Wait + Sync>(rt: &R, alloc: Global) -> anyhow::
     if let Err(Fault::LoadFailed { code }) = seen.failed {
         println!(rt; "page 404: {}", SourceError::of(code).text())?;
     }
+    let read = seen.read;
+    println!(rt; "page 9: one request puts 900 words, and the next one reads {read}")?;
     Ok(())
 }

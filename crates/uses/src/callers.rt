@@ -148,3 +148,22 @@ pub fn lend<B: Books, R: Wait>(
     caller.give_back();
     Ok(got?.value.value)
 }
+
+/// Stores a page by one request's caller, and returns its words as the next request reads them.
+pub fn learn<B: Books, R: Wait>(
+    rt: &R,
+    callers: &Callers<u64, Page, &Source, B>,
+    number: u64,
+    words: u64,
+    now: u64,
+) -> Result<Option<u64>, Fault> {
+    let mut first = callers.lend(rt)?;
+    let stored = put(&mut first, number, words, now);
+    let sight = first.give_back();
+    stored?;
+    let mut next = callers.lend(rt)?;
+    next.learn(&sight);
+    let found = get_if_present(&mut next, number, now);
+    next.give_back();
+    found
+}

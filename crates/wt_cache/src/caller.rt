@@ -1,5 +1,6 @@
 // A thread's way to a cache: its pass, and the list of entries that left.
 ghost use Rattle.std.specs.Prelude.{◌≡◌, ◌*◌, ◌≤◌, ◌+◌, length};
+ghost use Rattle.wt_shards.specs.Passes.{AreSeenIn, SeenMore};
 
 mod calls;
 
@@ -11,7 +12,7 @@ use std::marker::Model;
 use std::sync::Wait;
 use wt_core::{Notice, Notices};
 use wt_keys::CacheKey;
-use wt_shards::{Books, Pass, Value};
+use wt_shards::{Books, Pass, Sight, Value};
 
 /// One thread's way to a cache, lent by `Callers::lend`: the permission to wait, a pass, and a list
 /// of the entries that left the cache in its latest call.
@@ -67,14 +68,39 @@ impl<'c, K: CacheKey, V: Value<K>, L: Loader<K, V> + Drop, B: Books, R: Wait> Ca
         }
     }
 
-    /// Gives the pass and the list back, for the next caller that is lent. The entries in the list
-    /// are dropped.
+    /// Returns what this caller has seen, for a caller that is to `learn` it: `Pass::sight`, whose
+    /// documentation has the rest. Takes no memory and no lock. O(1).
+    pub fn sight(&self) -> Sight<K, V, B>
+        ensures { result ≡ self.now.pass.fronts }
+    {
+        self.pass.sight()
+    }
+
+    /// Takes over all that the sight shows. So this caller's next call of a key stands in the
+    /// history of the key's shard behind all calls that the sight shows there.
+    ///
+    /// Takes no memory and no lock, and does nothing at run time.
+    ///
+    /// In use: `uses::callers::learn`.
+    pub fn learn(&mut self, sight: &Sight<K, V, B>)
+        ensures same { (self.new.cache ≡ self.old.cache)
+            × (self.new.pass.counted ≡ self.old.pass.counted) × (self.new.left ≡ self.old.left) }
+        ensures this { SeenMore self.old.pass self.new.pass }
+        ensures that { AreSeenIn sight.now self.new.pass.fronts }
+    {
+        self.pass.learn(sight);
+    }
+
+    /// Gives the pass and the list back, for the next caller that is lent, and returns what this
+    /// caller has seen, for one that is to `learn` it. The entries in the list are dropped.
     ///
     /// Takes no memory, and the lock of the lender, under which nothing is dropped. Not promised:
     /// that it returns.
     ///
-    /// In use: `uses::callers::lend`.
-    pub fn give_back(self) {
+    /// In use: `uses::callers::lend` and `uses::callers::learn`.
+    pub fn give_back(self) -> Sight<K, V, B>
+        ensures { result ≡ self.pass.fronts }
+    {
         let Caller {
             rt,
             callers,
@@ -82,7 +108,9 @@ impl<'c, K: CacheKey, V: Value<K>, L: Loader<K, V> + Drop, B: Books, R: Wait> Ca
             left,
             loan,
         } = self;
+        let sight = pass.sight();
         callers.take_back(rt, loan, pass, left);
+        sight
     }
 
     /// Returns the entries that left the cache in the latest call that empties this list, the

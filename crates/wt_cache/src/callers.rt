@@ -21,7 +21,8 @@ use wt_shards::{Books, Pass, Shards, Value};
 /// A cache that lends callers to threads, as many at once as its shards give out passes: 65,535.
 ///
 /// A caller that is given back leaves its pass and its list to the next one that is lent. So a
-/// server may lend one for each request, for as long as the cache lives.
+/// server may lend one for each request, for as long as the cache lives. What a request is to see of
+/// an earlier one goes from `Caller::give_back` to `Caller::learn`, as a `Sight`.
 pub struct Callers<K: CacheKey, V: Value<K>, L: Loader<K, V> + Drop, B: Books> {
     cache: LoadingCache<K, V, L, B>,
     // Under its lock no other one is taken.
@@ -69,7 +70,8 @@ impl<K: CacheKey, V: Value<K>, L: Loader<K, V> + Drop, B: Books> Callers<K, V, L
     }
 
     /// Lends a caller, until `Caller::give_back`. Its pass may also count the steps of earlier
-    /// callers that had it.
+    /// callers that had it. It has seen what they had seen, but no clause says which these were: let
+    /// it `learn` the sight of each caller whose calls it is to follow.
     ///
     /// `NoMemory` comes before `PassesSpent`, which comes only while 65,535 passes are lent or
     /// were taken by `LoadingCache::pass`. Takes memory only if more are lent than ever before: for

@@ -9,6 +9,7 @@ mod late;
 mod lender;
 mod lending;
 mod lines;
+mod requests;
 mod serving;
 mod settings;
 mod shares;

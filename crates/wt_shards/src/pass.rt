@@ -1,14 +1,17 @@
 // A caller's pass: its own counts at each shard, and the histories that it has seen.
 ghost use Rattle.std.specs.Prelude.{◌≡◌, ◌↔◌, IsSome};
 ghost use mathlib.Core.List.{IsPrefix};
-ghost use Rattle.wt_shards.specs.Passes.{SeenMore, steps_in, hits_in, counts_of, front_of};
+ghost use Rattle.wt_shards.specs.Passes.{AreSeenIn, SeenMore, steps_in, hits_in, counts_of, front_of, shown_of};
 
 use crate::books::Books;
 use crate::mine::Mine;
 use crate::sampler::Sampler;
 use crate::shard_ledger::ShardLedger;
+use crate::sight::Sight;
 use std::marker::Model;
 use std::sync::ledger::Ledger;
+use wt_core::Call;
+use wt_history::Front;
 
 /// A caller's shares of the books of each shard: how many steps and hits its holder made there. In
 /// the proofs it also has the beginning of each shard's history that its holder has seen.
@@ -73,6 +76,36 @@ impl<K, V, B: Books> Pass<K, V, B> {
         }
     }
 
+    /// Returns what its holder has seen: a beginning of each shard's history. So another caller can
+    /// learn it where the pass itself doesn't go.
+    ///
+    /// Takes no memory and no lock. O(1).
+    pub fn sight(&self) -> Sight<K, V, B>
+        ensures { result ≡ self.now.fronts }
+    {
+        Sight {
+            zero: seen_at(&self.zero),
+            one: seen_at(&self.one),
+            two: seen_at(&self.two),
+            three: seen_at(&self.three),
+        }
+    }
+
+    /// Takes over all that the sight shows. So this pass's next call at a shard stands in the
+    /// shard's history behind all calls that the sight shows there.
+    ///
+    /// Takes no memory and no lock, and does nothing at run time.
+    pub fn learn(&mut self, sight: &Sight<K, V, B>)
+        ensures same { self.new.counted ≡ self.old.counted }
+        ensures this { SeenMore self.old self.new }
+        ensures that { AreSeenIn sight.now self.new.fronts }
+    {
+        learn(&mut self.zero, &sight.zero);
+        learn(&mut self.one, &sight.one);
+        learn(&mut self.two, &sight.two);
+        learn(&mut self.three, &sight.three);
+    }
+
     /// Takes over all that the holder of the other pass has seen. So this one's next call at a
     /// shard stands in the shard's history behind all calls that the other holder had made there.
     ///
@@ -82,26 +115,40 @@ impl<K, V, B: Books> Pass<K, V, B> {
         ensures this { SeenMore self.old self.new }
         ensures that { SeenMore other.now self.new }
     {
-        learn(&mut self.zero, &other.zero);
-        learn(&mut self.one, &other.one);
-        learn(&mut self.two, &other.two);
-        learn(&mut self.three, &other.three);
+        self.learn(&other.sight());
     }
 }
 
-// Takes over the seen history of a shard, if there is one.
+// What was seen of a shard, if there is one.
+fn seen_at<K, V, S: ShardLedger, H: Ledger>(
+    mine: &Option<Mine<K, V, S, H>>,
+) -> Option<Front<Call<K, V>, S>>
+    ensures there { IsSome result ↔ IsSome mine.now }
+    ensures seen { shown_of result ≡ front_of mine.now }
+{
+    match mine {
+        None => None,
+        Some(mine) => Some(mine.front.again()),
+    }
+}
+
+// Takes over what is shown of a shard, if anything is.
 fn learn<K, V, S: ShardLedger, H: Ledger>(
     mine: &mut Option<Mine<K, V, S, H>>,
-    other: &Option<Mine<K, V, S, H>>,
+    shown: &Option<Front<Call<K, V>, S>>,
 )
-    requires alike { IsSome mine.old ↔ IsSome other.now }
+    requires there { IsSome shown.now → IsSome mine.old }
     ensures there { IsSome mine.new ↔ IsSome mine.old }
     ensures same { counts_of mine.new ≡ counts_of mine.old }
     ensures this { IsPrefix (front_of mine.old) (front_of mine.new) }
-    ensures that { IsPrefix (front_of other.now) (front_of mine.new) }
+    ensures that { IsPrefix (shown_of shown.now) (front_of mine.new) }
 {
-    if let (Some(mine), Some(other)) = (mine, other) {
-        mine.front.learn(&other.front);
+    match shown {
+        None => {}
+        Some(shown) => match mine {
+            None => {}
+            Some(mine) => mine.front.learn(shown),
+        },
     }
 }
 

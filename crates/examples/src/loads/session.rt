@@ -4,6 +4,7 @@ ghost use Rattle.wt_shards.specs.Opening.{AreBlanksOf};
 
 use crate::loads::page::Page;
 use crate::loads::readers::{Pages, ask, ask_eight};
+use crate::loads::requests::{first_request, next_request};
 use crate::loads::source::{Marks, Source};
 use crate::loads::writer::put_later;
 use std::alloc::Global;
@@ -12,7 +13,7 @@ use std::sync::{Arc, Wait};
 use std::thread;
 use std::thread::Threads;
 use wt_cache::{Callers, LoadingCache};
-use wt_core::Config;
+use wt_core::{Config, Reply};
 use wt_keys::Fault;
 use wt_shards::{Blanks, Names, Of, Shards};
 
@@ -25,10 +26,34 @@ pub struct Seen {
     pub beside: (u64, u64),
     /// The result of a load that fails.
     pub failed: Result<u64, Fault>,
+    /// The words that a request reads behind another one's put; 0 if it reads no page.
+    pub read: u64,
 }
 
-// Lets eight readers ask for page 7 at once, one ask for page 8 while it is put, and one for a page
-// that there isn't.
+// Puts page 9, of 900 words, by a request in a thread of its own, and reads it by the next request.
+fn reads_put<N: Names + Send + Sync, R: Threads + Wait + Sync>(
+    rt: &R,
+    pages: &Pages<N>,
+) -> Result<u64, Fault> {
+    let page = Page {
+        number: 9,
+        words: 900,
+    };
+    let (first, _) = thread::join(
+        rt,
+        || first_request(rt, pages, 9, page, 0),
+        || ask(rt, pages, 7),
+    );
+    let (_, sight) = first?;
+    let (found, _) = next_request(rt, pages, &sight, 9, 0)?;
+    match found.reply {
+        Reply::Hit(page) => Ok(page.words),
+        _ => Ok(0),
+    }
+}
+
+// Lets eight readers ask for page 7 at once, one ask for page 8 while it is put, one for a page that
+// there isn't, and one for page 9 behind its put.
 fn reads<N: Names + Send + Sync, R: Threads + Wait + Sync>(
     rt: &R,
     alloc: Global,
@@ -41,10 +66,12 @@ fn reads<N: Names + Send + Sync, R: Threads + Wait + Sync>(
     put?;
     let beside = (loaded?, ask(rt, pages, 8)?);
     let failed = ask(rt, pages, 404);
+    let read = reads_put(rt, pages)?;
     Ok(Seen {
         eight,
         beside,
         failed,
+        read,
     })
 }
 
