@@ -1,5 +1,5 @@
 // The final counts of a shard, with its closed books.
-ghost use Rattle.std.specs.Prelude.{◌≡◌, ◌≤◌};
+ghost use Rattle.std.specs.Prelude.{◌≡◌, ◌+◌, ◌≤◌};
 
 use crate::shares::Shares;
 use crate::total::Total;
@@ -44,6 +44,15 @@ impl<S: Ledger, H: Ledger> Closed<S, H> {
         ensures { result ≡ self.now }
     {
         self.total
+    }
+
+    // Adds the shares of another caller.
+    pub(crate) fn absorb(&self, sum: &mut Shares<S, H>, more: Shares<S, H>)
+        ensures steps { sum.new.steps ≡ sum.old.steps + more.steps }
+        ensures hits { sum.new.hits ≡ sum.old.hits + more.hits }
+    {
+        let Total { steps, hits, .. } = self.total;
+        sum.absorb(more, &self.steps, &self.hits, steps, hits);
     }
 
     /// Shows that the caller made no more steps and hits than the books have.

@@ -3,21 +3,19 @@
 // A contract knows only the type of a value behind a lock. So a caller doesn't know the shard's
 // state, but that it is the outcome of the history. The caller's own front is a beginning of that
 // history.
-ghost use Rattle.std.specs.Prelude.{◌≡◌, ◌+◌, ◌≤◌, length, IfOk, IfErr, false};
+ghost use Rattle.std.specs.Prelude.{◌≡◌, IfOk, IfErr, false};
 ghost use Rattle.wt_keys.specs.declared.fault.Fault.TheVariants as fault;
 ghost use Rattle.wt_core.specs.declared.calls.Call.TheVariants as call;
 ghost use Rattle.wt_shards.specs.Asked.{AnswersAsked, MayAsk, ReplyAnswers, is_seek};
 ghost use Rattle.wt_shards.specs.Contract.{IsLockedCall};
 ghost use Rattle.wt_shards.specs.Peeks.{FoundAnswers, IsLockedPeek};
-ghost use Rattle.wt_shards.specs.History.{state_after};
 ghost use Rattle.wt_shards.specs.Members.{members_by};
 ghost use Rattle.wt_shards.specs.Outer.{IsOfKey};
 ghost use Rattle.wt_shards.specs.Passes.{new_mine};
 ghost use Rattle.wt_shards.specs.Sought.{reply_of};
-ghost use Rattle.wt_shards.specs.Totals.{IsHistory, total_of};
-ghost use Rattle.wt_core.specs.Lawful.{AreSmall};
+ghost use Rattle.wt_shards.specs.Totals.{IsEnding};
 
-use crate::closed::Closed;
+use crate::ended::Ended;
 use crate::done::Done;
 use crate::mine::Mine;
 use crate::shard::Shard;
@@ -91,7 +89,7 @@ impl<K: CacheKey, V: Share + Weighs + Answers<K>, S: ShardLedger, H: Ledger> Rec
                 });
             }
             Err(fault) => {
-                self.history.show(rt, &mut mine.front, asked, step);
+                self.history.show(rt, &mut mine.front);
                 return Err(fault);
             }
         }
@@ -125,7 +123,7 @@ impl<K: CacheKey, V: Share + Weighs + Answers<K>, S: ShardLedger, H: Ledger> Rec
                 });
             }
             Err(fault) => {
-                self.history.show(rt, &mut mine.front, asked, step);
+                self.history.show(rt, &mut mine.front);
                 return Err(fault);
             }
         }
@@ -145,11 +143,11 @@ impl<K: CacheKey, V: Share + Weighs + Answers<K>, S: ShardLedger, H: Ledger> Rec
             key now mine.old mine.new result }
         ensures answers { IfOk result (FoundAnswers V.answers key) }
     {
-        let step = self.shard.steps();
+        // For the prover: shows `lawful`.
+        let _step = self.shard.steps();
         match self.shard.peek(key, now) {
             Ok(found) => {
-                let asked = self.history.ask(&Call::Look(key, now));
-                self.history.show(rt, &mut mine.front, asked, step);
+                self.history.show(rt, &mut mine.front);
                 return Ok(found);
             }
             Err(fault) => {
@@ -159,18 +157,16 @@ impl<K: CacheKey, V: Share + Weighs + Answers<K>, S: ShardLedger, H: Ledger> Rec
     }
 
     // Ends the shard and closes its books.
-    pub(crate) fn close(self) -> Closed<S, H>
+    pub(crate) fn close(self) -> Ended<K, V, S, H>
+        ensures calls { result.calls ≡ self }
         // What held of the shard at all times.
-        ensures whole { IsHistory (members_by K.eq K.word V.measure V.answers) S.ShardLedger.place
-            self }
-        ensures total { result
-            ≡ total_of (state_after K.eq K.word V.measure S.ShardLedger.place.config self) }
-        ensures steps { result.steps ≡ length self }
-        ensures sound { (result.stats.hits + result.stats.misses ≡ result.stats.lookups)
-            × (result.stats.weight ≤ S.ShardLedger.place.config.bound) }
-        ensures small { AreSmall result.stats }
+        ensures sound { IsEnding (members_by K.eq K.word V.measure V.answers) S.ShardLedger.place
+            result }
     {
-        let Recorded { shard, history: _ } = self;
-        shard.close()
+        let Recorded { shard, history } = self;
+        Ended {
+            closed: shard.close(),
+            whole: history.seen(),
+        }
     }
 }

@@ -66,6 +66,34 @@ impl<S: Ledger, H: Ledger> Shares<S, H> {
         hits.audit(&mut self.of_hits);
     }
 
+    // Adds the shares of another caller. The closed books, which have `most` steps and `most_hits`
+    // hits, bound the sums.
+    pub(crate) fn absorb(
+        &mut self,
+        more: Shares<S, H>,
+        steps: &Fixed<S>,
+        hits: &Fixed<H>,
+        most: u64,
+        most_hits: u64,
+    )
+        requires most { (steps.now.amount ≡ most) × (hits.now.amount ≡ most_hits) }
+        ensures steps { self.new.steps ≡ self.old.steps + more.steps }
+        ensures hits { self.new.hits ≡ self.old.hits + more.hits }
+    {
+        let Shares {
+            steps: more_steps,
+            hits: more_hits,
+            of_steps,
+            of_hits,
+        } = more;
+        self.of_steps.merge(of_steps);
+        self.of_hits.merge(of_hits);
+        steps.audit(&mut self.of_steps);
+        hits.audit(&mut self.of_hits);
+        self.steps += more_steps;
+        self.hits += more_hits;
+    }
+
     // One step more in its book and in the share of it, and a hit if it was one.
     pub(crate) fn count(&mut self, steps: &mut Book<S>, hits: &mut Book<H>, hit: bool)
         requires { (steps.old.total < 2 ^ 62) × (hits.old.total < 2 ^ 62) }

@@ -68,7 +68,7 @@ returns-in-Err-clause-made g c =
           c.self.invariant.1 c.steps-step.ensures.lawful
           before c.show.ensures.seen (cause-of _ _
           (refusal_of g.K.PartialEq.eq g.K.CacheKey.word g.V.Weighs.measure c.self.inside.shard.core call)
-          c.in-Err.fault made.refusal);
+          c.in-Err.fault made.refusal) (λ empty. empty);
       told = made.told;
       err = (made.err.1 ∙ ap (λ (m : Mine K V). m.counts) c.mine.view_is, made.err.2);
     }

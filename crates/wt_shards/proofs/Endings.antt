@@ -1,0 +1,160 @@
+-- What passes add up to where the shards end.
+use Rattle.std.proofs.Common.{◌≡◌, ◌⊎◌, ℕ, zero, suc, ◌+◌, ◌<◌, ◌≤◌, List, [], ◌∷◌, ◌++◌, length, Option, Some, None, refl, ap, sym, subst, ◌∙◌, arith, inl, inr, append_assoc}
+use Rattle.std.specs.Prelude.{◌≢◌, ◌↔◌, IfSome, IsSome, sum_by, slice_index_or}
+use Rattle.std.proofs.lemmas.List.Sums.{sum_by-cons}
+use mathlib.Core.List.{IsPrefix}
+use Rattle.wt_core.specs.declared.calls.Call.{Call}
+use Rattle.wt_core.specs.State.{State, stats_of}
+use Rattle.wt_history.proofs.Fronts.{prefix_self, prefix_trans}
+use Rattle.wt_shards.specs.Counts.{Counted, no_steps}
+use Rattle.wt_shards.specs.Endings.{AddsTo, AreAdded, AreSummed, BeginSeen, Ending, FallsShort, IsAddedTo, OneSaw}
+use Rattle.wt_shards.specs.History.{state_at}
+use Rattle.wt_shards.specs.Members.{Members}
+use Rattle.wt_shards.specs.Passes.{Seen, counts_at, front_at, hits_in, new_pass, steps_in}
+use Rattle.wt_shards.specs.Place.{Place}
+use Rattle.wt_shards.specs.Totals.{AddUp, IsEnding, IsMissing, IsTotal, total_of}
+use Rattle.wt_shards.specs.declared.total.Total.{Total}
+
+-- each list begins with nothing
+pub prefix_none : {A : Type 0} (xs : List A) → IsPrefix [] xs
+prefix_none xs = (xs, refl)
+
+module _ {K V : Type 0} where
+  pub begin-more : (i : ℕ) (ps : List (Seen K V)) (xs ys : List (Call K V)) → IsPrefix xs ys → BeginSeen i ps xs → BeginSeen i ps ys
+  begin-more i [] xs ys p b = tt
+  begin-more i (q ∷ ps) xs ys p b = (prefix_trans (front_at i q) xs ys b.0 p, begin-more i ps xs ys p b.1)
+
+  -- nothing was added
+  pub added_same : (c : Counted) (f : List (Call K V)) → IsAddedTo c no_steps c f [] f
+  added_same c f = record { steps = omega arith; hits = omega arith; this = prefix_self f; that = prefix_none f; longer = inl refl }
+
+  -- no pass is there, and a step was made
+  pub short_none : (e : Ending K V) → 0 ≢ e.total.steps → FallsShort e no_steps []
+  short_none e ne = record { steps = omega arith; hits = omega arith; less = inl (prefix_none e.calls, inl ne) }
+
+  added-none : IsAddedTo {K = K} {V = V} no_steps no_steps no_steps [] [] []
+  added-none = record { steps = refl; hits = refl; this = prefix_self []; that = prefix_self []; longer = inl refl }
+
+  -- four shards, at each of which something was added
+  pub four-added : (a b c d e f g h k l m n : Counted) (aa bb cc dd ee ff gg hh kk ll mm nn : List (Call K V))
+      → IsAddedTo a e k aa ee kk → IsAddedTo b f l bb ff ll → IsAddedTo c g m cc gg mm → IsAddedTo d h n dd hh nn
+      → (i : ℕ) → IsAddedTo (slice_index_or (a ∷ b ∷ c ∷ d ∷ []) i no_steps) (slice_index_or (e ∷ f ∷ g ∷ h ∷ []) i no_steps)
+      (slice_index_or (k ∷ l ∷ m ∷ n ∷ []) i no_steps)
+      (slice_index_or (aa ∷ bb ∷ cc ∷ dd ∷ []) i []) (slice_index_or (ee ∷ ff ∷ gg ∷ hh ∷ []) i [])
+      (slice_index_or (kk ∷ ll ∷ mm ∷ nn ∷ []) i [])
+  four-added a b c d e f g h k l m n aa bb cc dd ee ff gg hh kk ll mm nn p q r s zero = p
+  four-added a b c d e f g h k l m n aa bb cc dd ee ff gg hh kk ll mm nn p q r s (suc zero) = q
+  four-added a b c d e f g h k l m n aa bb cc dd ee ff gg hh kk ll mm nn p q r s (suc (suc zero)) = r
+  four-added a b c d e f g h k l m n aa bb cc dd ee ff gg hh kk ll mm nn p q r s (suc (suc (suc zero))) = s
+  four-added a b c d e f g h k l m n aa bb cc dd ee ff gg hh kk ll mm nn p q r s (suc (suc (suc (suc i)))) = added-none
+
+  none-at : (i : ℕ) → (counts_at i (new_pass {K = K} {V = V} 0).counted ≡ no_steps) × (front_at i (new_pass {K = K} {V = V} 0) ≡ [])
+  none-at zero = (refl, refl)
+  none-at (suc zero) = (refl, refl)
+  none-at (suc (suc zero)) = (refl, refl)
+  none-at (suc (suc (suc zero))) = (refl, refl)
+  none-at (suc (suc (suc (suc i)))) = (refl, refl)
+
+  -- no pass made nor saw anything
+  pub summed-none : (i : ℕ) → AreSummed {K = K} {V = V} i [] (new_pass 0)
+  summed-none i = record {
+    steps = sym (ap (λ (c : Counted). c.steps) (none-at i).0);
+    hits = sym (ap (λ (c : Counted). c.hits) (none-at i).0);
+    seen = tt;
+    saw = λ n less. absurd (let e = ap length (none-at i).1 in omega (arith, less, e));
+  }
+
+  -- one pass more
+  pub summed-more : (i : ℕ) (p : Seen K V) (ps : List (Seen K V)) (old new : Seen K V) → AreSummed i ps old
+      → IsAddedTo (counts_at i old.counted) (counts_at i p.counted) (counts_at i new.counted) (front_at i old) (front_at i p) (front_at i new)
+      → AreSummed i (p ∷ ps) new
+  summed-more i p ps old new s a = record {
+    steps = (let all : sum_by (steps_in i) (p ∷ ps) ≡ steps_in i p + sum_by (steps_in i) ps = sum_by-cons (steps_in i) p ps in
+        let x = s.steps in let y = a.steps in omega (arith, all, x, y));
+    hits = (let all : sum_by (hits_in i) (p ∷ ps) ≡ hits_in i p + sum_by (hits_in i) ps = sum_by-cons (hits_in i) p ps in
+        let x = s.hits in let y = a.hits in omega (arith, all, x, y));
+    seen = (a.that, begin-more i ps (front_at i old) (front_at i new) a.this s.seen);
+    saw = λ n less. at_longer n less a.longer;
+  }
+    where
+      at_longer : (n : ℕ) → n < length (front_at i new) → (front_at i new ≡ front_at i old) ⊎ (front_at i new ≡ front_at i p)
+          → OneSaw n i (p ∷ ps)
+      at_longer n less (inl e) = inr (s.saw n (subst (λ (w : List (Call K V)). n < length w) e less))
+      at_longer n less (inr e) = inl (subst (λ (w : List (Call K V)). n < length w) e less)
+
+-- a list that is empty but for its end is that
+pub nothing_before : {A : Type 0} (xs done all : List A) → all ≡ xs ++ done → length xs ≡ 0 → done ≡ all
+nothing_before [] done all e none = sym e
+nothing_before (x ∷ xs) done all e none = absurd (omega arith)
+
+module _ {K V : Type 0} (members : Members K V) (p : Place) (passes : List (Seen K V)) (all : Seen K V) (e : Ending K V) where
+  pub adds-up : AreSummed p.index passes all → IsEnding members p e → AddsTo e (counts_at p.index all.counted) (front_at p.index all)
+      → AddUp members p passes
+  adds-up s n a = record {
+    calls = e.calls;
+    whole = n.whole;
+    begins = begin-more p.index passes (front_at p.index all) e.calls a.begins s.seen;
+    sums = record {
+      steps = s.steps ∙ a.steps ∙ ap (λ (t : Total). t.steps) n.total ∙ n.whole.counted;
+      hits = s.hits ∙ a.hits ∙ ap (λ (t : Total). t.hits) n.total;
+    };
+  }
+
+  pub total-of-all : AreSummed p.index passes all → IsEnding members p e → AddsTo e (counts_at p.index all.counted) (front_at p.index all)
+      → IsTotal members p passes e.total
+  total-of-all s n a = record {
+    calls = e.calls;
+    whole = n.whole;
+    begins = begin-more p.index passes (front_at p.index all) e.calls a.begins s.seen;
+    total = n.total;
+    sound = record {
+      sums = record { steps = s.steps ∙ a.steps; hits = s.hits ∙ a.hits };
+      looked = n.looked;
+      weight = n.weight;
+      small = n.small;
+    };
+  }
+
+  pub missing-there : AreSummed p.index passes all → IsEnding members p e
+      → FallsShort e (counts_at p.index all.counted) (front_at p.index all) → IsMissing members p passes
+  missing-there s n f =
+      let long : e.total.steps ≡ length e.calls = ap (λ (t : Total). t.steps) n.total ∙ n.whole.counted in
+      let hit : e.total.hits ≡ (state_at members p e.calls).counts.hits = ap (λ (t : Total). t.hits) n.total in
+      record {
+        calls = e.calls;
+        whole = n.whole;
+        steps = (let a = f.steps in let b = s.steps in omega (arith, a, b, long));
+        hits = (let a = f.hits in let b = s.hits in omega (arith, a, b, hit));
+        differ = at_less f.less;
+      }
+    where
+      at_less : (IsPrefix (front_at p.index all) e.calls
+          × ((steps_in p.index all ≢ e.total.steps) ⊎ (hits_in p.index all ≢ e.total.hits)))
+          ⊎ (steps_in p.index all < length (front_at p.index all))
+          → (BeginSeen p.index passes e.calls
+          × ((sum_by (steps_in p.index) passes ≢ length e.calls) ⊎ (sum_by (hits_in p.index) passes ≢ (state_at members p e.calls).counts.hits)))
+          ⊎ OneSaw (sum_by (steps_in p.index) passes) p.index passes
+      at_less (inl (b, inl d)) = inl (begin-more p.index passes (front_at p.index all) e.calls b s.seen,
+          inl (λ x. d (sym s.steps ∙ x ∙ sym (ap (λ (t : Total). t.steps) n.total ∙ n.whole.counted))))
+      at_less (inl (b, inr d)) = inl (begin-more p.index passes (front_at p.index all) e.calls b s.seen,
+          inr (λ x. d (sym s.hits ∙ x ∙ sym (ap (λ (t : Total). t.hits) n.total))))
+      at_less (inr more) = inr (s.saw (sum_by (steps_in p.index) passes) (let b = s.steps in omega (arith, more, b)))
+
+-- the same of a shard that may not be in use
+module _ {K V : Type 0} (members : Members K V) (p : Place) (passes : List (Seen K V)) (all : Seen K V) where
+  pub adds-at : (o : Option (Ending K V)) → AreSummed p.index passes all → IfSome o (IsEnding members p) → IsSome o
+      → IfSome o (λ e. AddsTo e (counts_at p.index all.counted) (front_at p.index all)) → AddUp members p passes
+  adds-at None s n there a = absurd cc
+  adds-at (Some e) s n there a = adds-up members p passes all e s n a
+
+  pub missing-at : (o : Option (Ending K V)) → AreSummed p.index passes all → IfSome o (IsEnding members p) → IsSome o
+      → IfSome o (λ e. FallsShort e (counts_at p.index all.counted) (front_at p.index all)) → IsMissing members p passes
+  missing-at None s n there f = absurd cc
+  missing-at (Some e) s n there f = missing-there members p passes all e s n f
+
+  pub total-at : (o : Option (Ending K V)) (c : Option Total) → AreSummed p.index passes all → IfSome o (IsEnding members p)
+      → IsSome c ↔ IsSome o → IfSome o (λ e. IfSome c (λ t. t ≡ e.total))
+      → IfSome o (λ e. AddsTo e (counts_at p.index all.counted) (front_at p.index all)) → IfSome c (IsTotal members p passes)
+  total-at o None s n there same a = tt
+  total-at None (Some t) s n there same a = absurd (let some = there.0 refl in cc)
+  total-at (Some e) (Some t) s n there same a = subst (IsTotal members p passes) (sym same) (total-of-all members p passes all e s n a)
