@@ -25,10 +25,10 @@ class Played(Shard):
     """One cache whose calls are handed their values: `given` is what the present call stores, as its number, weight and life, or None if the
     load fails."""
 
-    def __init__(self, s, sampler):
+    def __init__(self, s, sampler=None):
         super().__init__(s)
         # The sampler is the caller's, of whom there is one for all shards.
-        self.steps, self.given, self.sampler = 0, None, sampler
+        self.steps, self.given, self.sampler = 0, None, sampler or Sampler()
         # Each load that a seek opened, by its number and key.
         self.sought = set()
 

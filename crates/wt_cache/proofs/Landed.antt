@@ -1,7 +1,7 @@
 -- What a landing promises, and a landing that is tried a second time.
-use Rattle.std.proofs.Common.{◌≡◌, ℕ, Bool, List, ◌++◌, Option, Some, None, true, false, cond, refl, ap, sym, subst, ◌∙◌}
+use Rattle.std.proofs.Common.{◌≡◌, ℕ, ◌<◌, Bool, List, ◌++◌, Option, Some, None, true, false, cond, refl, ap, sym, subst, ◌∙◌, inl, inr}
 use Rattle.std.specs.Option.{option_map_or}
-use Rattle.std.specs.Prelude.{Result, Ok, Err, IsErrAnd}
+use Rattle.std.specs.Prelude.{◌⊎◌, Result, Ok, Err, IfOk}
 use Rattle.wt_flights.specs.declared.row.Row.{Row}
 use Rattle.wt_flights.specs.Rows.{landed, row_of}
 use Rattle.wt_core.specs.declared.calls.Land.TheVariants as land
@@ -22,8 +22,8 @@ use Rattle.wt_regions.specs.Notices.{NoticeList}
 use Rattle.wt_core.specs.declared.calls.Call.{Call}
 use Rattle.wt_core.specs.declared.calls.Call.TheVariants.{Land}
 use Rattle.wt_core.specs.declared.calls.Land.{Land as Landing}
-use Rattle.wt_shards.specs.Passes.{Seen, SeenAt, SeenMore, front_at, with_step}
-use Rattle.wt_shards.specs.Place.{Layout, home_at, home_of}
+use Rattle.wt_shards.specs.Passes.{Passed, Seen, SeenAt, SeenMore, front_at, steps_at, with_step}
+use Rattle.wt_shards.specs.Place.{Layout, Place, home_at, home_of}
 use Rattle.wt_shards.proofs.SeenMore.{made-earlier, made-grows, refused-earlier, refused-grows, seen-more, seen-twice}
 use Rattle.wt_cache.specs.Loads.{IsLandCall}
 
@@ -51,94 +51,90 @@ landing-no_hit {K} {V} eq word measure s id k what now = at_row (row_of eq k id 
     at_row None = refl
     at_row (Some row) = at_kept what row
 
--- the landing of a lead at its moment is the call of its shard
-module _ {K V : Type 0} (members : Members K V)
-    (l m : Layout) (lead : Leading K) (what : Landing V) (moment : ℕ) (old new : Seen K V) (before list : NoticeList K V) where
-  pub landed-made : (done : Done (Reply V)) → l ≡ m → moment ≡ lead.moment
-      → IsHomeCall members (home_at members.word lead.key l) (Land lead.id lead.key what moment) (λ r. r) old new before list
-      (Ok done)
-      → IsLandCall members m lead what old new before list (Ok tt)
-  landed-made done same at called =
-      let home : ℕ = home_of members.word lead.key l in
-      let h = subst (λ (n : ℕ). IsHomeCall members (home_at members.word lead.key l) (Land lead.id lead.key what n) (λ r. r) old new
-      before list (Ok done)) at called in
-      let calls : List (Call K V) = front_at home old ++ h.step.placed.between in
-      let miss : is_hit done.reply ≡ false = ap is_hit h.step.replied ∙ landing-no_hit members.eq members.word members.measure
-      (state_after members.eq members.word members.measure l.config calls) lead.id lead.key what lead.moment in
-      subst (λ (x : Layout). IsLandCall members x lead what old new before list (Ok tt)) same (record {
-        moved = h.moved ∙ ap (λ b. with_step home b old.counted) miss;
-        step = record { reply = done.reply; number = done.step; made = h.step };
-        told = h.told;
-        faults = tt;
-        cause = tt;
-        more = seen-more home old new h.elsewhere (made-grows members (home_at members.word lead.key l)
-            (Land lead.id lead.key what lead.moment) done.reply done.step (front_at home old) (front_at home new) before list h.step);
-        elsewhere = h.elsewhere;
-        err = tt;
-      })
-
-  refused-so : (f : Fault) → l ≡ m → moment ≡ lead.moment → IsHomeCall {R = Reply V} members (home_at members.word lead.key l)
-      (Land lead.id lead.key what moment) (λ r. r) old new before list (Err f)
-      → IsLandCall members m lead what old new before list (Err f)
-  refused-so f same at called =
-      let home : ℕ = home_of members.word lead.key l in
-      let h = subst (λ (n : ℕ). IsHomeCall {R = Reply V} members (home_at members.word lead.key l) (Land lead.id lead.key what n)
-      (λ r. r) old new before list (Err f)) at called in
-      subst (λ (x : Layout). IsLandCall members x lead what old new before list (Err f)) same (record {
-        moved = tt;
-        step = tt;
-        told = h.told;
-        faults = h.faults;
-        cause = h.cause;
-        more = seen-more home old new h.elsewhere (refused-grows members (home_at members.word lead.key l)
-            (Land lead.id lead.key what lead.moment) (front_at home old) (front_at home new) f h.cause);
-        elsewhere = h.elsewhere;
-        err = h.err;
-      })
-
-  pub landed-refused : (f : Fault) (r : Result (Unit {0}) Fault) → IsErrAnd r (λ g. g ≡ f) → l ≡ m → moment ≡ lead.moment
-      → IsHomeCall {R = Reply V} members (home_at members.word lead.key l) (Land lead.id lead.key what moment) (λ r. r) old new
-      before list (Err f)
-      → IsLandCall members m lead what old new before list r
-  landed-refused f (Ok x) told same at called = absurd told
-  landed-refused f (Err g) told same at called = subst (λ (e : Fault). IsLandCall members m lead what old new before list
-      (Err e)) (sym told) (refused-so f same at called)
-
-module _ {K V : Type 0} (members : Members K V)
-    (l : Layout) (lead : Leading K) (what : Landing V) where
+module _ {K V : Type 0} (members : Members K V) (l : Layout) (lead : Leading K) (what : Landing V) where
   abbrev home : ℕ
   home = home_of members.word lead.key l
+
+  abbrev place : Place
+  place = home_at members.word lead.key l
 
   abbrev call : Call K V
   call = Land lead.id lead.key what lead.moment
 
+  module _ (old new : Seen K V) (before list : NoticeList K V) where
+    -- what the shards promise of the landing
+    abbrev Called : Result (Done (Reply V)) Fault → Type 0
+    Called r = IsHomeCall members place call (λ x. x) old new before list r
+
+    no-hit : (r : Result (Done (Reply V)) Fault) → Called r → IfOk r (λ done. is_hit done.reply ≡ false)
+    no-hit (Ok done) h =
+        let calls : List (Call K V) = front_at home old ++ h.step.placed.between in
+        ap is_hit h.step.replied ∙ landing-no_hit members.eq members.word members.measure
+        (state_after members.eq members.word members.measure l.config calls) lead.id lead.key what lead.moment
+    no-hit (Err f) h = tt
+
+    saw-more : (r : Result (Done (Reply V)) Fault) → Called r → SeenMore old new
+    saw-more (Ok done) h = seen-more home old new h.elsewhere
+        (made-grows members place call done.reply done.step (front_at home old) (front_at home new) before list h.step)
+    saw-more (Err f) h = seen-more home old new h.elsewhere
+        (refused-grows members place call (front_at home old) (front_at home new) f h.cause)
+
+    pub landed-made : (r : Result (Done (Reply V)) Fault) → Called r → IsLandCall members l lead what old new before list r
+    landed-made r h = record { made = h; miss = no-hit r h; more = saw-more r h }
+
+    -- a landing is one step or none
+    pub landed-counts : (r : Result (Done (Reply V)) Fault) → IsLandCall members l lead what old new before list r
+        → (new.counted ≡ old.counted) ⊎ (new.counted ≡ with_step home false old.counted)
+    landed-counts (Ok done) landed = inr (landed.made.moved ∙ ap (λ b. with_step home b old.counted) landed.miss)
+    landed-counts (Err f) landed = inl landed.made.err.0
+
   -- a landing after one that was refused is one for who was there before both
-  pub landed-again : (old mid new : Seen K V) (before between list : NoticeList K V) (r : Result (Unit {0}) Fault)
+  pub landed-again : (old mid new : Seen K V) (before between list : NoticeList K V) (r : Result (Done (Reply V)) Fault)
       → mid.counted ≡ old.counted → between ≡ before → SeenMore old mid → SeenAt home old mid
       → IsLandCall members l lead what mid new between list r
       → IsLandCall members l lead what old new before list r
-  landed-again old mid new before between list (Ok x) counted same more elsewhere landed =
-      let made = made-earlier members (home_at members.word lead.key l) call landed.step.reply landed.step.number
-      (front_at home old) (front_at home mid) (front_at home new) between list (more home) landed.step.made in
-      subst (λ (t : NoticeList K V). IsLandCall members l lead what old new t list (Ok x)) same (record {
-        moved = landed.moved ∙ ap (with_step home false) counted;
-        step = record { reply = landed.step.reply; number = landed.step.number; made = made };
-        told = landed.told;
-        faults = tt;
-        cause = tt;
+  landed-again old mid new before between list (Ok done) counted same more elsewhere landed =
+      let h = landed.made in
+      subst (λ (t : NoticeList K V). IsLandCall members l lead what old new t list (Ok done)) same (record {
+        made = record {
+          moved = h.moved ∙ ap (with_step home (is_hit done.reply)) counted;
+          later = subst (λ (p : Passed). steps_at home p < done.step) counted h.later;
+          step = made-earlier members place call done.reply done.step (front_at home old) (front_at home mid)
+              (front_at home new) between list (more home) h.step;
+          faults = tt;
+          cause = tt;
+          elsewhere = seen-twice home old mid new elsewhere h.elsewhere;
+          told = h.told;
+          err = tt;
+        };
+        miss = landed.miss;
         more = λ i. prefix_trans (front_at i old) (front_at i mid) (front_at i new) (more i) (landed.more i);
-        elsewhere = seen-twice home old mid new elsewhere landed.elsewhere;
-        err = tt;
       })
   landed-again old mid new before between list (Err f) counted same more elsewhere landed =
+      let h = landed.made in
       subst (λ (t : NoticeList K V). IsLandCall members l lead what old new t list (Err f)) same (record {
-        moved = tt;
-        step = tt;
-        told = landed.told;
-        faults = landed.faults;
-        cause = refused-earlier members (home_at members.word lead.key l) call (front_at home old) (front_at home mid)
-            (front_at home new) f (more home) landed.cause;
+        made = record {
+          moved = tt;
+          later = tt;
+          step = tt;
+          faults = h.faults;
+          cause = refused-earlier members place call (front_at home old) (front_at home mid) (front_at home new) f
+              (more home) h.cause;
+          elsewhere = seen-twice home old mid new elsewhere h.elsewhere;
+          told = h.told;
+          err = (h.err.0 ∙ counted, h.err.1);
+        };
+        miss = tt;
         more = λ i. prefix_trans (front_at i old) (front_at i mid) (front_at i new) (more i) (landed.more i);
-        elsewhere = seen-twice home old mid new elsewhere landed.elsewhere;
-        err = (landed.err.0 ∙ counted, landed.err.1);
       })
+
+-- the landing of a lead at its moment, by the layout and the moment that the code has
+pub landed-so : {K V : Type 0} (members : Members K V) (l m : Layout) (lead : Leading K) (what : Landing V) (moment : ℕ)
+    (old new : Seen K V) (before list : NoticeList K V) (r : Result (Done (Reply V)) Fault) → l ≡ m → moment ≡ lead.moment
+    → IsHomeCall members (home_at members.word lead.key l) (Land lead.id lead.key what moment) (λ x. x) old new before list r
+    → IsLandCall members m lead what old new before list r
+landed-so {K} {V} members l m lead what moment old new before list r same at called =
+    subst (λ (x : Layout). IsLandCall members x lead what old new before list r) same
+    (landed-made members l lead what old new before list r
+    (subst (λ (n : ℕ). IsHomeCall members (home_at members.word lead.key l) (Land lead.id lead.key what n) (λ x. x) old new before
+    list r) at called))

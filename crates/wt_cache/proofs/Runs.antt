@@ -1,7 +1,6 @@
 -- Passes that move by landings, one after another.
-use Rattle.std.proofs.Common.{◌≡◌, ℕ, ◌+◌, ◌≤◌, Bool, false, true, [], ◌∷◌, ◌++◌, refl, sym, ap, ◌∙◌, subst, inl, inr, append-nil, append_assoc, length-append, arith}
-use Rattle.std.specs.Prelude.{◌⊎◌, Result, Ok, Err, OnOk, OnErr}
-use Rattle.wt_keys.specs.declared.fault.Fault.{Fault}
+use Rattle.std.proofs.Common.{◌≡◌, ℕ, ◌+◌, ◌≤◌, Bool, false, true, [], ◌∷◌, ◌++◌, refl, sym, ap, ◌∙◌, subst, inl, inr, append-nil, append_assoc, length, length-append, arith}
+use Rattle.std.specs.Prelude.{◌⊎◌}
 use Rattle.wt_regions.specs.Notices.{NoticeList, emptied}
 use Rattle.wt_shards.specs.Told.{HasTold}
 use Rattle.wt_shards.specs.Passes.{Passed, with_step}
@@ -16,21 +15,23 @@ some_none p = (0, landed_none 0 p)
 pub some_one : (i : ℕ) (p q : Passed) → q ≡ with_step i false p → LandedSome p q
 some_one i p q is = (1, landed_one i 1 p q is (omega arith))
 
-pub some_both : (p q r : Passed) → LandedSome p q → LandedSome q r → LandedSome p r
-some_both p q r a b = (a.0 + b.0, landed_both a.0 b.0 (a.0 + b.0) p q r a.1 b.1 (omega arith))
+-- one landing, or none
+pub landed_once : (i : ℕ) (p q : Passed) → (q ≡ p) ⊎ (q ≡ with_step i false p) → HasLanded 1 p q
+landed_once i p q (inl none) = let P : Passed → Type 0 = λ u. HasLanded 1 p u in subst P (sym none) (landed_none 1 p)
+landed_once i p q (inr one) = landed_one i 1 p q one (omega arith)
 
--- one landing, where it was made
-pub landed_if : (Y : Type 0) (i : ℕ) (p q : Passed) (r : Result Unit Fault) → OnOk r (q ≡ with_step i false p) → OnErr r ((q ≡ p) × Y)
-    → HasLanded 1 p q
-landed_if Y i p q (Ok x) is none = landed_one i 1 p q is (omega arith)
-landed_if Y i p q (Err f) is none = let P : Passed → Type 0 = λ u. HasLanded 1 p u in subst P (sym none.0) (landed_none 1 p)
+-- landings, as many as this
+pub some_of : (n : ℕ) (p q : Passed) → HasLanded n p q → LandedSome p q
+some_of n p q a = (n, a)
 
-pub some_more : (p q r : Passed) → LandedSome p q → HasLanded 1 q r → LandedSome p r
-some_more p q r a b = some_both p q r a (1, b)
-
--- the room that is left after the list was emptied
-pub room_emptied : {K V : Type 0} (m n : ℕ) (t u v : NoticeList K V) → m ≤ t.room → HasTold n t u → v ≡ emptied u → m ≤ v.room
-room_emptied m n t u v le told is = let w = told.whole in rw is (omega (arith, w, le))
+-- an empty list that was filled and emptied is as it was
+pub emptied_back : {K V : Type 0} (n : ℕ) (t u : NoticeList K V) → t.list ≡ [] → HasTold n t u → emptied u ≡ t
+emptied_back {K} {V} n t u none told =
+    let w : u.room + length u.list ≡ t.room + length t.list = told.whole in
+    let z : length t.list ≡ 0 = ap length none in
+    let room : u.room + length u.list ≡ t.room = omega (arith, w, z) in
+    let with_room : ℕ → NoticeList K V = λ r. record { list = t.list; room = r } in
+    rw (sym none) (ap with_room room)
 
 -- nothing was run
 pub ran_none : (lined : Bool) (home : ℕ) (p : Passed) → HasRunIfAny lined home p p
@@ -54,10 +55,10 @@ pub ran_lined : (lined : Bool) (home : ℕ) (p q : Passed) → lined ≡ true �
 ran_lined false home p q is moved = cc
 ran_lined true home p q is moved = (moved, moved)
 
-pub taken_none : {K : Type 0} (v : Hand K) → HasTaken 0 v v
+abbrev pub taken_none : {K : Type 0} (v : Hand K) → HasTaken 0 v v
 taken_none v = record { taken = []; counted = refl; moved = ap (λ t. hand v.puts t) (sym (append-nil v.takes)) }
 
-pub taken_more : {K : Type 0} (n : ℕ) (y : ℕ × K) (u v w : Hand K) → HasTaken n u v
+abbrev pub taken_more : {K : Type 0} (n : ℕ) (y : ℕ × K) (u v w : Hand K) → HasTaken n u v
     → (k : ℕ) × (w ≡ hand v.puts (v.takes ++ (k, y) ∷ [])) → HasTaken (n + 1) u w
 taken_more n y u v w a more = let e = a.moved in record {
   taken = a.taken ++ (more.0, y) ∷ [];

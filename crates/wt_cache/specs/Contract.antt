@@ -56,7 +56,7 @@ pub record IsLentSweep {K V : Type 0} (members : Members K V) (c : Call K V)
   pub same : (new.cache ≡ old.cache) × (new.left ≡ old.left)
 
 -- what a caller's get promises: the get of its cache, with its pass and with its list, which is emptied first
-pub record IsLentGet {K V : Type 0} (members : Members K V) (key : K) (now : ℕ)
+pub record IsLentGet {K V : Type 0} (members : Members K V) (returns : K → Result V ℕ → Type 0) (key : K) (now : ℕ)
     (old new : Calling K V) (result : Result (Got V) Fault) : Type 0 where
   -- the value may stand for the key
   pub answers : IfOk result (λ got. IsTrue (members.answers got.value key))
@@ -65,13 +65,13 @@ pub record IsLentGet {K V : Type 0} (members : Members K V) (key : K) (now : ℕ
   -- the number of the seek is above those of all steps that the pass had made there
   pub later : IfOk result (IsLaterIn members.word key old.cache old.pass.counted)
   -- the seek stands in that shard's history, and then what its answer asked for and nothing else, each with its notices
-  pub sought : IfOk result (IsSought members key now old.cache old.pass new.pass (emptied old.left) new.left)
+  pub sought : IfOk result (IsSought members returns key now old.cache old.pass new.pass (emptied old.left) new.left)
   -- whatever is returned: few notices, and no room lost
   pub told : HasTold (2 * old.cache.layout.config.entries) (emptied old.left) new.left
   -- no other fault comes than a get's
   pub faults : IfErr result (λ f. is_get_fault f ≡ true)
   -- either the seek was refused, for a cause of its own and with nothing done, or it stands, and this is why it brought nothing
-  pub err : IfErr result (HasTriedIn members key now old.cache old.pass new.pass (emptied old.left) new.left)
+  pub err : IfErr result (HasTriedIn members returns key now old.cache old.pass new.pass (emptied old.left) new.left)
   -- the caller's cache is the same
   pub same : new.cache ≡ old.cache
 

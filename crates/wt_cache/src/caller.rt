@@ -79,7 +79,7 @@ impl<'c, K: CacheKey, V: Value<K>, L: Loader<K, V> + Drop, B: Books, R: Wait> Ca
     /// Takes over all that the sight shows. So this caller's next call of a key stands in the
     /// history of the key's shard behind all calls that the sight shows there.
     ///
-    /// Takes no memory and no lock, and does nothing at run time.
+    /// Takes no memory and no lock. O(shards).
     ///
     /// In use: `uses::callers::learn`.
     pub fn learn(&mut self, sight: &Sight<K, V, B>)
@@ -99,7 +99,7 @@ impl<'c, K: CacheKey, V: Value<K>, L: Loader<K, V> + Drop, B: Books, R: Wait> Ca
     ///
     /// In use: `uses::callers::lend` and `uses::callers::learn`.
     pub fn give_back(self) -> Sight<K, V, B>
-        ensures { result ≡ self.pass.fronts }
+        ensures { result ≡ self.entry.pass.fronts }
     {
         let Caller {
             rt,

@@ -11,27 +11,24 @@ ghost use Rattle.wt_flights.specs.Outcomes.{IsSameTicket, outcome_answers};
 ghost use Rattle.wt_flights.specs.Published.{Publishes};
 ghost use Rattle.wt_shards.specs.Asked.{LandAnswers};
 ghost use Rattle.wt_shards.specs.Members.{members_of};
-ghost use Rattle.wt_shards.specs.Passes.{SeenMore};
 ghost use Rattle.wt_core.specs.declared.calls.Land.{Land as Landing};
-ghost use Rattle.wt_core.specs.declared.calls.Land.TheVariants as land;
-ghost use Rattle.wt_cache.specs.Loads.{IsLandCall, IsRun, IsTold, LandsAs, is_outcome_fault, value_in};
-ghost use Rattle.wt_cache.specs.Moves.{HasLanded};
+ghost use Rattle.wt_cache.specs.Loads.{IsGivenUp, IsLandCall, IsRun, IsTold, LandsAs, MayReturn, is_outcome_fault, value_in};
 
 use crate::cache::LoadingCache;
 use crate::loader::Loader;
 use std::sync::Wait;
-use wt_core::{Land, Notices};
+use wt_core::{Land, Notices, Reply};
 use wt_flights::{Lead, Outcome, Publish, Ticket};
 use wt_keys::{Answers, CacheKey, Fault, Share};
-use wt_shards::{Books, Pass, Value};
+use wt_shards::{Books, Done, Pass, Value};
 
 /// How a load ended, for the caller or worker that ran it.
 #[derive(Drop)]
 pub(crate) struct Ran<K, V> {
     /// Whether the loader returned an error.
     pub failed: bool,
-    /// The result of the landing: nothing, or the fault that refused it.
-    pub landed: Result<(), Fault>,
+    /// The result of the landing: its step, or the fault that refused it.
+    pub landed: Result<Done<Reply<V>>, Fault>,
     /// The result of the publishing: the ticket that knows the outcome.
     pub published: Publish<K, V>,
 }
@@ -85,15 +82,14 @@ impl<K: CacheKey, V: Value<K>, L: Loader<K, V> + Drop, B: Books> LoadingCache<K,
         lead: &Lead<K, V>,
         what: Land<V>,
         notices: &mut Notices<K, V>,
-    ) -> Result<(), Fault>
+    ) -> Result<Done<Reply<V>>, Fault>
         requires room { self.now.layout.config.entries ≤ notices.old.room }
         requires answers { LandAnswers V.answers lead.now.key what }
         ensures made { IsLandCall (members_of K.CacheKey V.Value) self.now.layout lead.now what
             pass.old pass.new notices.old notices.new result }
     {
         let moment = lead.moment();
-        self.shards.land(rt, pass, lead, what, moment, notices)?;
-        Ok(())
+        self.shards.land(rt, pass, lead, what, moment, notices)
     }
 
     // Lands a load with its value: kept, or loose if the share or the landing found no memory.
@@ -104,7 +100,7 @@ impl<K: CacheKey, V: Value<K>, L: Loader<K, V> + Drop, B: Books> LoadingCache<K,
         lead: &Lead<K, V>,
         value: &V,
         notices: &mut Notices<K, V>,
-    ) -> Result<(), Fault>
+    ) -> Result<Done<Reply<V>>, Fault>
         requires room { self.now.layout.config.entries ≤ notices.old.room }
         requires answers { IsTrue (V.answers value.now lead.now.key) }
         ensures made { (what : Landing V) × LandsAs (Ok value.now) what
@@ -115,7 +111,7 @@ impl<K: CacheKey, V: Value<K>, L: Loader<K, V> + Drop, B: Books> LoadingCache<K,
             return self.land(rt, pass, lead, Land::Loose, notices);
         };
         match self.land(rt, pass, lead, Land::Keep(kept), notices) {
-            Ok(()) => Ok(()),
+            Ok(done) => Ok(done),
             Err(Fault::NoMemory) => self.land(rt, pass, lead, Land::Loose, notices),
             Err(fault) => Err(fault),
         }
@@ -130,10 +126,8 @@ impl<K: CacheKey, V: Value<K>, L: Loader<K, V> + Drop, B: Books> LoadingCache<K,
         notices: &mut Notices<K, V>,
     ) -> Ran<K, V>
         requires room { self.now.layout.config.entries ≤ notices.old.room }
-        ensures made { IsRun (members_of K.CacheKey V.Value) self.now.layout lead pass.old pass.new
-            notices.old notices.new result }
-        ensures few { HasLanded 1 pass.old.counted pass.new.counted }
-        ensures more { SeenMore pass.old pass.new }
+        ensures made { IsRun (members_of K.CacheKey V.Value) (MayReturn L.may_return) self.now.layout
+            lead pass.old pass.new notices.old notices.new result }
     {
         let key = lead.key();
         match self.loader.load(&key) {
@@ -174,11 +168,14 @@ impl<K: CacheKey, V: Value<K>, L: Loader<K, V> + Drop, B: Books> LoadingCache<K,
         notices: &mut Notices<K, V>,
     ) -> Result<(), Fault>
         requires room { self.now.layout.config.entries ≤ notices.old.room }
-        ensures made { IsLandCall (members_of K.CacheKey V.Value) self.now.layout lead land.Failed
-            pass.old pass.new notices.old notices.new result }
+        ensures made { IsGivenUp (members_of K.CacheKey V.Value) self.now.layout lead pass.old pass.new
+            notices.old notices.new result }
     {
         let landed = self.land(rt, pass, &lead, Land::Failed, notices);
         let _ = announce(rt, lead, Outcome::Abandoned);
-        landed
+        match landed {
+            Ok(_) => Ok(()),
+            Err(fault) => Err(fault),
+        }
     }
 }

@@ -1,7 +1,10 @@
 // Workers, which run the loads that callers posted.
 ghost use Rattle.std.specs.Prelude.{◌≡◌, ◌+◌, ◌^◌, ◌<◌, ◌≤◌, []};
 ghost use Rattle.wt_regions.specs.Notices.{emptied};
+ghost use Rattle.wt_shards.specs.Members.{members_of};
+ghost use Rattle.wt_cache.specs.Loads.{IsRunAside, MayReturn};
 ghost use Rattle.wt_cache.specs.Moves.{HasLanded, HasTaken};
+ghost use Rattle.wt_cache.specs.Workers.{HasWorked};
 
 use crate::cache::LoadingCache;
 use crate::got::WorkerReport;
@@ -39,6 +42,9 @@ impl<K: CacheKey, V: Value<K>, L: Loader<K, V> + Drop, B: Books> LoadingCache<K,
         requires room { self.now.layout.config.entries ≤ notices.old.room }
         ensures landed { HasLanded result.jobs pass.old.counted pass.new.counted }
         ensures taken { HasTaken result.jobs hand.old hand.new }
+        // Each load that was taken was landed, and nothing else was done with the pass.
+        ensures ran { HasWorked (members_of K.CacheKey V.Value) (MayReturn L.may_return)
+            self.now.layout (emptied notices.old) result.jobs hand.old hand.new pass.old pass.new }
         ensures failed { result.failed ≤ result.jobs }
         ensures jobs { result.jobs ≤ 2 ^ 40 }
         ensures notices { notices.new ≡ emptied notices.old }
@@ -77,7 +83,8 @@ impl<K: CacheKey, V: Value<K>, L: Loader<K, V> + Drop, B: Books> LoadingCache<K,
         requires none { notices.old.list ≡ [] }
         requires jobs { report.old.jobs < 2 ^ 40 }
         requires failed { report.old.failed ≤ report.old.jobs }
-        ensures landed { HasLanded 1 pass.old.counted pass.new.counted }
+        ensures ran { IsRunAside (members_of K.CacheKey V.Value) (MayReturn L.may_return)
+            self.now.layout notices.old lead pass.old pass.new }
         ensures notices { notices.new ≡ notices.old }
         ensures jobs { report.new.jobs ≡ report.old.jobs + 1 }
         ensures failed { report.new.failed ≤ report.new.jobs }

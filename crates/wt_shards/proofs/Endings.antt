@@ -134,10 +134,14 @@ module _ {K V : Type 0} (members : Members K V) (p : Place) (passes : List (Seen
           → (BeginSeen p.index passes e.calls
           × ((sum_by (steps_in p.index) passes ≢ length e.calls) ⊎ (sum_by (hits_in p.index) passes ≢ (state_at members p e.calls).counts.hits)))
           ⊎ OneSaw (sum_by (steps_in p.index) passes) p.index passes
-      at_less (inl (b, inl d)) = inl (begin-more p.index passes (front_at p.index all) e.calls b s.seen,
-          inl (λ x. d (sym s.steps ∙ x ∙ sym (ap (λ (t : Total). t.steps) n.total ∙ n.whole.counted))))
-      at_less (inl (b, inr d)) = inl (begin-more p.index passes (front_at p.index all) e.calls b s.seen,
-          inr (λ x. d (sym s.hits ∙ x ∙ sym (ap (λ (t : Total). t.hits) n.total))))
+      at_less (inl (b, inl d)) = inl (
+        begin-more p.index passes (front_at p.index all) e.calls b s.seen,
+        inl (λ x. d (sym s.steps ∙ x ∙ sym (ap (λ (t : Total). t.steps) n.total ∙ n.whole.counted))),
+      )
+      at_less (inl (b, inr d)) = inl (
+        begin-more p.index passes (front_at p.index all) e.calls b s.seen,
+        inr (λ x. d (sym s.hits ∙ x ∙ sym (ap (λ (t : Total). t.hits) n.total))),
+      )
       at_less (inr more) = inr (s.saw (sum_by (steps_in p.index) passes) (let b = s.steps in omega (arith, more, b)))
 
 -- the same of a shard that may not be in use

@@ -94,7 +94,7 @@ impl<K, V, B: Books> Pass<K, V, B> {
     /// Takes over all that the sight shows. So this pass's next call at a shard stands in the
     /// shard's history behind all calls that the sight shows there.
     ///
-    /// Takes no memory and no lock, and does nothing at run time.
+    /// Takes no memory and no lock. O(shards).
     pub fn learn(&mut self, sight: &Sight<K, V, B>)
         ensures same { self.new.counted ≡ self.old.counted }
         ensures this { SeenMore self.old self.new }
@@ -109,7 +109,7 @@ impl<K, V, B: Books> Pass<K, V, B> {
     /// Takes over all that the holder of the other pass has seen. So this one's next call at a
     /// shard stands in the shard's history behind all calls that the other holder had made there.
     ///
-    /// Takes no memory, takes no lock, and does nothing at run time.
+    /// Takes no memory and no lock. O(shards).
     pub fn meet(&mut self, other: &Pass<K, V, B>)
         ensures same { self.new.counted ≡ self.old.counted }
         ensures this { SeenMore self.old self.new }

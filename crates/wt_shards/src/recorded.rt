@@ -15,8 +15,8 @@ ghost use Rattle.wt_shards.specs.Passes.{new_mine};
 ghost use Rattle.wt_shards.specs.Sought.{reply_of};
 ghost use Rattle.wt_shards.specs.Totals.{IsEnding};
 
-use crate::ended::Ended;
 use crate::done::Done;
+use crate::ended::Ended;
 use crate::mine::Mine;
 use crate::shard::Shard;
 use crate::shard_ledger::ShardLedger;

@@ -11,8 +11,8 @@ use wt_history::{Front, Naming};
 /// What the holder of a pass has seen: a beginning of each shard's history, and no counts.
 ///
 /// It can be sent to another thread, copied and dropped. The next calls of a caller whose pass
-/// learns it stand in the histories behind all calls that it shows. At run time it has only a byte
-/// for each shard number, which says whether it shows the shard.
+/// learns it stand in the histories behind all calls that it shows. At run time it has the length of
+/// each of these beginnings.
 pub struct Sight<K, V, B: Books> {
     pub(crate) zero: Option<Front<Call<K, V>, B::S0>>,
     pub(crate) one: Option<Front<Call<K, V>, B::S1>>,

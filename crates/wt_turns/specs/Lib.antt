@@ -1,3 +1,4 @@
+pub mod Loading
 pub mod Turns
 pub mod ByTurn
 pub mod Contract

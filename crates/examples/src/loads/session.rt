@@ -35,13 +35,18 @@ fn reads_put<N: Names + Send + Sync, R: Threads + Wait + Sync>(
     rt: &R,
     pages: &Pages<N>,
 ) -> Result<u64, Fault> {
-    let page = Page {
-        number: 9,
-        words: 900,
-    };
     let (first, _) = thread::join(
         rt,
-        || first_request(rt, pages, 9, page, 0),
+        || first_request(
+            rt,
+            pages,
+            9,
+            Page {
+                number: 9,
+                words: 900,
+            },
+            0,
+        ),
         || ask(rt, pages, 7),
     );
     let (_, sight) = first?;

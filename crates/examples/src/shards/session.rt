@@ -137,8 +137,8 @@ fn puts_and_drops<B: Books, R: Wait>(
         version: 97,
     };
     let (_, sought) = put_and_seek(rt, shards, a, b, page.number, page, 2000, &mut notices)?;
-    notices.empty();
-    let (_, found) = drop_and_look(rt, shards, a, b, page.number, 2000, &mut notices)?;
+    let mut others = Notices::new(alloc, 2 * shards.entries() as usize)?;
+    let (_, found) = drop_and_look(rt, shards, a, b, page.number, 2000, &mut others)?;
     Ok(Fresh {
         put: sought_version(&sought.reply),
         dropped: version_of(found.reply),

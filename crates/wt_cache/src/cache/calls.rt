@@ -66,9 +66,9 @@ impl<K: CacheKey, V: Value<K>, L: Loader<K, V> + Drop, B: Books> LoadingCache<K,
     /// Returns a share of the value that `get_if_present` would return at `now`, if it would hit, and
     /// lets the policy hear of a part of the hits. Where it finds nothing, call `get`.
     ///
-    /// Is a `peek`, which several threads make faster than looks, and then a `get_if_present` of the
-    /// same key for each of the first 8 hits after a read of this pass that found nothing, and for
-    /// one in 16 of the others. With `after_access` each hit is followed by one, which renews its
+    /// Is a `peek`, which takes a fraction of a look's instructions, and then a `get_if_present` of
+    /// the same key for each of the first 8 hits after a read of this pass that found nothing, and
+    /// for one in 16 of the others. With `after_access` each hit is followed by one, which renews its
     /// entry. If it is refused, nothing changes, and the read returns its value all the same. Only
     /// these look-ups are counted: by the cache, and by the pass. `Tally` counts reads.
     ///

@@ -13,13 +13,13 @@
 // caller that took it off the line. That one lands the load and publishes its outcome. A ticket
 // stays with its caller, and each waits on its own. A caller that ran its own load reads what it
 // published, and doesn't wait. A get holds no lock while it loads or waits.
-ghost use Rattle.std.specs.Prelude.{◌≡◌, ◌*◌, ◌≤◌, true, IsTrue, IfOk, IfErr};
+ghost use Rattle.std.specs.Prelude.{◌≡◌, ◌*◌, ◌≤◌, [], true, List, IsTrue, IfOk, IfErr};
+ghost use Rattle.wt_flights.specs.Outcomes.{Leading};
 ghost use Rattle.wt_shards.specs.Members.{members_of};
-ghost use Rattle.wt_shards.specs.Passes.{SeenMore};
 ghost use Rattle.wt_shards.specs.Told.{HasTold};
 ghost use Rattle.wt_cache.specs.Gets.{IsSought, HasTriedIn, is_get_fault};
-ghost use Rattle.wt_cache.specs.Loads.{IsHandedTo, IsLoaded};
-ghost use Rattle.wt_cache.specs.Moves.{LandedSome, HasGotIn, IsLaterIn};
+ghost use Rattle.wt_cache.specs.Loads.{AreRun, IsHandedTo, IsLoaded, MayReturn};
+ghost use Rattle.wt_cache.specs.Moves.{HasGotIn, IsLaterIn};
 
 use crate::cache::LoadingCache;
 use crate::got::{Got, How};
@@ -63,15 +63,15 @@ impl<K: CacheKey, V: Value<K>, L: Loader<K, V> + Drop, B: Books> LoadingCache<K,
         ensures answers { IfOk result (λ got. IsTrue (V.answers got.value key)) }
         ensures moved { IfOk result (HasGotIn K.word key self.now pass.old.counted pass.new.counted) }
         ensures later { IfOk result (IsLaterIn K.word key self.now pass.old.counted) }
-        ensures sought { IfOk result (IsSought (members_of K.CacheKey V.Value) key now self.now
-            pass.old pass.new notices.old notices.new) }
+        ensures sought { IfOk result (IsSought (members_of K.CacheKey V.Value)
+            (MayReturn L.may_return) key now self.now pass.old pass.new notices.old notices.new) }
 
         ensures told { HasTold (2 * self.now.layout.config.entries) notices.old notices.new }
         ensures faults { IfErr result (λ fault. is_get_fault fault ≡ true) }
         // Either the seek was refused, for a cause of its own and with nothing done, or it stands.
         // Then this is why it brought nothing.
-        ensures err { IfErr result (HasTriedIn (members_of K.CacheKey V.Value) key now self.now
-            pass.old pass.new notices.old notices.new) }
+        ensures err { IfErr result (HasTriedIn (members_of K.CacheKey V.Value)
+            (MayReturn L.may_return) key now self.now pass.old pass.new notices.old notices.new) }
     {
         let done = self.shards.seek(rt, pass, key, now, notices)?;
         let step = done.step;
@@ -113,14 +113,14 @@ impl<K: CacheKey, V: Value<K>, L: Loader<K, V> + Drop, B: Books> LoadingCache<K,
         requires room { self.now.layout.config.entries ≤ notices.old.room }
         requires ticket { ticket.key ≡ lead.key }
         ensures answers { IfOk result (λ value. IsTrue (V.answers value lead.key)) }
-        ensures made { IsLoaded (members_of K.CacheKey V.Value) self.now lead pass.old pass.new
-            notices.old notices.new result }
+        ensures made { IsLoaded (members_of K.CacheKey V.Value) (MayReturn L.may_return) self.now lead
+            pass.old pass.new notices.old notices.new result }
     {
         let Some(ran) = self.hand_on(rt, pass, lead, notices) else {
             let mut ticket = ticket;
             return value_of(rt, &mut ticket);
         };
-        ran.landed?;
+        let _ = ran.landed?;
         match ran.published {
             Publish::Already(outcome) => value_in(outcome),
             Publish::Published(ticket) => {
@@ -146,8 +146,8 @@ impl<K: CacheKey, V: Value<K>, L: Loader<K, V> + Drop, B: Books> LoadingCache<K,
         notices: &mut Notices<K, V>,
     ) -> Option<Ran<K, V>>
         requires room { self.now.layout.config.entries ≤ notices.old.room }
-        ensures { IsHandedTo (members_of K.CacheKey V.Value) self.now lead pass.old pass.new
-            notices.old notices.new result }
+        ensures { IsHandedTo (members_of K.CacheKey V.Value) (MayReturn L.may_return) self.now lead
+            pass.old pass.new notices.old notices.new result }
     {
         let Some(line) = &self.line else {
             return Some(self.run(rt, pass, lead, notices));
@@ -179,8 +179,9 @@ impl<K: CacheKey, V: Value<K>, L: Loader<K, V> + Drop, B: Books> LoadingCache<K,
         aside: &mut Notices<K, V>,
     )
         requires room { self.now.layout.config.entries ≤ aside.old.room }
-        ensures moved { LandedSome pass.old.counted pass.new.counted }
-        ensures more { SeenMore pass.old pass.new }
+        requires none { aside.old.list ≡ [] }
+        ensures ran { (leads : List (Leading K)) × AreRun (members_of K.CacheKey V.Value)
+            (MayReturn L.may_return) self.now.layout aside.old leads pass.old pass.new }
     {
         for _ in rt.forever() {
             let Some(lead) = line.take(rt, hand) else {

@@ -7,6 +7,7 @@ ghost use Rattle.wt_shards.specs.Asked.{ReplyAnswers};
 ghost use Rattle.wt_shards.specs.Members.{members_of};
 ghost use Rattle.wt_cache.specs.Cached.{most_entries};
 ghost use Rattle.wt_cache.specs.Follows.{IsFollowed};
+ghost use Rattle.wt_cache.specs.Loads.{MayReturn};
 ghost use Rattle.wt_shards.specs.Place.{home_at};
 ghost use Rattle.wt_cache.specs.Contract.{IsLentCall, IsLentGet, IsLentPut, IsLentSweep};
 ghost use Rattle.wt_cache.specs.Peeks.{IsLentPeek, IsLentRead};
@@ -36,7 +37,8 @@ impl<'c, K: CacheKey, V: Value<K>, L: Loader<K, V> + Drop, B: Books, R: Wait> Ca
     ///
     /// In use: `uses::callers::get`.
     pub fn get(&mut self, key: K, now: u64) -> Result<Got<V>, Fault>
-        ensures made { IsLentGet (members_of K.CacheKey V.Value) key now self.old self.new result }
+        ensures made { IsLentGet (members_of K.CacheKey V.Value) (MayReturn L.may_return) key now
+            self.old self.new result }
     {
         self.left.empty();
         let cache = self.callers.cache();

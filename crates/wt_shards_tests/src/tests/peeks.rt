@@ -21,7 +21,7 @@ use wt_tests::{Dice, Loaded, light};
 // How many threads call, and the calls of each. One call in eight is a put or a removal.
 const CALLERS: usize = 4;
 
-const CALLS: u64 = 125_000;
+const CALLS: u64 = 5_000;
 
 const KEYS: u64 = 8;
 

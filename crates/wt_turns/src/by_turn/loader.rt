@@ -1,6 +1,6 @@
 // The loader of a replay turn by turn: makes the values that the cache loads.
 ghost use Rattle.std.specs.Prelude.{◌≡◌, ◌<◌, ◌≤◌, None, false, IfOk, IsTrue};
-ghost use Rattle.wt_turns.specs.Turns.{loaded};
+ghost use Rattle.wt_turns.specs.Loading.{loaded};
 ghost use Rattle.wt_trace.specs.Answers.{version};
 ghost use Rattle.wt_trace.specs.Keys.{keys_by};
 ghost use Rattle.wt_regions.specs.Lawful.{is_zero};
@@ -40,6 +40,11 @@ impl TraceLoader {
 // Loaders are shared by threads, and the prover makes no proof for a generic call in one. So this
 // puts the value together from `fails_by` and `weight_by`, which are not generic.
 impl<K: CacheKey> Loader<K, Version<K>> for TraceLoader {
+    ghost use Rattle.std.specs.Prelude.{◌≡◌};
+    ghost use Rattle.wt_turns.specs.Loading.{loaded};
+
+    ghost may_return = { λ loader key result. result ≡ loaded K.word loader.options key };
+
     fn load(&self, key: &K) -> Result<Version<K>, u32>
         ensures answers { IfOk result (λ value. IsTrue (K.eq value.key key.now)) }
         ensures value { result ≡ loaded K.word self.now.options key.now }

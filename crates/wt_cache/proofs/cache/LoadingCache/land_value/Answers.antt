@@ -10,7 +10,7 @@ returns-in-Err-NoMemory g c =
       made = (
         Loose,
         inr refl,
-        landed-again _ _ _ _ _ _ _ _ _ _ _ first.err.0 first.err.1 first.more first.elsewhere
+        landed-again _ _ _ _ _ _ _ _ _ _ _ first.made.err.0 first.made.err.1 first.more first.made.elsewhere
             c.land-in-Err-NoMemory.ensures.made,
       );
     }

@@ -1,5 +1,8 @@
 use Rattle.std.proofs.Common.{◌≡◌, ◌^◌, ◌≤◌}
+use Rattle.wt_shards.specs.Members.{members_by}
+use Rattle.wt_cache.specs.Loads.{MayReturn}
 use Rattle.wt_cache.specs.Moves.{HasLanded, HasTaken}
+use Rattle.wt_cache.specs.Workers.{HasWorked}
 use Rattle.wt_cache.proofs.cache.LoadingCache.run_worker.Given as goal
 
 abbrev pub invariant-loop : goal.invariant-loop
@@ -11,4 +14,6 @@ invariant-loop g l = record {
   jobs : l.report.jobs ≤ 2 ^ 40;
   landed : HasLanded l.report.jobs l.initial.pass.counted l.pass.counted;
   taken : HasTaken l.report.jobs l.initial.hand l.hand;
+  worked : HasWorked (members_by g.K.PartialEq.eq g.K.CacheKey.word g.V.Weighs.measure g.V.Answers.answers)
+      (MayReturn g.L.Loader.may_return) l.self.layout l.initial.notices l.report.jobs l.initial.hand l.hand l.initial.pass l.pass;
 }

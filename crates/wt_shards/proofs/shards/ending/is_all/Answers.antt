@@ -13,6 +13,6 @@ returns-then-total-ne0-clause-short g c _ =
     let V = g.row.V.Denot in
     let e : Ending K V = c.args.ended.now in
     let same : c.total-total.result.steps ≡ e.total.steps =
-        ap (λ (t : Total). t.steps) (c.total-total.ensures ∙ ap (λ (x : Ending K V). x.total) c.ended.view_is) in
+    ap (λ (t : Total). t.steps) (c.total-total.ensures ∙ ap (λ (x : Ending K V). x.total) c.ended.view_is) in
     let made : 0 ≢ e.total.steps = λ none. (let some = c.if-total-ne0.true in grind (arith, nat_tests, some, same, none)) in
     subst (λ (m : Option (Mine K V)). FallsShort e (counts_of m) (front_of m)) (sym c.in_default.is) (short_none e made)

@@ -15,15 +15,16 @@ loop-pass-preserved g c =
     let S = Seen g.row.K.Denot g.row.V.Denot in
     let done : List S = c.loop-pass.invariant.0 in
     let left : List S = c.pop.new.self.items in
-    let pass : S = c.in-Some.pass in
-    (pass ∷ done,
-    c.loop-pass.invariant.1 ∙ ap (λ (w : List S). w ++ done) c.in-Some.ensures.items ∙ append_assoc left (pass ∷ []) done,
-    λ i. summed-more i pass done c.loop-pass.sums c.absorb.new.self (c.loop-pass.invariant.2 i) (c.absorb.ensures i))
+    let pass : S = c.in-Some.pass in (
+      pass ∷ done,
+      c.loop-pass.invariant.1 ∙ ap (λ (w : List S). w ++ done) c.in-Some.ensures.items ∙ append_assoc left (pass ∷ []) done,
+      λ i. summed-more i pass done c.loop-pass.sums c.absorb.new.self (c.loop-pass.invariant.2 i) (c.absorb.ensures i),
+    )
 
 pub returns : goal.returns
 returns g c =
     let S = Seen g.row.K.Denot g.row.V.Denot in
     let none : length c.loop-pass.passes.items ≡ 0 = (let n = c.in_default.ensures.cases.0 in let o = c.loop-pass.passes.ok.0 in omega (arith, n, o)) in
     let whole : c.loop-pass.invariant.0 ≡ c.args.passes.items =
-        nothing_before c.loop-pass.passes.items c.loop-pass.invariant.0 c.args.passes.items c.loop-pass.invariant.1 none in
+    nothing_before c.loop-pass.passes.items c.loop-pass.invariant.0 c.args.passes.items c.loop-pass.invariant.1 none in
     λ i. subst (λ (w : List S). AreSummed i w c.loop-pass.sums) whole (c.loop-pass.invariant.2 i)
