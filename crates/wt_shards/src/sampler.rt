@@ -1,15 +1,15 @@
 // Which of a caller's reads the policy hears of.
 //
 // A read is no step, so the policy doesn't hear of it. If it heard of none, a key that is only read
-// would leave as if nobody used it. So of the reads that find a value some are told to the policy,
-// each by a look. The first ones after a read that found nothing are told, since the cache then
-// holds less of what its caller needs. Of the others one in 16 is, by chance: so no rhythm of the
-// keys decides which.
+// would leave as if nobody used it. So a read makes a look behind some of its hits. The caller makes
+// one behind each of the first hits after a read that found nothing, since the cache then holds less
+// of what it needs. Of the other hits it chooses one in 16 by chance, so that no rhythm of the keys
+// decides which.
 
-// How many hits are told after a read that found nothing.
+// How many hits after a read that found nothing are followed by a look.
 const AFTER_MISS: u32 = 8;
 
-// The bits of a draw that are 0 if another hit is told: one in 2^4.
+// A look follows another hit if this many bits of a draw are 0: behind one in 2^4.
 const BITS: u32 = 4;
 
 // The step of the draws and the factor that mixes them: those of splitmix64.
@@ -20,7 +20,7 @@ const FACTOR: u64 = 0xBF58_476D_1CE4_E5B9;
 /// A caller's choice of the hits that the policy hears of.
 #[derive(Drop)]
 pub(crate) struct Sampler {
-    // How many of the next hits are told.
+    // How many of the next hits are followed by a look, whatever is drawn.
     due: u32,
     // The sum of the steps of all draws.
     draws: u64,
