@@ -1,5 +1,6 @@
 //! Calls on a key, as rows of a table or by chance.
 use crate::dice::Dice;
+use crate::fussy::Fussy;
 use crate::loaded::{Loaded, random_value};
 use wt_core::{Call, Land};
 
@@ -33,6 +34,26 @@ pub fn call_of(act: Do, key: u64, now: u64) -> Call<u64, Loaded> {
         Do::Forget => Call::Forget(key, now),
         Do::Clean => Call::Clean(now),
         Do::Slide(wider) => Call::Slide { wider, now },
+    }
+}
+
+/// A call whose shares are refused one after another. A put and a landing get their value anew at
+/// each try.
+#[derive(Clone, Copy)]
+pub enum Step {
+    Put,
+    Look,
+    Seek,
+    Land(u64),
+}
+
+/// Returns the call that makes the step on the key, with this value.
+pub fn call_with(step: Step, key: u64, value: Fussy, now: u64) -> Call<u64, Fussy> {
+    match step {
+        Step::Put => Call::Put(key, value, now),
+        Step::Look => Call::Look(key, now),
+        Step::Seek => Call::Seek(key, now),
+        Step::Land(id) => Call::Land(id, key, Land::Keep(value), now),
     }
 }
 

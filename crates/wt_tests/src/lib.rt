@@ -11,7 +11,7 @@ mod lists;
 mod loaded;
 mod said;
 
-pub use acts::{Do, call_of, choose};
+pub use acts::{Do, Step, call_of, call_with, choose};
 pub use dice::Dice;
 pub use fussy::{Fussy, counter};
 pub use gated::{Gate, Gated};

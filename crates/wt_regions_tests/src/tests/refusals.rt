@@ -11,6 +11,7 @@ use wt_keys::{Fault, NoMemory};
 use wt_regions::{Caps, Region};
 use wt_tests::{Fussy, counter};
 
+// A call of the regions, which know no loads.
 #[derive(Clone, Copy)]
 enum Step {
     Put,

@@ -12,30 +12,13 @@ use std::cell::Cell;
 use std::process::Abort;
 use std::rc::Rc;
 use std::test::Fail;
-use wt_core::{Call, Config, Land, Stats, Weighs};
+use wt_core::{Config, Stats, Weighs};
 use wt_keys::{Answers, Fault, Share};
 use wt_shards::{Names, Shade};
-use wt_tests::{Do, Fussy, Loaded, Said, call_of, counter, light};
-
-#[derive(Clone, Copy)]
-enum Step {
-    Put,
-    Look,
-    Seek,
-    Land(u64),
-}
+use wt_tests::{Do, Fussy, Loaded, Said, Step, call_of, call_with, counter, light};
 
 // A step on a key at a moment, with the number of shares that it asks for with ample memory.
 type Row = (Step, u64, u64, u32);
-
-fn call_with(step: Step, key: u64, value: Fussy, now: u64) -> Call<u64, Fussy> {
-    match step {
-        Step::Put => Call::Put(key, value, now),
-        Step::Look => Call::Look(key, now),
-        Step::Seek => Call::Seek(key, now),
-        Step::Land(id) => Call::Land(id, key, Land::Keep(value), now),
-    }
-}
 
 // The state after a refused step: the numbers, the steps, the caller's own, the notices.
 type Seen = (Stats, u64, (u64, u64), usize);
