@@ -31,38 +31,6 @@ enum Round {
     Stats,
 }
 
-// The calls on a key.
-#[derive(Clone, Copy)]
-enum Act {
-    Put,
-    Look,
-    Drop,
-    Seek,
-    Forget,
-    Land,
-}
-
-const ACTS: [Act; 6] = [
-    Act::Put,
-    Act::Look,
-    Act::Drop,
-    Act::Seek,
-    Act::Forget,
-    Act::Land,
-];
-
-// The call on a key, whose load has this number.
-fn call_of(act: Act, key: u64, id: u64) -> Call<u64, Gated> {
-    match act {
-        Act::Put => Call::Put(key, Gated::free(), 0),
-        Act::Look => Call::Look(key, 0),
-        Act::Drop => Call::DropKey(key, 0),
-        Act::Seek => Call::Seek(key, 0),
-        Act::Forget => Call::Forget(key, 0),
-        Act::Land => Call::Land(id, key, Land::Failed, 0),
-    }
-}
-
 // The shards, and a caller of them.
 type Gates<N> = Shards<u64, Gated, Of<N>>;
 
@@ -164,10 +132,13 @@ fn calls_all<N: Names, R: Wait + Abort>(
     caller: &mut Guest<N>,
     key: u64,
 ) -> Result<(), Fault> {
-    for act in ACTS {
-        let id = caller.led(key).unwrap_or(0);
-        let _answer = caller.make(rt, shards, call_of(act, key, id))?;
-    }
+    caller.make(rt, shards, Call::Put(key, Gated::free(), 0))?;
+    caller.make(rt, shards, Call::Look(key, 0))?;
+    caller.make(rt, shards, Call::DropKey(key, 0))?;
+    caller.make(rt, shards, Call::Seek(key, 0))?;
+    caller.make(rt, shards, Call::Forget(key, 0))?;
+    let id = caller.led(key).unwrap_or(0);
+    caller.make(rt, shards, Call::Land(id, key, Land::Failed, 0))?;
     Ok(())
 }
 
