@@ -77,6 +77,9 @@ fn show_line<K: TraceKey>(
 // Does the lines of the bytes, the first of which is line `first`, at all shards, up to the first
 // fault, and appends the lines of the report. Returns the fault of the line behind them, if it has
 // one.
+//
+// `read_lines` has the same loop, and keeps the lines. This one keeps none, so that a long trace
+// takes no memory for them.
 fn show_lines<K: TraceKey>(
     shards: &mut [Shard<K>],
     first: u64,

@@ -50,6 +50,7 @@ pub(crate) fn checked<K: TraceKey>(n: u64, bytes: &[u8]) -> Result<Line<K>, Repl
 }
 
 /// Reads the lines of the bytes, the first of which is line `first`.
+// `show_lines` of report.rt has the same loop: it does each line before it reads the next one.
 pub fn read_lines<K: TraceKey>(
     alloc: Global,
     first: u64,
