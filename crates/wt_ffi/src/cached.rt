@@ -52,6 +52,9 @@ impl<K: CacheKey> Cached<K> {
 }
 
 // Writes the answer of a step of the cache, and evaluates to the number that the call returns.
+//
+// `Core::take` turns an outcome into a reply in the same way (`answer_of!` of wt_core). The calls
+// of C don't go through it: a look, a put and a seek take fewer instructions as they are.
 macro_rules! answered {
     ($cache:expr, $answer:expr, $made:expr, $of:pat => $reply:expr) => {
         match $made {
