@@ -1,4 +1,7 @@
 // The calls of a shard but `seek`: one step each.
+//
+// The public ones are for a program that has one shard and no lock; tests and a benchmark of a
+// shard by itself make them. `Shards` makes the calls of its shards as data, by `step`.
 ghost use Rattle.std.specs.Prelude.{◌≡◌, [], IsOk, IsTrue, is_some, ◌≤◌, IfOk, false};
 ghost use Rattle.wt_core.specs.declared.calls.Call.TheVariants as call;
 ghost use Rattle.wt_core.specs.declared.calls.Reply.TheVariants as reply;
