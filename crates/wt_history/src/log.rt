@@ -66,17 +66,17 @@ impl<E> Log<E> {
     ///
     /// Returns `false` if the log has another length, and nothing changes. It never has, since its
     /// holder alone adds to it, but no clause says so. Takes no memory. O(1): one exchange of a word.
-    pub fn write(&mut self, mine: &Prefix<E>, asked: Asked<E>, at: u64) -> bool
-        requires one_log { mine.now.book ≡ self.old.book }
+    pub fn write(&mut self, prefix: &Prefix<E>, asked: Asked<E>, at: u64) -> bool
+        requires one_log { prefix.now.book ≡ self.old.book }
         requires at { at ≡ length self.old.entries }
         requires room { at < 2 ^ 62 }
         ensures same { self.new.book ≡ self.old.book }
         ensures state { IsTrue result → self.new.entries ≡ self.old.entries ++ asked ∷ [] }
-        ensures before { IsTrue result → IsPrefix mine.now.entries self.old.entries }
+        ensures before { IsTrue result → IsPrefix prefix.now.entries self.old.entries }
         ensures err { IsFalse result → self.new ≡ self.old }
     {
         let mut both = self.whole.again();
-        both.learn(mine);
+        both.learn(prefix);
         let added = both.add(&self.head, at, asked);
         if added {
             self.whole = both;
@@ -88,13 +88,13 @@ impl<E> Log<E> {
     /// only named, and isn't added.
     ///
     /// Returns `false` as `write` does. Takes no memory. O(1): one read of a word.
-    pub fn cover(&self, mine: &Prefix<E>, asked: Asked<E>, at: u64) -> bool
-        requires one_log { mine.now.book ≡ self.now.book }
+    pub fn cover(&self, prefix: &Prefix<E>, asked: Asked<E>, at: u64) -> bool
+        requires one_log { prefix.now.book ≡ self.now.book }
         requires at { at ≡ length self.now.entries }
-        ensures before { IsTrue result → IsPrefix mine.now.entries self.now.entries }
+        ensures before { IsTrue result → IsPrefix prefix.now.entries self.now.entries }
     {
         let mut both = self.whole.again();
-        both.learn(mine);
+        both.learn(prefix);
         both.observe(&self.head, asked) == at
     }
 }

@@ -14,7 +14,7 @@ use Rattle.wt_core.specs.Step.{step}
 use Rattle.wt_shards.specs.Brought.{IsFresh}
 use Rattle.wt_shards.specs.History.{IsMade, state_at}
 use Rattle.wt_shards.specs.Members.{Members}
-use Rattle.wt_shards.specs.Passes.{Mine, Seen, SeenAt, front_at}
+use Rattle.wt_shards.specs.Passes.{ShardPass, Seen, SeenAt, front_at}
 use Rattle.wt_shards.specs.Place.{Place}
 use Rattle.wt_shards.specs.Served.{IsBroughtYoung}
 use Rattle.wt_shards.specs.StateAt.{IsStateAt}
@@ -43,7 +43,7 @@ module _ {K V : Type 0} (members : Members K V) (p : Place) where
     pub replied : look_reply found ≡ (step members.eq members.word members.measure (state_at members p new) (Look k now)).reply
 
   -- what a peek at a shard behind its lock promises
-  pub record IsLockedPeek (k : K) (now : ℕ) (old new : Mine K V) (result : Result (Option V) Fault) : Type 0 where
+  pub record IsLockedPeek (k : K) (now : ℕ) (old new : ShardPass K V) (result : Result (Option V) Fault) : Type 0 where
     -- a look behind the history that the caller then has seen would be answered what is returned
     pub made : IfOk result (IsPeek k now old.front new.front)
     -- only memory is refused

@@ -56,10 +56,10 @@ impl<S: Ledger, H: Ledger> Closed<S, H> {
     }
 
     /// Shows that the caller made no more steps and hits than the books have.
-    pub fn audit(&self, mine: &mut Shares<S, H>)
-        ensures same { mine.new ≡ mine.old }
-        ensures within { (mine.old.steps ≤ self.now.steps) × (mine.old.hits ≤ self.now.hits) }
+    pub fn audit(&self, shares: &mut Shares<S, H>)
+        ensures same { shares.new ≡ shares.old }
+        ensures within { (shares.old.steps ≤ self.now.steps) × (shares.old.hits ≤ self.now.hits) }
     {
-        mine.audit(&self.steps, &self.hits);
+        shares.audit(&self.steps, &self.hits);
     }
 }

@@ -3,8 +3,8 @@ ghost use Rattle.std.specs.Prelude.{◌≡◌, IsTrue, IsFalse};
 ghost use Rattle.wt_shards.specs.Endings.{AddsTo, FallsShort, IsAddedTo};
 
 use crate::closed::Closed;
-use crate::mine::Mine;
 use crate::shard_ledger::ShardLedger;
+use crate::shard_pass::ShardPass;
 use std::marker::Model;
 use std::sync::ledger::Ledger;
 use wt_core::Call;
@@ -31,17 +31,17 @@ impl<K, V, S: ShardLedger, H: Ledger> Model for Ended<K, V, S, H> {
 
 impl<K, V, S: ShardLedger, H: Ledger> Ended<K, V, S, H> {
     // Adds what another caller made and saw at the shard.
-    pub(crate) fn absorb(&self, sum: &mut Mine<K, V, S, H>, more: Mine<K, V, S, H>)
+    pub(crate) fn absorb(&self, sum: &mut ShardPass<K, V, S, H>, more: ShardPass<K, V, S, H>)
         ensures added { IsAddedTo sum.old.counts more.counts sum.new.counts sum.old.front more.front
             sum.new.front }
     {
-        let Mine { shares, front } = more;
+        let ShardPass { shares, front } = more;
         self.closed.absorb(&mut sum.shares, shares);
         sum.front.learn(&front);
     }
 
     // Whether this is all that was made and seen at the shard.
-    pub(crate) fn is_all(&self, sum: &mut Mine<K, V, S, H>) -> bool
+    pub(crate) fn is_all(&self, sum: &mut ShardPass<K, V, S, H>) -> bool
         ensures adds { IsTrue result → AddsTo self.now sum.old.counts sum.old.front }
         ensures short { IsFalse result → FallsShort self.now sum.old.counts sum.old.front }
     {

@@ -4,9 +4,9 @@ ghost use mathlib.Core.List.{IsPrefix};
 ghost use Rattle.wt_shards.specs.Passes.{AreSeenIn, SeenMore, steps_in, hits_in, counts_of, front_of, shown_of};
 
 use crate::books::Books;
-use crate::mine::Mine;
 use crate::sampler::Sampler;
 use crate::shard_ledger::ShardLedger;
+use crate::shard_pass::ShardPass;
 use crate::sight::Sight;
 use std::marker::Model;
 use std::sync::ledger::Ledger;
@@ -21,10 +21,10 @@ use wt_history::Front;
 #[derive(Drop)]
 pub struct Pass<K, V, B: Books> {
     pub(crate) shards: usize,
-    pub(crate) zero: Option<Mine<K, V, B::S0, B::H0>>,
-    pub(crate) one: Option<Mine<K, V, B::S1, B::H1>>,
-    pub(crate) two: Option<Mine<K, V, B::S2, B::H2>>,
-    pub(crate) three: Option<Mine<K, V, B::S3, B::H3>>,
+    pub(crate) zero: Option<ShardPass<K, V, B::S0, B::H0>>,
+    pub(crate) one: Option<ShardPass<K, V, B::S1, B::H1>>,
+    pub(crate) two: Option<ShardPass<K, V, B::S2, B::H2>>,
+    pub(crate) three: Option<ShardPass<K, V, B::S3, B::H3>>,
     pub(crate) sampler: Sampler,
 }
 
@@ -121,53 +121,53 @@ impl<K, V, B: Books> Pass<K, V, B> {
 
 // What was seen of a shard, if there is one.
 fn seen_at<K, V, S: ShardLedger, H: Ledger>(
-    mine: &Option<Mine<K, V, S, H>>,
+    pass: &Option<ShardPass<K, V, S, H>>,
 ) -> Option<Front<Call<K, V>, S>>
-    ensures there { IsSome result ↔ IsSome mine.now }
-    ensures seen { shown_of result ≡ front_of mine.now }
+    ensures there { IsSome result ↔ IsSome pass.now }
+    ensures seen { shown_of result ≡ front_of pass.now }
 {
-    match mine {
+    match pass {
         None => None,
-        Some(mine) => Some(mine.front.again()),
+        Some(pass) => Some(pass.front.again()),
     }
 }
 
 // Takes over what is shown of a shard, if anything is.
 fn learn<K, V, S: ShardLedger, H: Ledger>(
-    mine: &mut Option<Mine<K, V, S, H>>,
+    pass: &mut Option<ShardPass<K, V, S, H>>,
     shown: &Option<Front<Call<K, V>, S>>,
 )
-    requires there { IsSome shown.now → IsSome mine.old }
-    ensures there { IsSome mine.new ↔ IsSome mine.old }
-    ensures same { counts_of mine.new ≡ counts_of mine.old }
-    ensures this { IsPrefix (front_of mine.old) (front_of mine.new) }
-    ensures that { IsPrefix (shown_of shown.now) (front_of mine.new) }
+    requires there { IsSome shown.now → IsSome pass.old }
+    ensures there { IsSome pass.new ↔ IsSome pass.old }
+    ensures same { counts_of pass.new ≡ counts_of pass.old }
+    ensures this { IsPrefix (front_of pass.old) (front_of pass.new) }
+    ensures that { IsPrefix (shown_of shown.now) (front_of pass.new) }
 {
     match shown {
         None => {}
-        Some(shown) => match mine {
+        Some(shown) => match pass {
             None => {}
-            Some(mine) => mine.front.learn(shown),
+            Some(pass) => pass.front.learn(shown),
         },
     }
 }
 
 // The steps at a shard, if there is one.
-fn steps_of<K, V, S: ShardLedger, H: Ledger>(mine: &Option<Mine<K, V, S, H>>) -> u64
-    ensures { result ≡ (counts_of mine.now).steps }
+fn steps_of<K, V, S: ShardLedger, H: Ledger>(pass: &Option<ShardPass<K, V, S, H>>) -> u64
+    ensures { result ≡ (counts_of pass.now).steps }
 {
-    match mine {
+    match pass {
         None => 0,
-        Some(mine) => mine.shares.steps(),
+        Some(pass) => pass.shares.steps(),
     }
 }
 
 // The hits at a shard, if there is one.
-fn hits_of<K, V, S: ShardLedger, H: Ledger>(mine: &Option<Mine<K, V, S, H>>) -> u64
-    ensures { result ≡ (counts_of mine.now).hits }
+fn hits_of<K, V, S: ShardLedger, H: Ledger>(pass: &Option<ShardPass<K, V, S, H>>) -> u64
+    ensures { result ≡ (counts_of pass.now).hits }
 {
-    match mine {
+    match pass {
         None => 0,
-        Some(mine) => mine.shares.hits(),
+        Some(pass) => pass.shares.hits(),
     }
 }

@@ -11,15 +11,15 @@ ghost use Rattle.wt_shards.specs.Contract.{IsLockedCall};
 ghost use Rattle.wt_shards.specs.Peeks.{FoundAnswers, IsLockedPeek};
 ghost use Rattle.wt_shards.specs.Members.{members_by};
 ghost use Rattle.wt_shards.specs.Outer.{IsOfKey};
-ghost use Rattle.wt_shards.specs.Passes.{new_mine};
+ghost use Rattle.wt_shards.specs.Passes.{new_shard_pass};
 ghost use Rattle.wt_shards.specs.Sought.{reply_of};
 ghost use Rattle.wt_shards.specs.Totals.{IsEnding};
 
 use crate::done::Done;
 use crate::ended::Ended;
-use crate::mine::Mine;
 use crate::shard::Shard;
 use crate::shard_ledger::ShardLedger;
+use crate::shard_pass::ShardPass;
 use crate::sought::Sought;
 use std::marker::Model;
 use std::sync::Wait;
@@ -51,14 +51,14 @@ impl<K: CacheKey, V: Share + Weighs + Answers<K>, S: ShardLedger, H: Ledger> Mod
 }
 
 impl<K: CacheKey, V: Share + Weighs + Answers<K>, S: ShardLedger, H: Ledger> Recorded<K, V, S, H> {
-    // A caller's part, of nothing yet.
-    pub(crate) fn mine(&mut self) -> Result<Mine<K, V, S, H>, Fault>
-        ensures ok { IfOk result (λ mine. mine ≡ new_mine) }
+    // Opens a caller's pass at this shard, of nothing yet.
+    pub(crate) fn open_pass(&mut self) -> Result<ShardPass<K, V, S, H>, Fault>
+        ensures ok { IfOk result (λ pass. pass ≡ new_shard_pass) }
         ensures spent { IfErr result (λ f. f ≡ fault.PassesSpent) }
     {
         let front = self.history.front();
         match self.shard.shares() {
-            Ok(shares) => Ok(Mine { shares, front }),
+            Ok(shares) => Ok(ShardPass { shares, front }),
             Err(fault) => Err(fault),
         }
     }
@@ -68,28 +68,28 @@ impl<K: CacheKey, V: Share + Weighs + Answers<K>, S: ShardLedger, H: Ledger> Rec
     pub(crate) fn step<R: Wait>(
         &mut self,
         rt: &R,
-        mine: &mut Mine<K, V, S, H>,
+        pass: &mut ShardPass<K, V, S, H>,
         call: Call<K, V>,
         notices: &mut Notices<K, V>,
     ) -> Result<Done<Reply<V>>, Fault>
         requires asked { MayAsk V.answers K.word S.ShardLedger.place call notices.old }
         requires plain { is_seek call ≡ false }
         ensures made { IsLockedCall (members_by K.eq K.word V.measure V.answers) S.ShardLedger.place
-            call (λ reply. reply) mine.old mine.new notices.old notices.new result }
+            call (λ reply. reply) pass.old pass.new notices.old notices.new result }
         ensures answers { IfOk result (λ done. AnswersAsked V.answers call done.reply) }
     {
         let step = self.shard.steps();
         let asked = self.history.ask(&call);
-        match self.shard.step(&mut mine.shares, call, notices) {
+        match self.shard.step(&mut pass.shares, call, notices) {
             Ok(reply) => {
-                self.history.write(rt, &mut mine.front, asked, step);
+                self.history.write(rt, &mut pass.front, asked, step);
                 return Ok(Done {
                     step: step + 1,
                     reply,
                 });
             }
             Err(fault) => {
-                self.history.show(rt, &mut mine.front);
+                self.history.show(rt, &mut pass.front);
                 return Err(fault);
             }
         }
@@ -100,7 +100,7 @@ impl<K: CacheKey, V: Share + Weighs + Answers<K>, S: ShardLedger, H: Ledger> Rec
     pub(crate) fn seek<R: Wait>(
         &mut self,
         rt: &R,
-        mine: &mut Mine<K, V, S, H>,
+        pass: &mut ShardPass<K, V, S, H>,
         key: K,
         now: u64,
         notices: &mut Notices<K, V>,
@@ -108,22 +108,22 @@ impl<K: CacheKey, V: Share + Weighs + Answers<K>, S: ShardLedger, H: Ledger> Rec
         requires asked { MayAsk V.answers K.word S.ShardLedger.place
             (call.Seek key now) notices.old }
         ensures made { IsLockedCall (members_by K.eq K.word V.measure V.answers) S.ShardLedger.place
-            (call.Seek key now) reply_of mine.old mine.new notices.old notices.new result }
+            (call.Seek key now) reply_of pass.old pass.new notices.old notices.new result }
         ensures answers { IfOk result (λ done. ReplyAnswers V.answers key (reply_of done.reply)) }
         ensures asked { IfOk result (λ done. IsOfKey key now done.reply) }
     {
         let step = self.shard.steps();
         let asked = self.history.ask(&Call::Seek(key, now));
-        match self.shard.seek(&mut mine.shares, key, now, notices) {
+        match self.shard.seek(&mut pass.shares, key, now, notices) {
             Ok(reply) => {
-                self.history.write(rt, &mut mine.front, asked, step);
+                self.history.write(rt, &mut pass.front, asked, step);
                 return Ok(Done {
                     step: step + 1,
                     reply,
                 });
             }
             Err(fault) => {
-                self.history.show(rt, &mut mine.front);
+                self.history.show(rt, &mut pass.front);
                 return Err(fault);
             }
         }
@@ -135,19 +135,19 @@ impl<K: CacheKey, V: Share + Weighs + Answers<K>, S: ShardLedger, H: Ledger> Rec
     pub(crate) fn peek<R: Wait>(
         &self,
         rt: &R,
-        mine: &mut Mine<K, V, S, H>,
+        pass: &mut ShardPass<K, V, S, H>,
         key: K,
         now: u64,
     ) -> Result<Option<V>, Fault>
         ensures made { IsLockedPeek (members_by K.eq K.word V.measure V.answers) S.ShardLedger.place
-            key now mine.old mine.new result }
+            key now pass.old pass.new result }
         ensures answers { IfOk result (FoundAnswers V.answers key) }
     {
         // For the prover: shows `lawful`.
         let _step = self.shard.steps();
         match self.shard.peek(key, now) {
             Ok(found) => {
-                self.history.show(rt, &mut mine.front);
+                self.history.show(rt, &mut pass.front);
                 return Ok(found);
             }
             Err(fault) => {

@@ -5,9 +5,9 @@ ghost use Rattle.wt_shards.specs.Passes.{counts_of, front_of, new_pass};
 
 use crate::books::Books;
 use crate::ended::Ended;
-use crate::mine::Mine;
 use crate::pass::Pass;
 use crate::shard_ledger::ShardLedger;
+use crate::shard_pass::ShardPass;
 use std::marker::Model;
 use std::sync::ledger::Ledger;
 
@@ -44,10 +44,10 @@ impl<K, V, B: Books> Model for Ends<K, V, B> {
 /// What callers made and saw at each shard, added up.
 #[derive(Drop)]
 pub(crate) struct Sums<K, V, B: Books> {
-    pub(crate) zero: Option<Mine<K, V, B::S0, B::H0>>,
-    pub(crate) one: Option<Mine<K, V, B::S1, B::H1>>,
-    pub(crate) two: Option<Mine<K, V, B::S2, B::H2>>,
-    pub(crate) three: Option<Mine<K, V, B::S3, B::H3>>,
+    pub(crate) zero: Option<ShardPass<K, V, B::S0, B::H0>>,
+    pub(crate) one: Option<ShardPass<K, V, B::S1, B::H1>>,
+    pub(crate) two: Option<ShardPass<K, V, B::S2, B::H2>>,
+    pub(crate) three: Option<ShardPass<K, V, B::S3, B::H3>>,
 }
 
 impl<K, V, B: Books> Model for Sums<K, V, B> {
@@ -69,8 +69,8 @@ impl<K, V, B: Books> Model for Sums<K, V, B> {
 #[tactic(auto, using(wt_history::proofs::Fronts::prefix_self, crate::proofs::Endings::prefix_none))]
 fn absorb_at<K, V, S: ShardLedger, H: Ledger>(
     ended: &Option<Ended<K, V, S, H>>,
-    sum: &mut Option<Mine<K, V, S, H>>,
-    more: Option<Mine<K, V, S, H>>,
+    sum: &mut Option<ShardPass<K, V, S, H>>,
+    more: Option<ShardPass<K, V, S, H>>,
 )
     requires there { IsSome more → IsSome ended.now }
     ensures added { IsAddedTo (counts_of sum.old) (counts_of more) (counts_of sum.new)

@@ -24,7 +24,7 @@ impl<K: CacheKey, V: Share + Weighs + Answers<K>, S: ShardLedger, H: Ledger> Sha
     #[inline(always)]
     pub(crate) fn step(
         &mut self,
-        mine: &mut Shares<S, H>,
+        shares: &mut Shares<S, H>,
         call: Call<K, V>,
         notices: &mut Notices<K, V>,
     ) -> Result<Reply<V>, Fault>
@@ -32,14 +32,14 @@ impl<K: CacheKey, V: Share + Weighs + Answers<K>, S: ShardLedger, H: Ledger> Sha
         requires plain { is_seek call ≡ false }
         ensures made { IsShardCall (members_by K.eq K.word V.measure V.answers) V.Share.is_copied
             S.ShardLedger.place.config.entries call (λ reply. reply) (λ _. [])
-            (owned self.old mine.old notices.old) (owned self.new mine.new notices.new) result }
+            (owned self.old shares.old notices.old) (owned self.new shares.new notices.new) result }
         ensures answers { IfOk result (AnswersAsked V.answers call) }
         // A landing of an open load has its place.
         ensures place { IsLanding K.eq self.old.core call
             → excess K.eq K.word V.measure call self.old ≡ 0 }
         ensures empty_succeeds { IsEmptyLanding K.eq self.old.core call → IsOk result }
     {
-        self.make(mine, call, None, notices)
+        self.make(shares, call, None, notices)
     }
 
     /// Looks the key up at the moment `now`, in milliseconds, and returns `Hit` with a share of its
@@ -50,7 +50,7 @@ impl<K: CacheKey, V: Share + Weighs + Answers<K>, S: ShardLedger, H: Ledger> Sha
     /// chooses the keys (see `Seeded`), and the cost of the dropped records.
     pub fn look(
         &mut self,
-        mine: &mut Shares<S, H>,
+        shares: &mut Shares<S, H>,
         key: K,
         now: u64,
         notices: &mut Notices<K, V>,
@@ -59,10 +59,10 @@ impl<K: CacheKey, V: Share + Weighs + Answers<K>, S: ShardLedger, H: Ledger> Sha
             (call.Look key now) notices.old }
         ensures made { IsShardCall (members_by K.eq K.word V.measure V.answers) V.Share.is_copied
             S.ShardLedger.place.config.entries (call.Look key now) (λ reply. reply) (λ _. [])
-            (owned self.old mine.old notices.old) (owned self.new mine.new notices.new) result }
+            (owned self.old shares.old notices.old) (owned self.new shares.new notices.new) result }
         ensures answers { IfOk result (λ reply. ReplyAnswers V.answers key reply) }
     {
-        self.step(mine, Call::Look(key, now), notices)
+        self.step(shares, Call::Look(key, now), notices)
     }
 
     /// Closes the load `id`, if it is open and of this key, and returns `Kept`, `Loose` or `Failed`
@@ -74,7 +74,7 @@ impl<K: CacheKey, V: Share + Weighs + Answers<K>, S: ShardLedger, H: Ledger> Sha
     /// and a move of the landings behind it, O(entries) if many leave.
     pub fn land(
         &mut self,
-        mine: &mut Shares<S, H>,
+        shares: &mut Shares<S, H>,
         id: u64,
         key: K,
         what: Land<V>,
@@ -85,15 +85,15 @@ impl<K: CacheKey, V: Share + Weighs + Answers<K>, S: ShardLedger, H: Ledger> Sha
             (call.Land id key what now) notices.old }
         ensures made { IsShardCall (members_by K.eq K.word V.measure V.answers) V.Share.is_copied
             S.ShardLedger.place.config.entries (call.Land id key what now) (λ reply. reply)
-            (λ _. []) (owned self.old mine.old notices.old) (owned self.new mine.new notices.new)
-            result }
+            (λ _. []) (owned self.old shares.old notices.old)
+            (owned self.new shares.new notices.new) result }
         // An open load drops no record.
         ensures place { IsTrue (is_some (row_of K.eq key id self.old.core.flights))
             → excess K.eq K.word V.measure (call.Land id key what now) self.old ≡ 0 }
         ensures empty_succeeds { IsEmpty what
             → IsTrue (is_some (row_of K.eq key id self.old.core.flights)) → IsOk result }
     {
-        self.step(mine, Call::Land(id, key, what, now), notices)
+        self.step(shares, Call::Land(id, key, what, now), notices)
     }
 
     /// Stores the value under the key, in place of one that is there.
@@ -103,7 +103,7 @@ impl<K: CacheKey, V: Share + Weighs + Answers<K>, S: ShardLedger, H: Ledger> Sha
     /// (see `Seeded`); O(entries) if many leave, and the cost of the dropped records.
     pub fn put(
         &mut self,
-        mine: &mut Shares<S, H>,
+        shares: &mut Shares<S, H>,
         key: K,
         value: V,
         now: u64,
@@ -113,10 +113,10 @@ impl<K: CacheKey, V: Share + Weighs + Answers<K>, S: ShardLedger, H: Ledger> Sha
             (call.Put key value now) notices.old }
         ensures made { IsShardCall (members_by K.eq K.word V.measure V.answers) V.Share.is_copied
             S.ShardLedger.place.config.entries (call.Put key value now) (λ _. reply.Stored)
-            (λ _. []) (owned self.old mine.old notices.old) (owned self.new mine.new notices.new)
-            result }
+            (λ _. []) (owned self.old shares.old notices.old)
+            (owned self.new shares.new notices.new) result }
     {
-        self.step(mine, Call::Put(key, value, now), notices)?;
+        self.step(shares, Call::Put(key, value, now), notices)?;
         Ok(())
     }
 
@@ -128,7 +128,7 @@ impl<K: CacheKey, V: Share + Weighs + Answers<K>, S: ShardLedger, H: Ledger> Sha
     /// of the dropped records.
     pub fn drop_key(
         &mut self,
-        mine: &mut Shares<S, H>,
+        shares: &mut Shares<S, H>,
         key: K,
         now: u64,
         notices: &mut Notices<K, V>,
@@ -137,9 +137,9 @@ impl<K: CacheKey, V: Share + Weighs + Answers<K>, S: ShardLedger, H: Ledger> Sha
             (call.DropKey key now) notices.old }
         ensures made { IsShardCall (members_by K.eq K.word V.measure V.answers) V.Share.is_copied
             S.ShardLedger.place.config.entries (call.DropKey key now) reply.Dropped (λ _. [])
-            (owned self.old mine.old notices.old) (owned self.new mine.new notices.new) result }
+            (owned self.old shares.old notices.old) (owned self.new shares.new notices.new) result }
     {
-        match self.step(mine, Call::DropKey(key, now), notices)? {
+        match self.step(shares, Call::DropKey(key, now), notices)? {
             Reply::Dropped(left) => Ok(left),
             _ => unreachable!(),
         }
@@ -151,16 +151,16 @@ impl<K: CacheKey, V: Share + Weighs + Answers<K>, S: ShardLedger, H: Ledger> Sha
     /// take memory. O(entries), and the cost of the dropped records.
     pub fn clear(
         &mut self,
-        mine: &mut Shares<S, H>,
+        shares: &mut Shares<S, H>,
         now: u64,
         notices: &mut Notices<K, V>,
     ) -> Result<(), Fault>
         requires room { S.ShardLedger.place.config.entries ≤ notices.old.room }
         ensures made { IsShardCall (members_by K.eq K.word V.measure V.answers) V.Share.is_copied
             S.ShardLedger.place.config.entries (call.Clear now) (λ _. reply.Cleared) (λ _. [])
-            (owned self.old mine.old notices.old) (owned self.new mine.new notices.new) result }
+            (owned self.old shares.old notices.old) (owned self.new shares.new notices.new) result }
     {
-        self.step(mine, Call::Clear(now), notices)?;
+        self.step(shares, Call::Clear(now), notices)?;
         Ok(())
     }
 
@@ -172,7 +172,7 @@ impl<K: CacheKey, V: Share + Weighs + Answers<K>, S: ShardLedger, H: Ledger> Sha
     /// of the dropped records.
     pub fn forget(
         &mut self,
-        mine: &mut Shares<S, H>,
+        shares: &mut Shares<S, H>,
         key: K,
         now: u64,
         notices: &mut Notices<K, V>,
@@ -181,9 +181,9 @@ impl<K: CacheKey, V: Share + Weighs + Answers<K>, S: ShardLedger, H: Ledger> Sha
             (call.Forget key now) notices.old }
         ensures made { IsShardCall (members_by K.eq K.word V.measure V.answers) V.Share.is_copied
             S.ShardLedger.place.config.entries (call.Forget key now) reply.Forgot (λ _. [])
-            (owned self.old mine.old notices.old) (owned self.new mine.new notices.new) result }
+            (owned self.old shares.old notices.old) (owned self.new shares.new notices.new) result }
     {
-        match self.step(mine, Call::Forget(key, now), notices)? {
+        match self.step(shares, Call::Forget(key, now), notices)? {
             Reply::Forgot(was) => Ok(was),
             _ => unreachable!(),
         }
@@ -195,16 +195,16 @@ impl<K: CacheKey, V: Share + Weighs + Answers<K>, S: ShardLedger, H: Ledger> Sha
     /// take memory. O(entries), and the cost of the dropped records.
     pub fn clean(
         &mut self,
-        mine: &mut Shares<S, H>,
+        shares: &mut Shares<S, H>,
         now: u64,
         notices: &mut Notices<K, V>,
     ) -> Result<(), Fault>
         requires room { S.ShardLedger.place.config.entries ≤ notices.old.room }
         ensures made { IsShardCall (members_by K.eq K.word V.measure V.answers) V.Share.is_copied
             S.ShardLedger.place.config.entries (call.Clean now) (λ _. reply.Cleaned) (λ _. [])
-            (owned self.old mine.old notices.old) (owned self.new mine.new notices.new) result }
+            (owned self.old shares.old notices.old) (owned self.new shares.new notices.new) result }
     {
-        self.step(mine, Call::Clean(now), notices)?;
+        self.step(shares, Call::Clean(now), notices)?;
         Ok(())
     }
 
@@ -216,7 +216,7 @@ impl<K: CacheKey, V: Share + Weighs + Answers<K>, S: ShardLedger, H: Ledger> Sha
     /// O(1), as there, and what the dropped records cost.
     pub fn slide(
         &mut self,
-        mine: &mut Shares<S, H>,
+        shares: &mut Shares<S, H>,
         wider: bool,
         now: u64,
         notices: &mut Notices<K, V>,
@@ -224,9 +224,9 @@ impl<K: CacheKey, V: Share + Weighs + Answers<K>, S: ShardLedger, H: Ledger> Sha
         requires room { S.ShardLedger.place.config.entries ≤ notices.old.room }
         ensures made { IsShardCall (members_by K.eq K.word V.measure V.answers) V.Share.is_copied
             S.ShardLedger.place.config.entries (call.Slide wider now) reply.Slid (λ _. [])
-            (owned self.old mine.old notices.old) (owned self.new mine.new notices.new) result }
+            (owned self.old shares.old notices.old) (owned self.new shares.new notices.new) result }
     {
-        match self.step(mine, Call::Slide { wider, now }, notices)? {
+        match self.step(shares, Call::Slide { wider, now }, notices)? {
             Reply::Slid(moved) => Ok(moved),
             _ => unreachable!(),
         }

@@ -31,7 +31,7 @@ impl<K: CacheKey, V: Share + Weighs + Answers<K>, S: ShardLedger, H: Ledger> Sha
     #[tactic(auto, using(crate::proofs::Told::told_none, crate::proofs::Seeks::free_foreseen))]
     pub fn seek(
         &mut self,
-        mine: &mut Shares<S, H>,
+        shares: &mut Shares<S, H>,
         key: K,
         now: u64,
         notices: &mut Notices<K, V>,
@@ -40,7 +40,7 @@ impl<K: CacheKey, V: Share + Weighs + Answers<K>, S: ShardLedger, H: Ledger> Sha
             (call.Seek key now) notices.old }
         ensures made { IsShardCall (members_by K.eq K.word V.measure V.answers) V.Share.is_copied
             S.ShardLedger.place.config.entries (call.Seek key now) reply_of opened_by
-            (owned self.old mine.old notices.old) (owned self.new mine.new notices.new) result }
+            (owned self.old shares.old notices.old) (owned self.new shares.new notices.new) result }
         ensures landings { IfOk result (IsOfLandings key now self.new.landings) }
         ensures answers { IfOk result (λ sought. ReplyAnswers V.answers key (reply_of sought)) }
     {
@@ -51,7 +51,7 @@ impl<K: CacheKey, V: Share + Weighs + Answers<K>, S: ShardLedger, H: Ledger> Sha
         };
         match met {
             Foreseen::Hit => {
-                let reply = self.make_allowed(mine, Call::Seek(key, now), rows, None, notices)?;
+                let reply = self.make_allowed(shares, Call::Seek(key, now), rows, None, notices)?;
                 let Reply::Hit(value) = reply else {
                     unreachable!()
                 };
@@ -65,7 +65,7 @@ impl<K: CacheKey, V: Share + Weighs + Answers<K>, S: ShardLedger, H: Ledger> Sha
                     self.stay(&Call::Seek(key, now));
                     return Err(Fault::NoMemory);
                 };
-                self.make_allowed(mine, Call::Seek(key, now), rows, None, notices)?;
+                self.make_allowed(shares, Call::Seek(key, now), rows, None, notices)?;
                 Ok(Sought::Join(ticket))
             }
             Foreseen::Lead(id) => {
@@ -73,7 +73,7 @@ impl<K: CacheKey, V: Share + Weighs + Answers<K>, S: ShardLedger, H: Ledger> Sha
                     self.stay(&Call::Seek(key, now));
                     return Err(Fault::NoMemory);
                 };
-                self.make_allowed(mine, Call::Seek(key, now), rows, Some(kept), notices)?;
+                self.make_allowed(shares, Call::Seek(key, now), rows, Some(kept), notices)?;
                 Ok(Sought::Lead(lead, ticket))
             }
             Foreseen::HitLead(id) => {
@@ -82,7 +82,7 @@ impl<K: CacheKey, V: Share + Weighs + Answers<K>, S: ShardLedger, H: Ledger> Sha
                     return Err(Fault::NoMemory);
                 };
                 let reply = self.make_allowed(
-                    mine,
+                    shares,
                     Call::Seek(key, now),
                     rows,
                     Some(kept),

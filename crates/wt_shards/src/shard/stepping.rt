@@ -31,7 +31,7 @@ impl<K: CacheKey, V: Share + Weighs + Answers<K>, S: ShardLedger, H: Ledger> Sha
     #[tactic(auto, using(crate::proofs::Told::told_none, crate::proofs::Loads::empty_takes_none))]
     pub(crate) fn make(
         &mut self,
-        mine: &mut Shares<S, H>,
+        shares: &mut Shares<S, H>,
         call: Call<K, V>,
         opened: Option<Kept<K, V>>,
         notices: &mut Notices<K, V>,
@@ -50,9 +50,9 @@ impl<K: CacheKey, V: Share + Weighs + Answers<K>, S: ShardLedger, H: Ledger> Sha
             ≡ (step K.eq K.word V.measure self.old.core call).reply) }
         ensures notices { OnOk result (notices.new
             ≡ appended (step K.eq K.word V.measure self.old.core call).notices notices.old) }
-        ensures moved { IfOk result (λ reply. mine.new ≡ counted (is_hit reply) mine.old) }
+        ensures moved { IfOk result (λ reply. shares.new ≡ counted (is_hit reply) shares.old) }
         ensures answers { IfOk result (AnswersAsked V.answers call) }
-        ensures later { OnOk result ((mine.old.steps ≤ self.old.core.step)
+        ensures later { OnOk result ((shares.old.steps ≤ self.old.core.step)
             × (self.new.core.step ≡ self.old.core.step + 1)) }
 
         ensures allowed { OnOk result (refusal_of K.eq K.word V.measure self.old.core call ≡ None) }
@@ -70,10 +70,10 @@ impl<K: CacheKey, V: Share + Weighs + Answers<K>, S: ShardLedger, H: Ledger> Sha
             → excess K.eq K.word V.measure call self.old ≡ 0 }
         ensures empty_succeeds { IsEmptyLanding K.eq self.old.core call → IsOk result }
         ensures err { OnErr result (IsCaughtUp K.eq K.word V.measure call self.old self.new
-            × (mine.new ≡ mine.old) × (notices.new ≡ notices.old)) }
+            × (shares.new ≡ shares.old) × (notices.new ≡ notices.old)) }
     {
         match self.core.open_after(&call) {
-            Ok(rows) => self.make_allowed(mine, call, rows, opened, notices),
+            Ok(rows) => self.make_allowed(shares, call, rows, opened, notices),
             Err(fault) => Err(fault),
         }
     }
@@ -83,7 +83,7 @@ impl<K: CacheKey, V: Share + Weighs + Answers<K>, S: ShardLedger, H: Ledger> Sha
     #[tactic(auto, using(crate::proofs::Told::told_none, crate::proofs::Loads::empty_takes_none))]
     pub(crate) fn make_allowed(
         &mut self,
-        mine: &mut Shares<S, H>,
+        shares: &mut Shares<S, H>,
         call: Call<K, V>,
         rows: usize,
         opened: Option<Kept<K, V>>,
@@ -105,9 +105,9 @@ impl<K: CacheKey, V: Share + Weighs + Answers<K>, S: ShardLedger, H: Ledger> Sha
             ≡ (step K.eq K.word V.measure self.old.core call).reply) }
         ensures notices { OnOk result (notices.new
             ≡ appended (step K.eq K.word V.measure self.old.core call).notices notices.old) }
-        ensures moved { IfOk result (λ reply. mine.new ≡ counted (is_hit reply) mine.old) }
+        ensures moved { IfOk result (λ reply. shares.new ≡ counted (is_hit reply) shares.old) }
         ensures answers { IfOk result (AnswersAsked V.answers call) }
-        ensures later { OnOk result ((mine.old.steps ≤ self.old.core.step)
+        ensures later { OnOk result ((shares.old.steps ≤ self.old.core.step)
             × (self.new.core.step ≡ self.old.core.step + 1)) }
 
         ensures memory { IsOkUnless result fault.NoMemory }
@@ -120,7 +120,7 @@ impl<K: CacheKey, V: Share + Weighs + Answers<K>, S: ShardLedger, H: Ledger> Sha
             → excess K.eq K.word V.measure call self.old ≡ 0 }
         ensures empty_succeeds { IsEmptyLanding K.eq self.old.core call → IsOk result }
         ensures err { OnErr result (IsCaughtUp K.eq K.word V.measure call self.old self.new
-            × (mine.new ≡ mine.old) × (notices.new ≡ notices.old)) }
+            × (shares.new ≡ shares.old) × (notices.new ≡ notices.old)) }
     {
         // For the prover: shows what holds of the shard at all times, how many loads are open after
         // the step, and how many notices it makes at most.
@@ -138,7 +138,7 @@ impl<K: CacheKey, V: Share + Weighs + Answers<K>, S: ShardLedger, H: Ledger> Sha
         let _stats = self.core.stats();
         change(&mut self.landings, &noted, opened);
         let _dropped = self.ring.push_back(noted);
-        mine.count(&mut self.steps, &mut self.hits, hits(&reply));
+        shares.count(&mut self.steps, &mut self.hits, hits(&reply));
         Ok(reply)
     }
 

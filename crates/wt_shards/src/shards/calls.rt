@@ -16,10 +16,10 @@ use crate::at_home::at_home;
 use crate::books::Books;
 use crate::done::Done;
 use crate::hold::hold;
-use crate::mine::Mine;
 use crate::pass::Pass;
 use crate::recorded::Recorded;
 use crate::shard_ledger::ShardLedger;
+use crate::shard_pass::ShardPass;
 use crate::shards::Shards;
 use crate::sought::Sought;
 use crate::sweep::Sweep;
@@ -35,17 +35,17 @@ use wt_keys::{CacheKey, Fault, shard_of};
 fn step_at<K: CacheKey, V: Value<K>, S: ShardLedger, H: Ledger, R: Wait>(
     rt: &R,
     shard: &Mutex<Recorded<K, V, S, H>>,
-    mine: &mut Mine<K, V, S, H>,
+    pass: &mut ShardPass<K, V, S, H>,
     call: Call<K, V>,
     notices: &mut Notices<K, V>,
 ) -> Result<Done<Reply<V>>, Fault>
     requires asked { MayAsk V.answers K.word S.ShardLedger.place call notices.old }
     requires plain { is_seek call ≡ false }
     ensures made { IsLockedCall (members_of K.CacheKey V.Value) S.ShardLedger.place call
-        (λ reply. reply) mine.old mine.new notices.old notices.new result }
+        (λ reply. reply) pass.old pass.new notices.old notices.new result }
     ensures answers { IfOk result (λ done. AnswersAsked V.answers call done.reply) }
 {
-    hold(rt, shard).step(rt, mine, call, notices)
+    hold(rt, shard).step(rt, pass, call, notices)
 }
 
 // One seek at one shard.
@@ -53,18 +53,18 @@ fn step_at<K: CacheKey, V: Value<K>, S: ShardLedger, H: Ledger, R: Wait>(
 fn seek_at<K: CacheKey, V: Value<K>, S: ShardLedger, H: Ledger, R: Wait>(
     rt: &R,
     shard: &Mutex<Recorded<K, V, S, H>>,
-    mine: &mut Mine<K, V, S, H>,
+    pass: &mut ShardPass<K, V, S, H>,
     key: K,
     now: u64,
     notices: &mut Notices<K, V>,
 ) -> Result<Done<Sought<K, V>>, Fault>
     requires asked { MayAsk V.answers K.word S.ShardLedger.place (call.Seek key now) notices.old }
     ensures made { IsLockedCall (members_of K.CacheKey V.Value) S.ShardLedger.place
-        (call.Seek key now) reply_of mine.old mine.new notices.old notices.new result }
+        (call.Seek key now) reply_of pass.old pass.new notices.old notices.new result }
     ensures answers { IfOk result (λ done. ReplyAnswers V.answers key (reply_of done.reply)) }
     ensures asked { IfOk result (λ done. IsOfKey key now done.reply) }
 {
-    hold(rt, shard).seek(rt, mine, key, now, notices)
+    hold(rt, shard).seek(rt, pass, key, now, notices)
 }
 
 impl<K: CacheKey, V: Value<K>, B: Books> Shards<K, V, B> {
@@ -89,7 +89,7 @@ impl<K: CacheKey, V: Value<K>, B: Books> Shards<K, V, B> {
             home,
             self,
             pass,
-            |shard, mine| step_at(rt, shard, mine, call, notices)
+            |shard, part| step_at(rt, shard, part, call, notices)
         )
     }
 
@@ -145,7 +145,7 @@ impl<K: CacheKey, V: Value<K>, B: Books> Shards<K, V, B> {
             home,
             self,
             pass,
-            |shard, mine| seek_at(rt, shard, mine, key, now, notices)
+            |shard, part| seek_at(rt, shard, part, key, now, notices)
         )
     }
 

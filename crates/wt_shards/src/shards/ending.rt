@@ -10,10 +10,10 @@ ghost use Rattle.wt_shards.specs.Totals.{AddUpBelow, AreEndings, AreTotals, IsEn
 use crate::books::Books;
 use crate::closed::Closed;
 use crate::ended::Ended;
-use crate::mine::Mine;
 use crate::pass::Pass;
 use crate::recorded::Recorded;
 use crate::shard_ledger::ShardLedger;
+use crate::shard_pass::ShardPass;
 use crate::shards::Shards;
 use crate::sums::{Ends, Sums};
 use crate::totals::Totals;
@@ -40,7 +40,7 @@ fn end_at<K: CacheKey, V: Value<K>, S: ShardLedger, H: Ledger>(
 #[tactic(auto, using(crate::proofs::Endings::prefix_none))]
 fn is_all<K, V, S: ShardLedger, H: Ledger>(
     ended: &Ended<K, V, S, H>,
-    all: Option<Mine<K, V, S, H>>,
+    all: Option<ShardPass<K, V, S, H>>,
 ) -> bool
     ensures adds { IsTrue result → AddsTo ended.now (counts_of all) (front_of all) }
     ensures short { IsFalse result → FallsShort ended.now (counts_of all) (front_of all) }
@@ -59,7 +59,7 @@ fn is_all<K, V, S: ShardLedger, H: Ledger>(
 // its history.
 fn settle_at<K, V, S: ShardLedger, H: Ledger>(
     ended: Option<Ended<K, V, S, H>>,
-    all: Option<Mine<K, V, S, H>>,
+    all: Option<ShardPass<K, V, S, H>>,
     number: u32,
 ) -> Result<Option<Closed<S, H>>, Fault>
     ensures there { IfOk result (λ closed. IsSome closed ↔ IsSome ended) }

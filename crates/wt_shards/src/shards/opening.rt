@@ -3,17 +3,17 @@ ghost use Rattle.std.specs.Prelude.{◌≡◌, ◌+◌, ◌<◌, ◌↔◌, [], 
 ghost use Rattle.wt_keys.specs.declared.fault.Fault.TheVariants as fault;
 ghost use Rattle.wt_shards.specs.Counts.{IsBlankOf, no_steps};
 ghost use Rattle.wt_shards.specs.Opening.{AreBlanks, ArePlacesOf, layout_fault};
-ghost use Rattle.wt_shards.specs.Passes.{counts_of, front_of, new_mine, new_pass};
+ghost use Rattle.wt_shards.specs.Passes.{counts_of, front_of, new_shard_pass, new_pass};
 ghost use Rattle.wt_shards.specs.Place.{place_of};
 
 use crate::books::{Blanks, Books};
 use crate::hold::hold;
-use crate::mine::Mine;
 use crate::pass::Pass;
 use crate::recorded::Recorded;
 use crate::sampler::Sampler;
 use crate::shard::Shard;
 use crate::shard_ledger::ShardLedger;
+use crate::shard_pass::ShardPass;
 use crate::shards::Shards;
 use crate::value::Value;
 use std::alloc::Global;
@@ -66,37 +66,37 @@ fn locked<K: CacheKey, V: Value<K>, S: ShardLedger, H: Ledger>(
     }
 }
 
-// A new caller's part at one shard: no counts, and an empty front.
-fn mine_of<K: CacheKey, V: Value<K>, S: ShardLedger, H: Ledger, R: Wait>(
+// Opens a new caller's pass at one shard: no counts, and an empty front.
+fn open_pass_of<K: CacheKey, V: Value<K>, S: ShardLedger, H: Ledger, R: Wait>(
     rt: &R,
     shard: &Mutex<Recorded<K, V, S, H>>,
-) -> Result<Mine<K, V, S, H>, Fault>
-    ensures ok { IfOk result (λ mine. mine ≡ new_mine) }
+) -> Result<ShardPass<K, V, S, H>, Fault>
+    ensures ok { IfOk result (λ pass. pass ≡ new_shard_pass) }
     ensures spent { IfErr result (λ f. f ≡ fault.PassesSpent) }
 {
-    hold(rt, shard).mine()
+    hold(rt, shard).open_pass()
 }
 
-// A caller's part at one shard, if there is one.
-fn mine_at<K: CacheKey, V: Value<K>, S: ShardLedger, H: Ledger, R: Wait>(
+// Opens a caller's pass at one shard, if there is one.
+fn open_pass_at<K: CacheKey, V: Value<K>, S: ShardLedger, H: Ledger, R: Wait>(
     rt: &R,
     shard: &Option<Mutex<Recorded<K, V, S, H>>>,
-) -> Result<Option<Mine<K, V, S, H>>, Fault>
-    ensures there { IfOk result (λ mine. IsSome mine ↔ IsSome shard.now) }
-    ensures counts { IfOk result (λ mine. counts_of mine ≡ no_steps) }
-    ensures front { IfOk result (λ mine. front_of mine ≡ []) }
+) -> Result<Option<ShardPass<K, V, S, H>>, Fault>
+    ensures there { IfOk result (λ pass. IsSome pass ↔ IsSome shard.now) }
+    ensures counts { IfOk result (λ pass. counts_of pass ≡ no_steps) }
+    ensures front { IfOk result (λ pass. front_of pass ≡ []) }
     ensures spent { IfErr result (λ f. f ≡ fault.PassesSpent) }
 {
     let Some(shard) = shard else {
         return Ok(None);
     };
-    let mine = mine_of(rt, shard)?;
-    Ok(Some(mine))
+    let pass = open_pass_of(rt, shard)?;
+    Ok(Some(pass))
 }
 
-// A caller's parts at two shards. So `Shards::pass` has two exits in place of four, and each of
-// them drops less.
-fn mine_at_two<
+// Opens a caller's passes at two shards. So `Shards::pass` has two exits in place of four, and
+// each of them drops less.
+fn open_passes_at<
     K: CacheKey,
     V: Value<K>,
     S: ShardLedger,
@@ -108,16 +108,16 @@ fn mine_at_two<
     rt: &R,
     one: &Option<Mutex<Recorded<K, V, S, H>>>,
     two: &Option<Mutex<Recorded<K, V, T, I>>>,
-) -> Result<(Option<Mine<K, V, S, H>>, Option<Mine<K, V, T, I>>), Fault>
-    ensures there { IfOk result (λ mine. (IsSome mine.0 ↔ IsSome one.now)
-        × (IsSome mine.1 ↔ IsSome two.now)) }
-    ensures counts { IfOk result (λ mine. (counts_of mine.0 ≡ no_steps)
-        × (counts_of mine.1 ≡ no_steps)) }
-    ensures front { IfOk result (λ mine. (front_of mine.0 ≡ []) × (front_of mine.1 ≡ [])) }
+) -> Result<(Option<ShardPass<K, V, S, H>>, Option<ShardPass<K, V, T, I>>), Fault>
+    ensures there { IfOk result (λ pass. (IsSome pass.0 ↔ IsSome one.now)
+        × (IsSome pass.1 ↔ IsSome two.now)) }
+    ensures counts { IfOk result (λ pass. (counts_of pass.0 ≡ no_steps)
+        × (counts_of pass.1 ≡ no_steps)) }
+    ensures front { IfOk result (λ pass. (front_of pass.0 ≡ []) × (front_of pass.1 ≡ [])) }
     ensures spent { IfErr result (λ f. f ≡ fault.PassesSpent) }
 {
-    let one = mine_at(rt, one)?;
-    let two = mine_at(rt, two)?;
+    let one = open_pass_at(rt, one)?;
+    let two = open_pass_at(rt, two)?;
     Ok((one, two))
 }
 
@@ -187,8 +187,8 @@ impl<K: CacheKey, V: Value<K>, B: Books> Shards<K, V, B> {
         ensures ok { IfOk result (λ pass. pass ≡ new_pass self.now.shards) }
         ensures spent { IfErr result (λ f. f ≡ fault.PassesSpent) }
     {
-        let (zero, one) = mine_at_two(rt, &self.zero, &self.one)?;
-        let (two, three) = mine_at_two(rt, &self.two, &self.three)?;
+        let (zero, one) = open_passes_at(rt, &self.zero, &self.one)?;
+        let (two, three) = open_passes_at(rt, &self.two, &self.three)?;
         Ok(Pass {
             shards: self.shards,
             zero,

@@ -10,10 +10,10 @@ ghost use Rattle.wt_shards.specs.Tells.{IsHomeRead, IsTold};
 use crate::at_home::at_home;
 use crate::books::Books;
 use crate::hold::hold;
-use crate::mine::Mine;
 use crate::pass::Pass;
 use crate::recorded::Recorded;
 use crate::shard_ledger::ShardLedger;
+use crate::shard_pass::ShardPass;
 use crate::shards::Shards;
 use crate::value::Value;
 use std::sync::ledger::Ledger;
@@ -43,15 +43,15 @@ fn stats_at<K: CacheKey, V: Value<K>, S: ShardLedger, H: Ledger, R: Wait>(
 fn peek_at<K: CacheKey, V: Value<K>, S: ShardLedger, H: Ledger, R: Wait>(
     rt: &R,
     shard: &Mutex<Recorded<K, V, S, H>>,
-    mine: &mut Mine<K, V, S, H>,
+    pass: &mut ShardPass<K, V, S, H>,
     key: K,
     now: u64,
 ) -> Result<Option<V>, Fault>
     ensures made { IsLockedPeek (members_of K.CacheKey V.Value) S.ShardLedger.place key now
-        mine.old mine.new result }
+        pass.old pass.new result }
     ensures answers { IfOk result (FoundAnswers V.answers key) }
 {
-    hold(rt, shard).peek(rt, mine, key, now)
+    hold(rt, shard).peek(rt, pass, key, now)
 }
 
 impl<K: CacheKey, V: Value<K>, B: Books> Shards<K, V, B> {
@@ -93,7 +93,7 @@ impl<K: CacheKey, V: Value<K>, B: Books> Shards<K, V, B> {
             home,
             self,
             pass,
-            |shard, mine| peek_at(rt, shard, mine, key, now)
+            |shard, part| peek_at(rt, shard, part, key, now)
         )
     }
 

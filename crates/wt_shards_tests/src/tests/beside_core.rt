@@ -42,7 +42,7 @@ fn expect_same<N: Names>(rt: &impl Abort, run: &Run<Loaded, N>, plain: &Plain<Lo
     same(
         rt,
         "the caller's steps and hits",
-        run.mine(),
+        run.counts(),
         (steps, stats.hits),
     );
     let (dropped, kept) = run.records();

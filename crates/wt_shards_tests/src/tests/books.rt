@@ -34,7 +34,7 @@ fn spend_shares<N: Names>(rt: &impl Abort, run: &mut Run<Loaded, N>) {
             run.make(call_of(act, key, 0)).is_ok(),
         );
     }
-    same(rt, "the caller's steps and hits", run.mine(), (3, 1));
+    same(rt, "the caller's steps and hits", run.counts(), (3, 1));
     same(
         rt,
         "the fault after the steps",

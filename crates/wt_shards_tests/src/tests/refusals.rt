@@ -31,7 +31,7 @@ fn seen<V: Share + Weighs + Answers<u64>, N: Names>(rt: &impl Abort, run: &Run<V
         dropped.wrapping_add(kept as u64),
         run.steps(),
     );
-    (run.stats(), run.steps(), run.mine(), run.told().len())
+    (run.stats(), run.steps(), run.counts(), run.told().len())
 }
 
 // Entries 5, window 1: main 4, protected 3. Values are due 20 ms after they were written, and

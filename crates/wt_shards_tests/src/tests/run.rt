@@ -14,7 +14,7 @@ use wt_shards::{Blanks, Hits, Names, Noted, Shard, Shares, Sought, Steps};
 #[derive(Drop)]
 pub struct Run<V: Share + Weighs + Answers<u64>, N: Names> {
     shard: Shard<u64, V, Steps<N, 0>, Hits<N, 0>>,
-    mine: Shares<Steps<N, 0>, Hits<N, 0>>,
+    shares: Shares<Steps<N, 0>, Hits<N, 0>>,
     notices: Notices<u64, V>,
 }
 
@@ -46,8 +46,8 @@ fn opened<V: Share + Weighs + Answers<u64>, N: Names>(
 {
     let Blanks { s0, h0, .. } = blanks;
     let mut shard = Shard::new(alloc, config, 0, 1, s0, h0)?;
-    let mine = shard.shares()?;
-    Ok((shard, mine))
+    let shares = shard.shares()?;
+    Ok((shard, shares))
 }
 
 impl<V: Share + Weighs + Answers<u64>, N: Names> Run<V, N> {
@@ -57,10 +57,10 @@ impl<V: Share + Weighs + Answers<u64>, N: Names> Run<V, N> {
         requires answers { (v : V) (k : ℕ) → IsTrue (V.answers v k) }
     {
         let notices = Notices::new(alloc, config.entries as usize)?;
-        let (shard, mine) = opened(alloc, config, blanks)?;
+        let (shard, shares) = opened(alloc, config, blanks)?;
         Ok(Run {
             shard,
-            mine,
+            shares,
             notices,
         })
     }
@@ -71,57 +71,59 @@ impl<V: Share + Weighs + Answers<u64>, N: Names> Run<V, N> {
         // Each key is the only shard's.
         let _home = shard_of(key, 1);
         self.notices.empty();
-        self.shard.look(&mut self.mine, key, now, &mut self.notices)
+        self.shard
+            .look(&mut self.shares, key, now, &mut self.notices)
     }
 
     pub fn seek(&mut self, key: u64, now: u64) -> Result<Sought<u64, V>, Fault> {
         let _home = shard_of(key, 1);
         self.notices.empty();
-        self.shard.seek(&mut self.mine, key, now, &mut self.notices)
+        self.shard
+            .seek(&mut self.shares, key, now, &mut self.notices)
     }
 
     pub fn land(&mut self, id: u64, key: u64, what: Land<V>, now: u64) -> Result<Reply<V>, Fault> {
         let _home = shard_of(key, 1);
         self.notices.empty();
         self.shard
-            .land(&mut self.mine, id, key, what, now, &mut self.notices)
+            .land(&mut self.shares, id, key, what, now, &mut self.notices)
     }
 
     pub fn put(&mut self, key: u64, value: V, now: u64) -> Result<(), Fault> {
         let _home = shard_of(key, 1);
         self.notices.empty();
         self.shard
-            .put(&mut self.mine, key, value, now, &mut self.notices)
+            .put(&mut self.shares, key, value, now, &mut self.notices)
     }
 
     pub fn drop_key(&mut self, key: u64, now: u64) -> Result<bool, Fault> {
         let _home = shard_of(key, 1);
         self.notices.empty();
         self.shard
-            .drop_key(&mut self.mine, key, now, &mut self.notices)
+            .drop_key(&mut self.shares, key, now, &mut self.notices)
     }
 
     pub fn clear(&mut self, now: u64) -> Result<(), Fault> {
         self.notices.empty();
-        self.shard.clear(&mut self.mine, now, &mut self.notices)
+        self.shard.clear(&mut self.shares, now, &mut self.notices)
     }
 
     pub fn forget(&mut self, key: u64, now: u64) -> Result<bool, Fault> {
         let _home = shard_of(key, 1);
         self.notices.empty();
         self.shard
-            .forget(&mut self.mine, key, now, &mut self.notices)
+            .forget(&mut self.shares, key, now, &mut self.notices)
     }
 
     pub fn clean(&mut self, now: u64) -> Result<(), Fault> {
         self.notices.empty();
-        self.shard.clean(&mut self.mine, now, &mut self.notices)
+        self.shard.clean(&mut self.shares, now, &mut self.notices)
     }
 
     pub fn slide(&mut self, wider: bool, now: u64) -> Result<bool, Fault> {
         self.notices.empty();
         self.shard
-            .slide(&mut self.mine, wider, now, &mut self.notices)
+            .slide(&mut self.shares, wider, now, &mut self.notices)
     }
 
     // A call as data. The lead and the ticket of a seek are dropped.
@@ -172,8 +174,8 @@ impl<V: Share + Weighs + Answers<u64>, N: Names> Run<V, N> {
     }
 
     // The caller's steps and hits.
-    pub fn mine(&self) -> (u64, u64) {
-        (self.mine.steps(), self.mine.hits())
+    pub fn counts(&self) -> (u64, u64) {
+        (self.shares.steps(), self.shares.hits())
     }
 
     // How many records were dropped, and how many are kept.

@@ -11,8 +11,8 @@ returns-clause-this g c =
     let K = g.row.K.Denot in
     let V = g.row.V.Denot in
     let fronts : List (List (Call K V)) =
-    front_of c.learn.new.mine ∷ front_of c.learn-2.new.mine ∷ front_of c.learn-3.new.mine ∷ front_of
-    c.learn-4.new.mine ∷ [] in
+    front_of c.learn.new.pass ∷ front_of c.learn-2.new.pass ∷ front_of c.learn-3.new.pass ∷ front_of
+    c.learn-4.new.pass ∷ [] in
     λ i. subst (λ (s : Seen K V). IsPrefix (front_at i s) (slice_index_or fronts i [])) c.self.view_is
     (four-grew _ _ _ _ _ _ _ _ c.learn.ensures.this c.learn-2.ensures.this c.learn-3.ensures.this c.learn-4.ensures.this i)
 
@@ -21,7 +21,7 @@ returns-clause-that g c =
     let K = g.row.K.Denot in
     let V = g.row.V.Denot in
     let fronts : List (List (Call K V)) =
-    front_of c.learn.new.mine ∷ front_of c.learn-2.new.mine ∷ front_of c.learn-3.new.mine ∷ front_of
-    c.learn-4.new.mine ∷ [] in
+    front_of c.learn.new.pass ∷ front_of c.learn-2.new.pass ∷ front_of c.learn-3.new.pass ∷ front_of
+    c.learn-4.new.pass ∷ [] in
     λ i. subst (λ (s : List (List (Call K V))). IsPrefix (slice_index_or s i []) (slice_index_or fronts i [])) c.sight.view_is
     (four-grew _ _ _ _ _ _ _ _ c.learn.ensures.that c.learn-2.ensures.that c.learn-3.ensures.that c.learn-4.ensures.that i)

@@ -5,7 +5,7 @@ use Rattle.wt_core.specs.Step.{refusal_of}
 use Rattle.wt_shards.specs.Audited.{Audited}
 use mathlib.Core.List.{IsPrefix}
 use Rattle.wt_shards.specs.History.{state_after}
-use Rattle.wt_shards.specs.Passes.{Mine}
+use Rattle.wt_shards.specs.Passes.{ShardPass}
 use Rattle.wt_shards.proofs.Histories.{cause-of, made-behind, recorded-after, refused-behind}
 use Rattle.wt_shards.proofs.recorded.Recorded.seek.Goals as goal
 
@@ -34,9 +34,9 @@ returns-in-Ok-clause-made g c =
     let call : Call K V = Seek c.args.key c.args.now in
     let calls : List (Call K V) = c.self.inside.history in
     let made = c.in-Ok.ensures.made in
-    let grown : c.write.new.mine ≡ calls ++ call ∷ [] = c.write.ensures.seen ∙ c.write.ensures.state
+    let grown : c.write.new.front ≡ calls ++ call ∷ [] = c.write.ensures.seen ∙ c.write.ensures.state
     ∙ ap (λ (e : Call K V). calls ++ e ∷ []) c.ask-asked.ensures in
-    let before = subst (λ (w : List (Call K V)). IsPrefix w calls) (ap (λ (m : Mine K V). m.front) c.mine.view_is) c.write.ensures.before in
+    let before = subst (λ (w : List (Call K V)). IsPrefix w calls) (ap (λ (m : ShardPass K V). m.front) c.pass.view_is) c.write.ensures.before in
     record {
       moved = search rules;
       later = search rules;
@@ -57,7 +57,7 @@ returns-in-Err-clause-made g c =
     let call : Call K V = Seek c.args.key c.args.now in
     let calls : List (Call K V) = c.self.inside.history in
     let made = c.in-Err.ensures.made in
-    let before = subst (λ (w : List (Call K V)). IsPrefix w calls) (ap (λ (m : Mine K V). m.front) c.mine.view_is) c.show.ensures.before in
+    let before = subst (λ (w : List (Call K V)). IsPrefix w calls) (ap (λ (m : ShardPass K V). m.front) c.pass.view_is) c.show.ensures.before in
     record {
       moved = tt;
       later = tt;
@@ -70,5 +70,5 @@ returns-in-Err-clause-made g c =
           (refusal_of g.K.PartialEq.eq g.K.CacheKey.word g.V.Weighs.measure c.self.inside.shard.core call)
           c.in-Err.fault made.refusal) (λ empty. empty);
       told = made.told;
-      err = (made.err.1 ∙ ap (λ (m : Mine K V). m.counts) c.mine.view_is, made.err.2);
+      err = (made.err.1 ∙ ap (λ (m : ShardPass K V). m.counts) c.pass.view_is, made.err.2);
     }
