@@ -14,7 +14,7 @@ ghost use Rattle.wt_regions.specs.Lists.{all_entries, has_at, region_of, weight_
 ghost use Rattle.wt_core.specs.Contract.{RepliesBy};
 ghost use Rattle.wt_core.specs.Peeks.{look_reply};
 ghost use Rattle.wt_core.specs.declared.calls.Call.TheVariants.{Look};
-ghost use Rattle.wt_flights.specs.Rows.{row, row_of, first_of};
+ghost use Rattle.wt_flights.specs.Rows.{row, row_of, oldest_load};
 
 use crate::config::Config;
 use crate::stats::{Counts, Stats};
@@ -242,10 +242,10 @@ impl<K: CacheKey, V: Share + Weighs> Core<K, V> {
     /// Returns the id of the key's oldest open load, current or not, if it has one.
     ///
     /// Takes no memory. O(open loads).
-    pub fn first_of(&self, key: K) -> Option<u64>
-        ensures { result ≡ option_map (λ r. r.id) (first_of K.eq key self.now.flights) }
+    pub fn oldest_load(&self, key: K) -> Option<u64>
+        ensures { result ≡ option_map (λ r. r.id) (oldest_load K.eq key self.now.flights) }
     {
-        self.flights.first_of(key)
+        self.flights.oldest_load(key)
     }
 
     /// Returns the keys of a region in a new list, the most recent first.

@@ -14,7 +14,7 @@ use Rattle.std.proofs.lemmas.List.Quantifiers.{all_pairs_push}
 use Rattle.wt_flights.specs.declared.row.Row.{Row}
 use Rattle.wt_flights.specs.Lawful.{IsLawful}
 use Rattle.wt_flights.specs.Newest.{with_newest, settled, beside, IsBeside}
-use Rattle.wt_flights.specs.Rows.{Flights, row, is_current, current_row, first_of, one_more, not_current, joined, forgotten, landed, taken_back, CanTakeBack}
+use Rattle.wt_flights.specs.Rows.{Flights, row, is_current, current_row, oldest_load, one_more, not_current, joined, forgotten, landed, taken_back, CanTakeBack}
 use Rattle.wt_flights.proofs.Lookups.{flag, both}
 use Rattle.wt_flights.proofs.TakesBack.{some_and}
 use Rattle.wt_flights.proofs.WithNewest.{nothing_mapped, All-find_none, find_fails, find-map_none, find-filter_none}
@@ -152,11 +152,11 @@ module _ {K : Type 0} where
     current_row-beside_older newest next older none = find-with_newest_fails (is_current eq key) newest older.rows none
 
     -- the key's oldest load, of the older ones or the newest
-    pub first_of-beside : (newest : Option (Row K)) (next : ℕ) (older : Flights K)
-        → option_map (λ r. r.id) (first_of eq key (beside newest next older))
-        ≡ option_or (option_map (λ r. r.id) (first_of eq key older))
+    pub oldest_load-beside : (newest : Option (Row K)) (next : ℕ) (older : Flights K)
+        → option_map (λ r. r.id) (oldest_load eq key (beside newest next older))
+        ≡ option_or (option_map (λ r. r.id) (oldest_load eq key older))
         (option_map (λ r. r.id) (find (λ r. eq key r.key) (option_to_list newest)))
-    first_of-beside newest next older = option_map-find_with_newest (λ r. eq key r.key) (λ r. r.id) newest older.rows
+    oldest_load-beside newest next older = option_map-find_with_newest (λ r. eq key r.key) (λ r. r.id) newest older.rows
 
     module _ (same : (a b : K) → eq a b ≡ true → a ≡ b) where
       -- where the newest load is the key's current one, none of the older ones is

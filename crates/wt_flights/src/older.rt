@@ -14,7 +14,7 @@ ghost use Rattle.std.specs.HashMap.{get, hash_map_len};
 ghost use Rattle.std.specs.Option.{option_map, is_some};
 ghost use Rattle.wt_flights.specs.Lawful.{IsLawful};
 ghost use Rattle.wt_flights.specs.Newest.{IsNewest};
-ghost use Rattle.wt_flights.specs.Rows.{Flights, no_flights, begun, adopted, row, landed, taken_back, forgotten_all, current_row, current_of, joined, forgotten, first_of, CanTakeBack};
+ghost use Rattle.wt_flights.specs.Rows.{Flights, no_flights, begun, adopted, row, landed, taken_back, forgotten_all, current_row, current_of, joined, forgotten, oldest_load, CanTakeBack};
 ghost use Rattle.wt_flights.specs.Tables.{IsSound, rows_of};
 
 use crate::row::{Open, Row};
@@ -106,8 +106,8 @@ impl<K: CacheKey> Older<K> {
     }
 
     // Returns the id of the key's oldest load here, current or not. O(loads).
-    pub(crate) fn first_of(&self, key: K) -> Option<u64>
-        ensures { result ≡ option_map (λ r. r.id) (first_of K.eq key self.now) }
+    pub(crate) fn oldest_load(&self, key: K) -> Option<u64>
+        ensures { result ≡ option_map (λ r. r.id) (oldest_load K.eq key self.now) }
     {
         let mut least = None;
         for (id, open) in self.by_id.iter() {

@@ -4,7 +4,7 @@ use Rattle.std.specs.Prelude.{codes, nat_lt, if◌then◌else◌}
 use Rattle.std.specs.Option.{option_map_or}
 use Rattle.wt_regions.specs.Lists.{lasting}
 use Rattle.wt_flights.specs.declared.row.Row.{Row}
-use Rattle.wt_flights.specs.Rows.{first_of}
+use Rattle.wt_flights.specs.Rows.{oldest_load}
 use Rattle.wt_core.specs.declared.calls.Call.{Call}
 use Rattle.wt_core.specs.declared.calls.Call.TheVariants as call
 use Rattle.wt_core.specs.declared.calls.Reply.{Reply}
@@ -63,7 +63,7 @@ module _ {K : Type 0} (keys : Keys K) (o : Options) where
   act-ran shard n moment (act.Put k) s = refl
   act-ran shard n moment (act.Seek k) s = refl
   act-ran shard n moment (act.Get k) s = get-ran n moment k (take keys s (call.Seek k moment)).reply (take keys s (call.Seek k moment))
-  act-ran shard n moment (act.Land k) s = land-ran shard n moment k s (first_of keys.eq k s.flights)
+  act-ran shard n moment (act.Land k) s = land-ran shard n moment k s (oldest_load keys.eq k s.flights)
   act-ran shard n moment (act.Drop k) s = refl
   act-ran shard n moment (act.Forget k) s = refl
   act-ran shard n moment act.Clean s = refl

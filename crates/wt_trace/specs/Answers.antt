@@ -4,7 +4,7 @@ use Rattle.std.specs.Option.{option_map_or}
 use Rattle.wt_keys.specs.Hash.{shard_of}
 use Rattle.wt_regions.specs.Lists.{lasting}
 use Rattle.wt_regions.specs.declared.notices.Notice.{Notice}
-use Rattle.wt_flights.specs.Rows.{first_of}
+use Rattle.wt_flights.specs.Rows.{oldest_load}
 use Rattle.wt_core.specs.declared.calls.Call.{Call}
 use Rattle.wt_core.specs.declared.calls.Call.TheVariants as call
 use Rattle.wt_core.specs.declared.calls.Land.{Land}
@@ -110,7 +110,7 @@ module _ {K : Type 0} (keys : Keys K) (o : Options) where
   act_step shard n moment (act.Put k) s = one_call keys shard s (call.Put k (version n k) moment)
   act_step shard n moment (act.Seek k) s = one_call keys shard s (call.Seek k moment)
   act_step shard n moment (act.Get k) s = let m = take keys s (call.Seek k moment) in fetched n moment k m.reply m
-  act_step shard n moment (act.Land k) s = option_map_or (λ row. one_call keys shard s (landing_of row.id n k moment)) (first_of keys.eq k s.flights) (shown keys (codes " none") [] s)
+  act_step shard n moment (act.Land k) s = option_map_or (λ row. one_call keys shard s (landing_of row.id n k moment)) (oldest_load keys.eq k s.flights) (shown keys (codes " none") [] s)
   act_step shard n moment (act.Drop k) s = one_call keys shard s (call.DropKey k moment)
   act_step shard n moment (act.Forget k) s = one_call keys shard s (call.Forget k moment)
   act_step shard n moment act.Clean s = one_call keys shard s (call.Clean moment)

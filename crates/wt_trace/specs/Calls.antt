@@ -2,7 +2,7 @@
 use Rattle.std.specs.Prelude.{◌≡◌, ℕ, zero, suc, ◌+◌, ◌==◌, nat_lt, Bool, if◌then◌else◌, List, [], ◌∷◌, ◌++◌, Option, Some}
 use Rattle.std.specs.Option.{option_map_or}
 use Rattle.wt_regions.specs.Lists.{lasting}
-use Rattle.wt_flights.specs.Rows.{first_of}
+use Rattle.wt_flights.specs.Rows.{oldest_load}
 use Rattle.wt_core.specs.declared.calls.Call.{Call}
 use Rattle.wt_core.specs.declared.calls.Call.TheVariants as call
 use Rattle.wt_core.specs.declared.calls.Reply.{Reply}
@@ -34,7 +34,7 @@ module _ {K : Type 0} (keys : Keys K) (o : Options) where
   act_calls n moment (act.Put k) s = call.Put k (version keys o n k) moment ∷ []
   act_calls n moment (act.Seek k) s = call.Seek k moment ∷ []
   act_calls n moment (act.Get k) s = call.Seek k moment ∷ landing_calls n moment k (take keys s (call.Seek k moment)).reply
-  act_calls n moment (act.Land k) s = option_map_or (λ row. landing_of keys o row.id n k moment ∷ []) (first_of keys.eq k s.flights) []
+  act_calls n moment (act.Land k) s = option_map_or (λ row. landing_of keys o row.id n k moment ∷ []) (oldest_load keys.eq k s.flights) []
   act_calls n moment (act.Drop k) s = call.DropKey k moment ∷ []
   act_calls n moment (act.Forget k) s = call.Forget k moment ∷ []
   act_calls n moment act.Clean s = call.Clean moment ∷ []

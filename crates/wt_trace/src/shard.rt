@@ -170,7 +170,7 @@ impl<K: TraceKey> Shard<K> {
         ensures { Adds (spec.done_by (keys_of K.TraceKey) self.old n moment (act.Land key))
             self.old self.new out.old.items out.new.items result }
     {
-        match self.core.first_of(key) {
+        match self.core.oldest_load(key) {
             Some(id) => {
                 let call = Call::Land(id, key, load_by(&self.options, n, key), moment);
                 self.one_call(call, out)

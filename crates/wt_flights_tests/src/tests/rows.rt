@@ -55,7 +55,7 @@ fn forget_one(rt: &impl Abort, table: &mut FlightTable<u64>) -> Result<(), Fault
 
 // The forgotten load, and 7's next one.
 fn expect_both(rt: &impl Abort, table: &FlightTable<u64>) {
-    let loads = (table.current(7), table.first_of(7), table.first_of(8));
+    let loads = (table.current(7), table.oldest_load(7), table.oldest_load(8));
     same(rt, "loads of 7 and 8", loads, (Some(2), Some(1), None));
     let rows = (table.row(1), table.row(2), table.row(3));
     same(
@@ -74,7 +74,7 @@ fn land_forgotten(rt: &impl Abort, table: &mut FlightTable<u64>) {
         row(1, 7, false, 2),
     );
     same(rt, "a second landing of 1", table.land(1), None);
-    let loads = (table.current(7), table.first_of(7));
+    let loads = (table.current(7), table.oldest_load(7));
     same(
         rt,
         "loads of 7 after the landing",

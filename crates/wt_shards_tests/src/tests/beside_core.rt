@@ -23,7 +23,7 @@ fn one_call<N: Names>(
     made: &mut Vec<Noted<u64>>,
     (key, version, now): (u64, u64, u64),
 ) -> Result<(), NoMemory> {
-    let act = choose(dice, plain.core.first_of(key), 20, version);
+    let act = choose(dice, plain.core.oldest_load(key), 20, version);
     let before = plain.core.step();
     let wanted = plain.make(call_of(act, key, now));
     let reply = run.make(call_of(act, key, now));

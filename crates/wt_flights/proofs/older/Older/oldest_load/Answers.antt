@@ -5,7 +5,7 @@ use Rattle.std.proofs.lemmas.List.Elements.{recursion_from_All}
 use Rattle.wt_flights.specs.declared.row.Open.{Open}
 use Rattle.wt_flights.specs.Tables.{least_id}
 use Rattle.wt_flights.proofs.Oldest.{oldest, has_from_get, get_from_has}
-use Rattle.wt_flights.proofs.older.Older.first_of.Goals as goal
+use Rattle.wt_flights.proofs.older.Older.oldest_load.Goals as goal
 
 pub returns : goal.returns
 returns g c =
