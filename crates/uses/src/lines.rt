@@ -27,8 +27,8 @@ pub fn run_worker<B: Books, R: Wait>(
     let mut left = Notices::new(alloc, cache.entries() as usize)?;
     let report = match cache.line() {
         Some(line) => {
-            let mut hand = line.pass(rt)?;
-            cache.run_worker(rt, &mut pass, &mut hand, &mut left)
+            let mut line_pass = line.pass(rt)?;
+            cache.run_worker(rt, &mut pass, &mut line_pass, &mut left)
         }
         None => WorkerReport {
             jobs: 0,

@@ -16,7 +16,7 @@ use Rattle.wt_cache.specs.Line.{HasTakenOne, name}
 use Rattle.wt_cache.specs.Loads.{AreRun, IsRunAside}
 use Rattle.wt_cache.specs.Moves.{HasLanded}
 use Rattle.wt_cache.specs.Workers.{HasWorked}
-use Rattle.wt_cache.specs.declared.hand.Hand.{Hand}
+use Rattle.wt_cache.specs.declared.line_view.LineView.{LineView}
 
 module _ {K V : Type 0} (members : Members K V) (returns : K → Result V ℕ → Type 0) (l : Layout) (start : NoticeList K V) where
   -- one load more
@@ -45,11 +45,11 @@ module _ {K V : Type 0} (members : Members K V) (returns : K → Result V ℕ �
       (run_counts leads mid new ran.2) (omega arith)
 
   -- a worker that took nothing yet
-  pub worked_none : (h : Hand K) (p : Seen K V) → HasWorked members returns l start 0 h h p p
+  pub worked_none : (h : LineView K) (p : Seen K V) → HasWorked members returns l start 0 h h p p
   worked_none h p = record { taken = taken_none h; leads = []; named = refl; ran = refl }
 
   -- a worker that took one load more, and ran it
-  pub worked_more : (jobs : ℕ) (lead : Leading K) (h u v : Hand K) (old mid new : Seen K V)
+  pub worked_more : (jobs : ℕ) (lead : Leading K) (h u v : LineView K) (old mid new : Seen K V)
       → HasWorked members returns l start jobs h u old mid → HasTakenOne lead u v → IsRunAside members returns l start lead mid new
       → HasWorked members returns l start (jobs + 1) h v old new
   worked_more jobs lead h u v old mid new worked more run = record {
@@ -62,7 +62,7 @@ module _ {K V : Type 0} (members : Members K V) (returns : K → Result V ℕ �
   }
 
   -- the pass of a worker counts at most a landing for each load that it took
-  pub worked_counts : (jobs : ℕ) (h u : Hand K) (old new : Seen K V) → HasWorked members returns l start jobs h u old new
+  pub worked_counts : (jobs : ℕ) (h u : LineView K) (old new : Seen K V) → HasWorked members returns l start jobs h u old new
       → HasLanded jobs old.counted new.counted
   worked_counts jobs h u old new worked =
       let same : length worked.leads ≡ jobs = sym (length-map worked.leads name)

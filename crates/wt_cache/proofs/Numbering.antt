@@ -6,21 +6,21 @@ use mathlib.Core.Option.{some, some-injective, some-ne-none}
 use lib.ListN.{get_elem?}
 use Rattle.crossbeam_queue.specs.Fifo.{Pushes, Pops, Forks, Admits}
 use Rattle.crossbeam_queue.proofs.Lists.{at_set, at_snoc, at_longer, at_last, set_again}
-use Rattle.wt_cache.specs.declared.hand.Hand.{Hand}
+use Rattle.wt_cache.specs.declared.line_view.LineView.{LineView}
 use Rattle.wt_flights.specs.Outcomes.{Leading}
-use Rattle.wt_cache.specs.Line.{name, hand, times, total, AllNamed, once_below, Numbered}
+use Rattle.wt_cache.specs.Line.{name, line_view, times, total, AllNamed, once_below, Numbered}
 
 below_suc : (i n : ℕ) → once_below i (suc n) ≡ once_below i n + cond (eqb i n) 1 0
 below_suc i n = grind (arith, nat_tests)
 
 module _ {K : Type 0} where
-  total_set : (f : Hand K → ℕ) (views : List (Hand K)) (port : ℕ) (v w : Hand K) → get_elem? views port ≡ some v
+  total_set : (f : LineView K → ℕ) (views : List (LineView K)) (port : ℕ) (v w : LineView K) → get_elem? views port ≡ some v
       → total f (set views port w) + f v ≡ total f views + f w
   total_set f [] port v w at = absurd (some-ne-none v (sym at))
   total_set f (x ∷ xs) zero v w at = let e : f x ≡ f v = ap f (some-injective x v at) in omega arith
   total_set f (x ∷ xs) (suc port) v w at = let h = total_set f xs port v w at in omega arith
 
-  total_snoc : (f : Hand K → ℕ) (views : List (Hand K)) (u : Hand K) → total f (views ++ u ∷ []) ≡ total f views + f u
+  total_snoc : (f : LineView K → ℕ) (views : List (LineView K)) (u : LineView K) → total f (views ++ u ∷ []) ≡ total f views + f u
   total_snoc f [] u = omega arith
   total_snoc f (x ∷ xs) u = let h = total_snoc f xs u in omega arith
 
@@ -36,19 +36,19 @@ module _ {K : Type 0} where
   named_more log ps n y h at j p e = ⊎_elim (λ (x : get_elem? ps j ≡ some p). h j p x)
       (λ (is : (n, y) ≡ p). let P : ℕ × (ℕ × K) → Type 0 = λ q. get_elem? log q.0 ≡ some q.1 in subst P is at) (at_snoc ps (n, y) p j e)
 
-  all_set : (F : Hand K → Type 0) (views : List (Hand K)) (port : ℕ) (w : Hand K) → F w
-      → ((j : ℕ) (u : Hand K) → get_elem? views j ≡ some u → F u)
-      → (j : ℕ) (u : Hand K) → get_elem? (set views port w) j ≡ some u → F u
+  all_set : (F : LineView K → Type 0) (views : List (LineView K)) (port : ℕ) (w : LineView K) → F w
+      → ((j : ℕ) (u : LineView K) → get_elem? views j ≡ some u → F u)
+      → (j : ℕ) (u : LineView K) → get_elem? (set views port w) j ≡ some u → F u
   all_set F views port w mine others j u e = ⊎_elim (λ (x : (j ≡ port) × (w ≡ u)). subst F x.1 mine)
       (λ (x : (j ≢ port) × (get_elem? views j ≡ some u)). others j u x.1) (at_set views port j w u e)
 
-  pub pushes : (n port : ℕ) (v : Hand K) (x : Leading K)
-      → Pushes Numbered n port v x (λ w. (k : ℕ) × (w ≡ hand (v.puts ++ (k, name x) ∷ []) v.takes))
+  pub pushes : (n port : ℕ) (v : LineView K) (x : Leading K)
+      → Pushes Numbered n port v x (λ w. (k : ℕ) × (w ≡ line_view (v.puts ++ (k, name x) ∷ []) v.takes))
   pushes n port v x items views room h at =
       let k = length h.log in
       let y : ℕ × K = name x in
       let log : List (ℕ × K) = h.log ++ y ∷ [] in
-      let w : Hand K = hand (v.puts ++ (k, y) ∷ []) v.takes in
+      let w : LineView K = line_view (v.puts ++ (k, y) ∷ []) v.takes in
       let long : length log ≡ suc k = omega (arith, length-append h.log (y ∷ [])) in (
         w,
         record {
@@ -85,11 +85,11 @@ module _ {K : Type 0} where
   first_of (x ∷ xs) zero y ys e = let a : x ≡ y = cc in let b : xs ≡ ys = cc in (ap some a, b, omega arith)
   first_of (x ∷ xs) (suc m) y ys e = let r = first_of xs m y ys e in (r.0, r.1, omega (arith, r.2))
 
-  pub pops : (port : ℕ) (v : Hand K) → Pops Numbered port v (λ x w. (k : ℕ) × (w ≡ hand v.puts (v.takes ++ (k, name x) ∷ [])))
+  pub pops : (port : ℕ) (v : LineView K) → Pops Numbered port v (λ x w. (k : ℕ) × (w ≡ line_view v.puts (v.takes ++ (k, name x) ∷ [])))
   pops port v x items views h at =
       let k = h.taken in
       let y : ℕ × K = name x in
-      let w : Hand K = hand v.puts (v.takes ++ (k, y) ∷ []) in
+      let w : LineView K = line_view v.puts (v.takes ++ (k, y) ∷ []) in
       let first = first_of h.log k y (map name items) h.line in (
         w,
         record {
@@ -114,8 +114,8 @@ module _ {K : Type 0} where
         (k, refl),
       )
 
-  all_snoc : (F : Hand K → Type 0) (views : List (Hand K)) (u : Hand K) → F u → ((j : ℕ) (v : Hand K) → get_elem? views j ≡ some v → F v)
-      → (j : ℕ) (v : Hand K) → get_elem? (views ++ u ∷ []) j ≡ some v → F v
+  all_snoc : (F : LineView K → Type 0) (views : List (LineView K)) (u : LineView K) → F u → ((j : ℕ) (v : LineView K) → get_elem? views j ≡ some v → F v)
+      → (j : ℕ) (v : LineView K) → get_elem? (views ++ u ∷ []) j ≡ some v → F v
   all_snoc F views u mine others j v e =
       ⊎_elim (λ (x : get_elem? views j ≡ some v). others j v x) (λ (is : u ≡ v). subst F is mine)
       (at_snoc views u v j e)
@@ -123,8 +123,8 @@ module _ {K : Type 0} where
   none_named : (log : List (ℕ × K)) → AllNamed log []
   none_named log j p e = absurd (some-ne-none p (sym e))
 
-  pub admits : Admits {T = Leading K} Numbered (hand [] [])
-  admits items views h = let u : Hand K = hand [] [] in record {
+  pub admits : Admits {T = Leading K} Numbered (line_view [] [])
+  admits items views h = let u : LineView K = line_view [] [] in record {
     log = h.log;
     taken = h.taken;
     within = h.within;
@@ -135,7 +135,7 @@ module _ {K : Type 0} where
     takes_named = all_snoc (λ v. AllNamed h.log v.takes) views u (none_named h.log) h.takes_named;
   }
 
-  pub begins : Numbered {K = K} [] (hand [] [] ∷ [])
+  pub begins : Numbered {K = K} [] (line_view [] [] ∷ [])
   begins = record {
     log = [];
     taken = 0;
@@ -143,11 +143,11 @@ module _ {K : Type 0} where
     line = refl;
     puts_once = (λ i. grind (arith, nat_tests));
     takes_once = (λ i. grind (arith, nat_tests));
-    puts_named = all_snoc (λ v. AllNamed [] v.puts) [] (hand [] []) (none_named []) (λ j v e. absurd (some-ne-none v (sym e)));
-    takes_named = all_snoc (λ v. AllNamed [] v.takes) [] (hand [] []) (none_named []) (λ j v e. absurd (some-ne-none v (sym e)));
+    puts_named = all_snoc (λ v. AllNamed [] v.puts) [] (line_view [] []) (none_named []) (λ j v e. absurd (some-ne-none v (sym e)));
+    takes_named = all_snoc (λ v. AllNamed [] v.takes) [] (line_view [] []) (none_named []) (λ j v e. absurd (some-ne-none v (sym e)));
   }
 
-  pub forks : (port : ℕ) (v : Hand K) → Forks {T = Leading K} Numbered port v v (hand [] [])
-  forks port v items views h at = let P : List (Hand K)
-      → Type 0 = λ vs. Numbered items (vs ++ hand [] [] ∷ []) in
+  pub forks : (port : ℕ) (v : LineView K) → Forks {T = Leading K} Numbered port v v (line_view [] [])
+  forks port v items views h at = let P : List (LineView K)
+      → Type 0 = λ vs. Numbered items (vs ++ line_view [] [] ∷ []) in
       subst P (sym (set_again views port v at)) (admits items views h)

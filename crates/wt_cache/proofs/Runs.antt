@@ -6,8 +6,8 @@ use Rattle.wt_shards.specs.Told.{HasTold}
 use Rattle.wt_shards.specs.Passes.{Passed, with_step}
 use Rattle.wt_cache.proofs.Moved.{landed_none, landed_one, landed_both}
 use Rattle.wt_cache.specs.Moves.{HasLanded, LandedSome, HasRun, HasRunIfAny, HasTaken}
-use Rattle.wt_cache.specs.declared.hand.Hand.{Hand}
-use Rattle.wt_cache.specs.Line.{hand}
+use Rattle.wt_cache.specs.declared.line_view.LineView.{LineView}
+use Rattle.wt_cache.specs.Line.{line_view}
 
 pub some_none : (p : Passed) → LandedSome p p
 some_none p = (0, landed_none 0 p)
@@ -55,13 +55,13 @@ pub ran_lined : (lined : Bool) (home : ℕ) (p q : Passed) → lined ≡ true �
 ran_lined false home p q is moved = cc
 ran_lined true home p q is moved = (moved, moved)
 
-abbrev pub taken_none : {K : Type 0} (v : Hand K) → HasTaken 0 v v
-taken_none v = record { taken = []; counted = refl; moved = ap (λ t. hand v.puts t) (sym (append-nil v.takes)) }
+abbrev pub taken_none : {K : Type 0} (v : LineView K) → HasTaken 0 v v
+taken_none v = record { taken = []; counted = refl; moved = ap (λ t. line_view v.puts t) (sym (append-nil v.takes)) }
 
-abbrev pub taken_more : {K : Type 0} (n : ℕ) (y : ℕ × K) (u v w : Hand K) → HasTaken n u v
-    → (k : ℕ) × (w ≡ hand v.puts (v.takes ++ (k, y) ∷ [])) → HasTaken (n + 1) u w
+abbrev pub taken_more : {K : Type 0} (n : ℕ) (y : ℕ × K) (u v w : LineView K) → HasTaken n u v
+    → (k : ℕ) × (w ≡ line_view v.puts (v.takes ++ (k, y) ∷ [])) → HasTaken (n + 1) u w
 taken_more n y u v w a more = let e = a.moved in record {
   taken = a.taken ++ (more.0, y) ∷ [];
   counted = (let c = a.counted in omega (arith, c, length-append a.taken ((more.0, y) ∷ [])));
-  moved = more.1 ∙ rw e (ap (λ t. hand u.puts t) (append_assoc u.takes a.taken ((more.0, y) ∷ [])));
+  moved = more.1 ∙ rw e (ap (λ t. line_view u.puts t) (append_assoc u.takes a.taken ((more.0, y) ∷ [])));
 }

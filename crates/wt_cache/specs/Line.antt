@@ -2,7 +2,7 @@
 use Rattle.std.specs.Prelude.{◌≡◌, ◌⊎◌, ℕ, ◌+◌, ◌<◌, ◌≤◌, List, [], ◌∷◌, ◌++◌, length, drop, map, eqb, ltb, cond, Option, MatchOption, Result, MatchResult}
 use mathlib.Core.Option.{some}
 use lib.ListN.{get_elem?}
-use Rattle.wt_cache.specs.declared.hand.Hand.{Hand}
+use Rattle.wt_cache.specs.declared.line_view.LineView.{LineView}
 use Rattle.wt_flights.specs.Outcomes.{Leading}
 use Rattle.wt_keys.specs.declared.fault.Fault.{Fault}
 use Rattle.wt_keys.specs.declared.fault.Fault.TheVariants.{LineFull, LineClosed}
@@ -13,23 +13,23 @@ module _ {K : Type 0} where
   name l = (l.id, l.key)
 
   -- what a line pass put and what it took, as pairs of a number and a name
-  abbrev pub hand : List (ℕ × (ℕ × K)) → List (ℕ × (ℕ × K)) → Hand K
-  hand puts takes = record { puts = puts; takes = takes }
+  abbrev pub line_view : List (ℕ × (ℕ × K)) → List (ℕ × (ℕ × K)) → LineView K
+  line_view puts takes = record { puts = puts; takes = takes }
 
   -- a pass put one load more, of this lead's name
-  abbrev pub HasPutOne : Leading K → Hand K → Hand K → Type 0
-  HasPutOne lead old new = (n : ℕ) × (new ≡ hand (old.puts ++ (n, name lead) ∷ []) old.takes)
+  abbrev pub HasPutOne : Leading K → LineView K → LineView K → Type 0
+  HasPutOne lead old new = (n : ℕ) × (new ≡ line_view (old.puts ++ (n, name lead) ∷ []) old.takes)
 
   -- a pass took one load more, of this lead's name
-  abbrev pub HasTakenOne : Leading K → Hand K → Hand K → Type 0
-  HasTakenOne lead old new = (n : ℕ) × (new ≡ hand old.puts (old.takes ++ (n, name lead) ∷ []))
+  abbrev pub HasTakenOne : Leading K → LineView K → LineView K → Type 0
+  HasTakenOne lead old new = (n : ℕ) × (new ≡ line_view old.puts (old.takes ++ (n, name lead) ∷ []))
 
   -- a put by this pass: of this load, or of none, and then what is handed back has this lead
-  abbrev pub IsPut : {T E : Type 0} → Result T E → (E → Leading K) → Leading K → Hand K → Hand K → Type 0
+  abbrev pub IsPut : {T E : Type 0} → Result T E → (E → Leading K) → Leading K → LineView K → LineView K → Type 0
   IsPut result lead_of lead old new = MatchResult result (λ _. HasPutOne lead old new) (λ back. (lead_of back ≡ lead) × (new ≡ old))
 
   -- a take by this pass: of this load, or of none
-  abbrev pub IsTake : Option (Leading K) → Hand K → Hand K → Type 0
+  abbrev pub IsTake : Option (Leading K) → LineView K → LineView K → Type 0
   IsTake taken old new = MatchOption taken (new ≡ old) (λ lead. HasTakenOne lead old new)
 
   -- how often a number stands in pairs
@@ -38,7 +38,7 @@ module _ {K : Type 0} where
   times i (p ∷ ps) = cond (eqb i p.0) 1 0 + times i ps
 
   -- a number of each line pass, added up
-  abbrev pub total : (Hand K → ℕ) → List (Hand K) → ℕ
+  abbrev pub total : (LineView K → ℕ) → List (LineView K) → ℕ
   total f [] = 0
   total f (v ∷ vs) = f v + total f vs
 
@@ -60,12 +60,12 @@ once_below i n = cond (ltb i n) 1 0
 
 -- the rule of the line: the names of the puts stand in the log, in the order of their numbers. Those from `taken` on are in the line. Over
 -- all passes the numbers of the puts are those below the length of the log, each once, and those of the takes the ones below `taken`
-pub record Numbered {K : Type 0} (items : List (Leading K)) (views : List (Hand K)) : Type 0 where
+pub record Numbered {K : Type 0} (items : List (Leading K)) (views : List (LineView K)) : Type 0 where
   pub log : List (ℕ × K)
   pub taken : ℕ
   pub within : taken ≤ length log
   pub line : drop taken log ≡ map name items
   pub puts_once : (i : ℕ) → total (λ v. times i v.puts) views ≡ once_below i (length log)
   pub takes_once : (i : ℕ) → total (λ v. times i v.takes) views ≡ once_below i taken
-  pub puts_named : (pass : ℕ) (v : Hand K) → get_elem? views pass ≡ some v → AllNamed log v.puts
-  pub takes_named : (pass : ℕ) (v : Hand K) → get_elem? views pass ≡ some v → AllNamed log v.takes
+  pub puts_named : (pass : ℕ) (v : LineView K) → get_elem? views pass ≡ some v → AllNamed log v.puts
+  pub takes_named : (pass : ℕ) (v : LineView K) → get_elem? views pass ≡ some v → AllNamed log v.takes

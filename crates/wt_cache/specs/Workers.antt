@@ -8,12 +8,12 @@ use Rattle.wt_shards.specs.Place.{Layout}
 use Rattle.wt_cache.specs.Line.{name}
 use Rattle.wt_cache.specs.Loads.{AreRun}
 use Rattle.wt_cache.specs.Moves.{HasTaken}
-use Rattle.wt_cache.specs.declared.hand.Hand.{Hand}
+use Rattle.wt_cache.specs.declared.line_view.LineView.{LineView}
 
 -- `jobs` loads were taken off the line and run, in the order of the takes, and nothing else was done with the pass. `hold` and `held` are
 -- the puts and takes of the line pass before and after, and `start` is the list of notices before each run
 pub record HasWorked {K V : Type 0} (members : Members K V) (returns : K → Result V ℕ → Type 0) (l : Layout) (start : NoticeList K V)
-    (jobs : ℕ) (hold held : Hand K) (old new : Seen K V) : Type 0 where
+    (jobs : ℕ) (hold held : LineView K) (old new : Seen K V) : Type 0 where
   -- the loads that were taken
   pub taken : HasTaken jobs hold held
   -- their leads: of these ids and keys

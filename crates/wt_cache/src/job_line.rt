@@ -17,7 +17,7 @@
 ghost use Rattle.std.specs.Prelude.{◌≡◌, ◌≤◌, [], IfOk, IfErr, Err, IsOkUnless};
 ghost use Rattle.wt_keys.specs.declared.fault.Fault.TheVariants as fault;
 ghost use Rattle.wt_keys.specs.declared.fault.Field.TheVariants as field;
-ghost use Rattle.wt_cache.specs.Line.{hand, IsNoCapacity, IsPostFault, IsPut, IsTake};
+ghost use Rattle.wt_cache.specs.Line.{line_view, IsNoCapacity, IsPostFault, IsPut, IsTake};
 
 use crate::line_pass::{First, LinePass};
 use std::alloc::Global;
@@ -93,7 +93,7 @@ impl<K: Copy + Drop, V: Drop> JobLine<K, V> {
     /// `NoMemory` only if a further owner of the queue is refused. Takes the lock of the line's
     /// first pass.
     pub fn pass<R: Wait>(&self, rt: &R) -> Result<LinePass<K, V>, NoMemory>
-        ensures { IfOk result (λ pass. pass ≡ hand [] []) }
+        ensures { IfOk result (λ pass. pass ≡ line_view [] []) }
     {
         self.first.lock(rt).split()
     }

@@ -9,10 +9,10 @@ ghost use Rattle.std.specs.Prelude.{◌≡◌, ◌<◌, [], IfOk};
 ghost use Rattle.std.specs.Arc.{arc_value};
 ghost use Rattle.crossbeam_queue.specs.Passes.{view as known_by, IsPassOf};
 ghost use Rattle.wt_flights.specs.Outcomes.{Leading};
-ghost use Rattle.wt_cache.specs.declared.hand.Hand.{Hand};
-ghost use Rattle.wt_cache.specs.Line.{hand, HasPutOne, HasTakenOne, IsPut, IsTake, Numbered};
+ghost use Rattle.wt_cache.specs.declared.line_view.LineView.{LineView};
+ghost use Rattle.wt_cache.specs.Line.{line_view, HasPutOne, HasTakenOne, IsPut, IsTake, Numbered};
 
-use crate::hand::Hand;
+use crate::line_view::LineView;
 use crossbeam_queue::protocol::{Lesson, Outcome, Protocol, Split};
 use crossbeam_queue::{Pass, RuledArrayQueue};
 use std::alloc::Global;
@@ -24,36 +24,36 @@ use wt_keys::NoMemory;
 /// The rule of the line.
 pub struct Numbers;
 
-impl<K, V> Protocol<Lead<K, V>, Hand<K>> for Numbers {
+impl<K, V> Protocol<Lead<K, V>, LineView<K>> for Numbers {
     ghost holds = { Numbered };
 
-    ghost first = { hand [] [] };
+    ghost first = { line_view [] [] };
 }
 
 /// The pass after a put: one more put, of the load's name.
 pub struct Puts;
 
-impl<K, V> Outcome<Lead<K, V>, Hand<K>> for Puts {
+impl<K, V> Outcome<Lead<K, V>, LineView<K>> for Puts {
     ghost then = { λ v x w. HasPutOne x v w };
 }
 
-impl<K, V> Lesson<Lead<K, V>, Hand<K>> for Puts {
+impl<K, V> Lesson<Lead<K, V>, LineView<K>> for Puts {
     ghost fact = { λ v items. Unit {0} };
 }
 
 /// The pass after a take: one more take, of the load's name.
 pub struct Takes;
 
-impl<K, V> Outcome<Lead<K, V>, Hand<K>> for Takes {
+impl<K, V> Outcome<Lead<K, V>, LineView<K>> for Takes {
     ghost then = { λ v x w. HasTakenOne x v w };
 }
 
-impl<K, V> Lesson<Lead<K, V>, Hand<K>> for Takes {
+impl<K, V> Lesson<Lead<K, V>, LineView<K>> for Takes {
     ghost fact = { λ v items. Unit {0} };
 }
 
 // The queue of a line.
-pub(crate) type Queue<K, V> = RuledArrayQueue<Lead<K, V>, Hand<K>, Numbers>;
+pub(crate) type Queue<K, V> = RuledArrayQueue<Lead<K, V>, LineView<K>, Numbers>;
 
 /// A caller's pass for the job line. Contracts see its puts and its takes.
 ///
@@ -64,11 +64,11 @@ pub struct LinePass<K, V> {
     // The line's queue, which the pass goes by.
     queue: Arc<Queue<K, V>, Global>,
     // The puts and takes of this holder, in the queue's own book.
-    pass: Pass<Lead<K, V>, Hand<K>>,
+    pass: Pass<Lead<K, V>, LineView<K>>,
 }
 
 impl<K, V> Model for LinePass<K, V> {
-    ghost Value = { Hand K };
+    ghost Value = { LineView K };
 
     ghost view = { λ p. known_by p.pass };
 
@@ -94,18 +94,18 @@ impl<K: Copy + Drop, V: Drop> LinePass<K, V> {
 /// Cuts a pass that has put and taken nothing off another one, which stays as it is.
 pub struct Off;
 
-impl<K> Split<Hand<K>> for Off {
+impl<K> Split<LineView<K>> for Off {
     ghost left = { λ v. v };
 
-    ghost right = { λ v. hand [] [] };
+    ghost right = { λ v. line_view [] [] };
 }
 
 // The first pass of a line, which puts and takes nothing: the others are split off it.
 #[derive(Drop)]
 pub(crate) struct First<K, V> {
     queue: Arc<Queue<K, V>, Global>,
-    pass: Pass<Lead<K, V>, Hand<K>>,
-    ghost of: { IsPassOf (arc_value queue) pass × (known_by pass ≡ hand [] []) },
+    pass: Pass<Lead<K, V>, LineView<K>>,
+    ghost of: { IsPassOf (arc_value queue) pass × (known_by pass ≡ line_view [] []) },
 }
 
 impl<K: Copy + Drop, V: Drop> First<K, V> {
@@ -120,7 +120,7 @@ impl<K: Copy + Drop, V: Drop> First<K, V> {
 
     // Splits off a pass that has put and taken nothing.
     pub(crate) fn split(&mut self) -> Result<LinePass<K, V>, NoMemory>
-        ensures { IfOk result (λ pass. pass ≡ hand [] []) }
+        ensures { IfOk result (λ pass. pass ≡ line_view [] []) }
     {
         let queue = Arc::try_clone(&self.queue)?;
         let pass = self.queue.another::<Off>(&mut self.pass);

@@ -36,15 +36,16 @@ impl<K: CacheKey, V: Value<K>, L: Loader<K, V> + Drop, B: Books> LoadingCache<K,
         &self,
         rt: &R,
         pass: &mut Pass<K, V, B>,
-        hand: &mut LinePass<K, V>,
+        line_pass: &mut LinePass<K, V>,
         notices: &mut Notices<K, V>,
     ) -> WorkerReport
         requires room { self.now.layout.config.entries ≤ notices.old.room }
         ensures landed { HasLanded result.jobs pass.old.counted pass.new.counted }
-        ensures taken { HasTaken result.jobs hand.old hand.new }
+        ensures taken { HasTaken result.jobs line_pass.old line_pass.new }
         // Each load that was taken was landed, and nothing else was done with the pass.
         ensures ran { HasWorked (members_of K.CacheKey V.Value) (MayReturn L.may_return)
-            self.now.layout (emptied notices.old) result.jobs hand.old hand.new pass.old pass.new }
+            self.now.layout (emptied notices.old) result.jobs line_pass.old line_pass.new
+            pass.old pass.new }
         ensures failed { result.failed ≤ result.jobs }
         ensures jobs { result.jobs ≤ 2 ^ 40 }
         ensures notices { notices.new ≡ emptied notices.old }
@@ -62,7 +63,7 @@ impl<K: CacheKey, V: Value<K>, L: Loader<K, V> + Drop, B: Books> LoadingCache<K,
             if report.jobs >= MOST_JOBS {
                 return report;
             }
-            let Some(lead) = line.next(rt, hand) else {
+            let Some(lead) = line.next(rt, line_pass) else {
                 return report;
             };
             self.work(rt, pass, lead, notices, &mut report);

@@ -152,17 +152,17 @@ impl<K: CacheKey, V: Value<K>, L: Loader<K, V> + Drop, B: Books> LoadingCache<K,
         let Some(line) = &self.line else {
             return Some(self.run(rt, pass, lead, notices));
         };
-        let Ok(mut hand) = line.pass(rt) else {
+        let Ok(mut line_pass) = line.pass(rt) else {
             return Some(self.run(rt, pass, lead, notices));
         };
         let Ok(mut aside) = Notices::new(line.alloc(), self.shards.entries() as usize) else {
             return Some(self.run(rt, pass, lead, notices));
         };
-        match line.post(rt, &mut hand, lead) {
+        match line.post(rt, &mut line_pass, lead) {
             Err(Back { lead, fault: _ }) => Some(self.run(rt, pass, lead, notices)),
             Ok(Posted::Line) => None,
             Ok(Posted::Late) => {
-                self.drain(rt, pass, line, &mut hand, &mut aside);
+                self.drain(rt, pass, line, &mut line_pass, &mut aside);
                 None
             }
         }
@@ -175,7 +175,7 @@ impl<K: CacheKey, V: Value<K>, L: Loader<K, V> + Drop, B: Books> LoadingCache<K,
         rt: &R,
         pass: &mut Pass<K, V, B>,
         line: &JobLine<K, V>,
-        hand: &mut LinePass<K, V>,
+        line_pass: &mut LinePass<K, V>,
         aside: &mut Notices<K, V>,
     )
         requires room { self.now.layout.config.entries ≤ aside.old.room }
@@ -184,7 +184,7 @@ impl<K: CacheKey, V: Value<K>, L: Loader<K, V> + Drop, B: Books> LoadingCache<K,
             (MayReturn L.may_return) self.now.layout aside.old leads pass.old pass.new }
     {
         for _ in rt.forever() {
-            let Some(lead) = line.take(rt, hand) else {
+            let Some(lead) = line.take(rt, line_pass) else {
                 return;
             };
             let _ = self.run(rt, pass, lead, aside);

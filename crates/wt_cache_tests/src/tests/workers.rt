@@ -30,8 +30,8 @@ pub fn works_by<N: Names, R: Wait>(
         return Err(Fault::LineClosed);
     };
     let mut notices = Notices::new(alloc, cache.entries() as usize)?;
-    let mut hand = line.pass(rt)?;
-    let report = cache.run_worker(rt, pass, &mut hand, &mut notices);
+    let mut line_pass = line.pass(rt)?;
+    let report = cache.run_worker(rt, pass, &mut line_pass, &mut notices);
     Ok((report.jobs, report.failed, report.removed))
 }
 
@@ -57,8 +57,8 @@ pub fn posts<N: Names, R: Wait>(
     let Some(line) = cache.line() else {
         return Err(Fault::LineClosed);
     };
-    let mut hand = line.pass(rt)?;
-    Ok(matches!(line.post(rt, &mut hand, lead), Ok(Posted::Line)))
+    let mut line_pass = line.pass(rt)?;
+    Ok(matches!(line.post(rt, &mut line_pass, lead), Ok(Posted::Line)))
 }
 
 // The caller loads beside a full line, and beside a closed one.

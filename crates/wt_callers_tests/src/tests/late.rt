@@ -17,13 +17,13 @@ type Line = JobLine<u64, u64>;
 // Posts and takes one load after the other until the line is closed: whether the last post was
 // late, and found its load in the line still.
 fn posts<R: Wait>(rt: &R, alloc: Global, line: &Line) -> Result<bool, Fault> {
-    let mut hand = line.pass(rt)?;
+    let mut line_pass = line.pass(rt)?;
     for _ in 0..10_000_000u64 {
         let (_landing, lead) = Landing::start(alloc, 1, 1, 0)?;
-        match line.post(rt, &mut hand, lead) {
-            Ok(Posted::Late) => return Ok(line.take(rt, &mut hand).is_some()),
+        match line.post(rt, &mut line_pass, lead) {
+            Ok(Posted::Late) => return Ok(line.take(rt, &mut line_pass).is_some()),
             Ok(Posted::Line) => {
-                let _taken = line.take(rt, &mut hand);
+                let _taken = line.take(rt, &mut line_pass);
             }
             Err(Back { fault, .. }) => {
                 return if fault == Fault::LineClosed {

@@ -25,19 +25,19 @@ fn post<R: Wait>(
     rt: &R,
     alloc: Global,
     line: &Line,
-    hand: &mut LinePass<u64, u64>,
+    line_pass: &mut LinePass<u64, u64>,
     id: u64,
 ) -> Result<Result<Posted, (u64, Fault)>, Fault> {
     let lead = lead(alloc, id)?;
-    match line.post(rt, hand, lead) {
+    match line.post(rt, line_pass, lead) {
         Ok(posted) => Ok(Ok(posted)),
         Err(Back { lead, fault }) => Ok(Err((lead.id(), fault))),
     }
 }
 
 // Takes a load: its id, or 0 where there is none.
-fn take<R: Wait>(rt: &R, line: &Line, hand: &mut LinePass<u64, u64>) -> u64 {
-    match line.take(rt, hand) {
+fn take<R: Wait>(rt: &R, line: &Line, line_pass: &mut LinePass<u64, u64>) -> u64 {
+    match line.take(rt, line_pass) {
         Some(lead) => lead.id(),
         None => 0,
     }
@@ -48,10 +48,10 @@ fn posts<R: Wait + Abort>(
     rt: &R,
     alloc: Global,
     line: &Line,
-    hand: &mut LinePass<u64, u64>,
+    line_pass: &mut LinePass<u64, u64>,
     id: u64,
 ) -> Result<(), Fault> {
-    let posted = post(rt, alloc, line, hand, id)?;
+    let posted = post(rt, alloc, line, line_pass, id)?;
     same(
         rt,
         "a load, and its post",
@@ -66,11 +66,11 @@ fn comes_back<R: Wait + Abort>(
     rt: &R,
     alloc: Global,
     line: &Line,
-    hand: &mut LinePass<u64, u64>,
+    line_pass: &mut LinePass<u64, u64>,
     id: u64,
     fault: Fault,
 ) -> Result<(), Fault> {
-    let posted = post(rt, alloc, line, hand, id)?;
+    let posted = post(rt, alloc, line, line_pass, id)?;
     same(
         rt,
         "a load that comes back",
@@ -81,8 +81,8 @@ fn comes_back<R: Wait + Abort>(
 }
 
 // Takes a load, by its id, or finds none, which is 0.
-fn takes<R: Wait + Abort>(rt: &R, line: &Line, hand: &mut LinePass<u64, u64>, id: u64) {
-    same(rt, "the load taken, or 0", take(rt, line, hand), id);
+fn takes<R: Wait + Abort>(rt: &R, line: &Line, line_pass: &mut LinePass<u64, u64>, id: u64) {
+    same(rt, "the load taken, or 0", take(rt, line, line_pass), id);
 }
 
 // In a line of two places.
@@ -90,23 +90,23 @@ fn post_and_take<R: Wait + Abort>(
     rt: &R,
     alloc: Global,
     line: &Line,
-    hand: &mut LinePass<u64, u64>,
+    line_pass: &mut LinePass<u64, u64>,
 ) -> Result<(), Fault> {
-    posts(rt, alloc, line, hand, 1)?;
-    posts(rt, alloc, line, hand, 2)?;
-    comes_back(rt, alloc, line, hand, 3, Fault::LineFull)?;
-    takes(rt, line, hand, 1);
-    takes(rt, line, hand, 2);
-    takes(rt, line, hand, 0);
+    posts(rt, alloc, line, line_pass, 1)?;
+    posts(rt, alloc, line, line_pass, 2)?;
+    comes_back(rt, alloc, line, line_pass, 3, Fault::LineFull)?;
+    takes(rt, line, line_pass, 1);
+    takes(rt, line, line_pass, 2);
+    takes(rt, line, line_pass, 0);
     line.close(rt);
-    comes_back(rt, alloc, line, hand, 4, Fault::LineClosed)
+    comes_back(rt, alloc, line, line_pass, 4, Fault::LineClosed)
 }
 
 #[test]
 fn loads_are_taken_in_the_order_of_the_posts(rt: HostRuntime) -> Result<(), Fail> {
     let line = Line::new(rt.alloc(), 2)?;
-    let mut hand = line.pass(&rt)?;
-    post_and_take(&rt, rt.alloc(), &line, &mut hand)?;
+    let mut line_pass = line.pass(&rt)?;
+    post_and_take(&rt, rt.alloc(), &line, &mut line_pass)?;
     Ok(())
 }
 
@@ -116,18 +116,18 @@ fn fills<R: Wait + Abort>(
     rt: &R,
     alloc: Global,
     line: &Line,
-    hand: &mut LinePass<u64, u64>,
+    line_pass: &mut LinePass<u64, u64>,
     places: u32,
 ) -> Result<(), Fault> {
     for id in 1..=u64::from(places) {
-        posts(rt, alloc, line, hand, id)?;
+        posts(rt, alloc, line, line_pass, id)?;
     }
     let more = u64::from(places).wrapping_add(1);
-    comes_back(rt, alloc, line, hand, more, Fault::LineFull)?;
-    takes(rt, line, hand, 1);
-    posts(rt, alloc, line, hand, more)?;
+    comes_back(rt, alloc, line, line_pass, more, Fault::LineFull)?;
+    takes(rt, line, line_pass, 1);
+    posts(rt, alloc, line, line_pass, more)?;
     for id in 2..=more {
-        takes(rt, line, hand, id);
+        takes(rt, line, line_pass, id);
     }
     Ok(())
 }
@@ -136,8 +136,8 @@ fn fills<R: Wait + Abort>(
 fn a_line_holds_as_many_loads_as_it_was_made_for(rt: HostRuntime) -> Result<(), Fail> {
     for places in [1, 2, 3, 64, 4096] {
         let line = Line::new(rt.alloc(), places)?;
-        let mut hand = line.pass(&rt)?;
-        fills(&rt, rt.alloc(), &line, &mut hand, places)?;
+        let mut line_pass = line.pass(&rt)?;
+        fills(&rt, rt.alloc(), &line, &mut line_pass, places)?;
     }
     Ok(())
 }
@@ -146,10 +146,10 @@ fn close_twice<R: Wait + Abort>(
     rt: &R,
     alloc: Global,
     line: &Line,
-    hand: &mut LinePass<u64, u64>,
+    line_pass: &mut LinePass<u64, u64>,
 ) -> Result<(), Fault> {
     same(rt, "whether a new line is closed", line.is_closed(), false);
-    posts(rt, alloc, line, hand, 1)?;
+    posts(rt, alloc, line, line_pass, 1)?;
     for _ in 0..2 {
         line.close(rt);
         same(
@@ -159,16 +159,16 @@ fn close_twice<R: Wait + Abort>(
             true,
         );
     }
-    takes(rt, line, hand, 1);
-    takes(rt, line, hand, 0);
+    takes(rt, line, line_pass, 1);
+    takes(rt, line, line_pass, 0);
     Ok(())
 }
 
 #[test]
 fn a_closed_line_stays_closed_and_is_taken_from(rt: HostRuntime) -> Result<(), Fail> {
     let line = Line::new(rt.alloc(), 2)?;
-    let mut hand = line.pass(&rt)?;
-    close_twice(&rt, rt.alloc(), &line, &mut hand)?;
+    let mut line_pass = line.pass(&rt)?;
+    close_twice(&rt, rt.alloc(), &line, &mut line_pass)?;
     Ok(())
 }
 
@@ -191,23 +191,23 @@ fn a_line_has_1_to_4096_places(rt: HostRuntime) -> Result<(), Fail> {
 
 // Posts three loads, the first of this id.
 fn post_three<R: Wait>(rt: &R, alloc: Global, line: &Line, first: u64) -> Result<bool, Fault> {
-    let mut hand = line.pass(rt)?;
-    let one = post(rt, alloc, line, &mut hand, first)?;
-    let two = post(rt, alloc, line, &mut hand, first.wrapping_add(1))?;
-    let three = post(rt, alloc, line, &mut hand, first.wrapping_add(2))?;
+    let mut line_pass = line.pass(rt)?;
+    let one = post(rt, alloc, line, &mut line_pass, first)?;
+    let two = post(rt, alloc, line, &mut line_pass, first.wrapping_add(1))?;
+    let three = post(rt, alloc, line, &mut line_pass, first.wrapping_add(2))?;
     Ok(one.is_ok() && two.is_ok() && three.is_ok())
 }
 
 // Takes three loads, within 10,000,000 turns: the bits of their ids.
 fn take_three<R: Wait>(rt: &R, line: &Line) -> Result<u64, Fault> {
-    let mut hand = line.pass(rt)?;
+    let mut line_pass = line.pass(rt)?;
     let mut bits = 0u64;
     let mut taken = 0u32;
     for _ in 0..10_000_000u64 {
         if taken >= 3 {
             return Ok(bits);
         }
-        let id = take(rt, line, &mut hand);
+        let id = take(rt, line, &mut line_pass);
         if id > 0 && id < 64 && bits & (1u64 << id) == 0 {
             bits |= 1u64 << id;
             taken += 1;

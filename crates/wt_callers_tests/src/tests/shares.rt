@@ -236,14 +236,14 @@ fn works<N: Names, R: Wait>(
     let Some(line) = cache.line() else {
         return Err(Fault::LineClosed);
     };
-    let mut hand = line.pass(rt)?;
+    let mut line_pass = line.pass(rt)?;
     let mut notices = Notices::new(alloc, cache.entries() as usize)?;
-    let posted = line.post(rt, &mut hand, lead);
+    let posted = line.post(rt, &mut line_pass, lead);
     line.close(rt);
     if posted.is_err() {
         return Err(Fault::LineFull);
     }
-    Ok(cache.run_worker(rt, pass, &mut hand, &mut notices))
+    Ok(cache.run_worker(rt, pass, &mut line_pass, &mut notices))
 }
 
 // The result of the first call.

@@ -296,14 +296,14 @@ fn man<K: TraceKey, B: Books, R: Wait>(
 ) -> Result<(), Fault>
     ensures faults { IfErr result (λ f. is_config_fault (fault.Cache f) ≡ false) }
 {
-    let Ok(mut hand) = line.pass(rt) else {
+    let Ok(mut line_pass) = line.pass(rt) else {
         return Err(Fault::NoMemory);
     };
     let Ok(mut notices) = Notices::new(alloc, 4 * cache.entries() as usize) else {
         return Err(Fault::NoMemory);
     };
     manned.store(true, Ordering::SeqCst);
-    let _report = cache.run_worker(rt, pass, &mut hand, &mut notices);
+    let _report = cache.run_worker(rt, pass, &mut line_pass, &mut notices);
     Ok(())
 }
 
