@@ -33,9 +33,9 @@ pub record IsPutCall {K V : Type 0} (members : Members K V) (l : Layout) (key : 
 
 -- what a caller's call promises that goes to the shard of a key: that call, with its pass and with its list, which is emptied first
 pub record IsLentCall {K V R : Type 0} (members : Members K V) (key : K) (c : Call K V)
-    (said : R → Reply V) (old new : Calling K V) (result : Result (Done R) Fault) : Type 0 where
+    (to_reply : R → Reply V) (old new : Calling K V) (result : Result (Done R) Fault) : Type 0 where
   -- the call at the key's shard
-  pub made : IsHomeCall members (home_at members.word key old.cache.layout) c said old.pass new.pass (emptied old.left) new.left result
+  pub made : IsHomeCall members (home_at members.word key old.cache.layout) c to_reply old.pass new.pass (emptied old.left) new.left result
   -- the caller's cache is the same
   pub same : new.cache ≡ old.cache
 

@@ -27,7 +27,7 @@ pub(crate) fn unspent(step: u64) -> Result<(), Fault>
 
 // Refuses a weight above the bound with `TooHeavy`.
 #[inline(always)]
-pub(crate) fn within(weight: u32, bound: u64) -> Result<(), Fault>
+pub(crate) fn check_weight(weight: u32, bound: u64) -> Result<(), Fault>
     ensures ok { OnOk result (weight ≤ bound) }
     ensures refusal { IfErr result (λ f. (f ≡ fault.TooHeavy weight bound) × (bound < weight)) }
 {
@@ -105,7 +105,7 @@ impl<K: CacheKey, V: Share + Weighs> Core<K, V> {
                 None => self.open_unless_spent(),
             },
             Call::Put(_, value, _) => {
-                within(value.measure().weight, self.bound)?;
+                check_weight(value.measure().weight, self.bound)?;
                 self.open_unless_spent()
             }
             _ => self.open_unless_spent(),

@@ -16,7 +16,7 @@ use wt_keys::{CacheKey, Fault, NoMemory, Share};
 use wt_regions::{Notices, Weighs};
 
 // Turns a refusal by the state into the reply `Refused`. Only a failed allocation stays an error.
-macro_rules! answer_of {
+macro_rules! reply_of {
     ($outcome:expr, $made:pat => $reply:expr) => {
         match $outcome {
             Ok($made) => Ok($reply),
@@ -57,24 +57,24 @@ impl<K: CacheKey, V: Share + Weighs> Core<K, V> {
         ensures err { OnErr result ((self.new ≡ self.old) × (notices.new ≡ notices.old)) }
     {
         match call {
-            Call::Look(key, now) => answer_of!(self.look(key, now, notices), reply => reply),
-            Call::Seek(key, now) => answer_of!(self.seek(key, now, notices), reply => reply),
+            Call::Look(key, now) => reply_of!(self.look(key, now, notices), reply => reply),
+            Call::Seek(key, now) => reply_of!(self.seek(key, now, notices), reply => reply),
             Call::Land(id, key, what, now) => {
-                answer_of!(self.land(id, key, what, now, notices), reply => reply)
+                reply_of!(self.land(id, key, what, now, notices), reply => reply)
             }
             Call::Put(key, value, now) => {
-                answer_of!(self.put(key, value, now, notices), () => Reply::Stored)
+                reply_of!(self.put(key, value, now, notices), () => Reply::Stored)
             }
             Call::DropKey(key, now) => {
-                answer_of!(self.drop_key(key, now, notices), left => Reply::Dropped(left))
+                reply_of!(self.drop_key(key, now, notices), left => Reply::Dropped(left))
             }
-            Call::Clear(now) => answer_of!(self.clear(now, notices), () => Reply::Cleared),
+            Call::Clear(now) => reply_of!(self.clear(now, notices), () => Reply::Cleared),
             Call::Forget(key, now) => {
-                answer_of!(self.forget(key, now, notices), was => Reply::Forgot(was))
+                reply_of!(self.forget(key, now, notices), was => Reply::Forgot(was))
             }
-            Call::Clean(now) => answer_of!(self.clean(now, notices), () => Reply::Cleaned),
+            Call::Clean(now) => reply_of!(self.clean(now, notices), () => Reply::Cleaned),
             Call::Slide { wider, now } => {
-                answer_of!(self.slide(wider, now), moved => Reply::Slid(moved))
+                reply_of!(self.slide(wider, now), moved => Reply::Slid(moved))
             }
         }
     }

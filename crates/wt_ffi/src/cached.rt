@@ -53,9 +53,9 @@ impl<K: CacheKey> Cached<K> {
 
 // Writes the answer of a step of the cache, and evaluates to the number that the call returns.
 //
-// `Core::take` turns an outcome into a reply in the same way (`answer_of!` of wt_core). The calls
+// `Core::take` turns an outcome into a reply in the same way (`reply_of!` of wt_core). The calls
 // of C don't go through it: a look, a put and a seek take fewer instructions as they are.
-macro_rules! answered {
+macro_rules! write_answer {
     ($cache:expr, $answer:expr, $made:expr, $of:pat => $reply:expr) => {
         match $made {
             Ok($of) => {
@@ -83,4 +83,4 @@ macro_rules! answered {
     };
 }
 
-pub(crate) use answered;
+pub(crate) use write_answer;

@@ -24,13 +24,13 @@ module _ {K : Type 0} (keys : Keys K) (o : Options) (c : Cached) (old new : Seen
   acted n l a is done = subst (λ (b : Act K). HasDone keys o c old new n l.moment b) (sym is) done
 
   -- a call that was made
-  pub made_of : {R : Type 0} (k : K) (call : Call K (Version K)) (said : R → Reply (Version K))
+  pub made_of : {R : Type 0} (k : K) (call : Call K (Version K)) (to_reply : R → Reply (Version K))
       (before after : NoticeList K (Version K)) (done : Done R)
-      → IsHomeCall (members keys) (home_at keys.word k c.layout) call said old new before after (Ok done)
+      → IsHomeCall (members keys) (home_at keys.word k c.layout) call to_reply old new before after (Ok done)
       → HasMade keys o c old new k call
-  made_of k call said before after done made =
+  made_of k call to_reply before after done made =
       record {
-        reply = said done.reply;
+        reply = to_reply done.reply;
         number = done.step;
         before = before;
         after = after;

@@ -3,7 +3,7 @@ ghost use Rattle.std.specs.Prelude.{◌≡◌, ◌≤◌, OnErr};
 ghost use Rattle.wt_core.specs.declared.calls.Call.TheVariants.{Put};
 
 use crate::counting::{count_key, evicted_since};
-use crate::refusals::{unspent, within};
+use crate::refusals::{check_weight, unspent};
 use crate::sequential::Core;
 use wt_keys::{CacheKey, Fault, Share};
 use wt_regions::{Notices, Weighs};
@@ -39,7 +39,7 @@ impl<K: CacheKey, V: Share + Weighs> Core<K, V> {
         ensures whole { KeepsWhole notices.old notices.new }
         ensures err { OnErr result ((self.new ≡ self.old) × (notices.new ≡ notices.old)) }
     {
-        within(value.measure().weight, self.bound)?;
+        check_weight(value.measure().weight, self.bound)?;
         unspent(self.step)?;
         // For the prover: shows `lawful`, which bounds the notices.
         let _len = self.regions.len();

@@ -6,7 +6,7 @@ ghost use Rattle.wt_ffi.specs.Contract.{IsStepMade, IsKeylessCall};
 ghost use Rattle.wt_ffi.specs.Handle.{cache_of};
 
 use crate::answer::{Answer, answer_of, number_of};
-use crate::cached::{Cached, answered};
+use crate::cached::{Cached, write_answer};
 use crate::handle::Handle;
 use crate::keyless::{Keyless, make_keyless};
 use std::alloc::Global;
@@ -19,7 +19,7 @@ impl<K: CacheKey> Cached<K> {
         ensures made { IsStepMade K.eq K.word (Clean now) self.old self.new answer.new result }
     {
         self.notices.empty();
-        answered!(self, answer, self.core.clean(now, &mut self.notices), () => Reply::Cleaned)
+        write_answer!(self, answer, self.core.clean(now, &mut self.notices), () => Reply::Cleaned)
     }
 }
 

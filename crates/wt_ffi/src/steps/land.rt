@@ -6,7 +6,7 @@ ghost use Rattle.wt_ffi.specs.Calls.{after, answer_after, failed, keep, loose, n
 ghost use Rattle.wt_ffi.specs.Contract.{IsCall, IsNameCall};
 
 use crate::answer::{Answer, answer_of, number_of};
-use crate::cached::{Cached, answered};
+use crate::cached::{Cached, write_answer};
 use crate::handle::{Handle, TOO_LONG};
 use crate::make::make;
 use crate::names::make_named;
@@ -33,7 +33,7 @@ impl<K: CacheKey> Cached<K> {
         ensures memory { IsFree K.eq (land id key what now) self.old → 0 < answer.new.kind }
     {
         self.notices.empty();
-        answered!(self, answer, self.core.land(id, key, what, now, &mut self.notices), reply => reply)
+        write_answer!(self, answer, self.core.land(id, key, what, now, &mut self.notices), reply => reply)
     }
 }
 

@@ -3,7 +3,7 @@ ghost use Rattle.wt_core.specs.declared.calls.Call.TheVariants.{Look};
 ghost use Rattle.wt_ffi.specs.Contract.{IsCall, IsNameCall, IsStepMade};
 
 use crate::answer::{Answer, answer_of, number_of};
-use crate::cached::{Cached, answered};
+use crate::cached::{Cached, write_answer};
 use crate::handle::{Handle, TOO_LONG};
 use crate::make::make;
 use crate::names::make_named;
@@ -18,7 +18,7 @@ impl<K: CacheKey> Cached<K> {
         ensures made { IsStepMade K.eq K.word (Look key now) self.old self.new answer.new result }
     {
         self.notices.empty();
-        answered!(self, answer, self.core.look(key, now, &mut self.notices), reply => reply)
+        write_answer!(self, answer, self.core.look(key, now, &mut self.notices), reply => reply)
     }
 }
 

@@ -4,7 +4,7 @@ ghost use Rattle.wt_ffi.specs.Calls.{put};
 ghost use Rattle.wt_ffi.specs.Contract.{IsCall, IsNameCall, IsStepMade};
 
 use crate::answer::{Answer, answer_of, number_of};
-use crate::cached::{Cached, answered};
+use crate::cached::{Cached, write_answer};
 use crate::handle::{Handle, TOO_LONG};
 use crate::make::make;
 use crate::names::make_named;
@@ -20,7 +20,7 @@ impl<K: CacheKey> Cached<K> {
         ensures made { IsStepMade K.eq K.word (put value key now) self.old self.new answer.new result }
     {
         self.notices.empty();
-        answered!(self, answer, self.core.put(key, value, now, &mut self.notices), () => Reply::Stored)
+        write_answer!(self, answer, self.core.put(key, value, now, &mut self.notices), () => Reply::Stored)
     }
 }
 

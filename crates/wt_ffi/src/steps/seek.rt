@@ -5,7 +5,7 @@ ghost use Rattle.wt_ffi.specs.Calls.{after, number_after, answer_after, IsRefuse
 ghost use Rattle.wt_ffi.specs.Contract.{IsCall, IsNameCall};
 
 use crate::answer::{Answer, answer_of, number_of};
-use crate::cached::{Cached, answered};
+use crate::cached::{Cached, write_answer};
 use crate::handle::{Handle, TOO_LONG};
 use crate::make::make;
 use crate::names::make_named;
@@ -25,7 +25,7 @@ impl<K: CacheKey> Cached<K> {
         ensures memory { IsFree K.eq (Seek key now) self.old → 0 < answer.new.kind }
     {
         self.notices.empty();
-        answered!(self, answer, self.core.seek(key, now, &mut self.notices), reply => reply)
+        write_answer!(self, answer, self.core.seek(key, now, &mut self.notices), reply => reply)
     }
 }
 

@@ -4,7 +4,7 @@ ghost use Rattle.wt_ffi.specs.declared.keyless.Keyless.TheVariants as keyless;
 ghost use Rattle.wt_ffi.specs.Contract.{IsStepMade, IsKeylessCall};
 
 use crate::answer::{Answer, answer_of, number_of};
-use crate::cached::{Cached, answered};
+use crate::cached::{Cached, write_answer};
 use crate::handle::Handle;
 use crate::keyless::{Keyless, make_keyless};
 use std::alloc::Global;
@@ -18,7 +18,7 @@ impl<K: CacheKey> Cached<K> {
             self.old self.new answer.new result }
     {
         self.notices.empty();
-        answered!(self, answer, self.core.slide(wider, now), moved => Reply::Slid(moved))
+        write_answer!(self, answer, self.core.slide(wider, now), moved => Reply::Slid(moved))
     }
 }
 

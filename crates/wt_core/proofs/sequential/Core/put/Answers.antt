@@ -21,7 +21,7 @@ overflow_add-self g c =
     told_at g.K.PartialEq.eq g.K.CacheKey.word g.V.Weighs.measure s c.args.key c.args.now c.max-now.result
     c.max-now.ensures c.args.value c.max-now.result in
     let low : (g.V.Weighs.measure c.args.value).weight ≤ i.regions.caps.bound =
-    rw (c.measure.ensures, c.self.invariant.1) at c.in_ok-within.ensures.ok in
+    rw (c.measure.ensures, c.self.invariant.1) at c.in_ok-check_weight.ensures.ok in
     let evicted : c.evicted_since.result ≡ evictions told.1 =
     told-since told.1 c.list-from.result.now c.args.notices.now c.store.new.notices c.evicted_since.result
     c.in_ok-store.ensures.notices c.list-from.ensures c.evicted_since.ensures in
@@ -44,7 +44,7 @@ invariant_of-self-2 g c =
     told_at g.K.PartialEq.eq g.K.CacheKey.word g.V.Weighs.measure s c.args.key c.args.now c.max-now.result
     c.max-now.ensures c.args.value c.max-now.result in
     let low : (g.V.Weighs.measure c.args.value).weight ≤ i.regions.caps.bound =
-    rw (c.measure.ensures, c.self.invariant.1) at c.in_ok-within.ensures.ok in
+    rw (c.measure.ensures, c.self.invariant.1) at c.in_ok-check_weight.ensures.ok in
     let evicted : c.evicted_since.result ≡ evictions told.1 =
     told-since told.1 c.list-from.result.now c.args.notices.now c.store.new.notices c.evicted_since.result
     c.in_ok-store.ensures.notices c.list-from.ensures c.evicted_since.ensures in
@@ -67,7 +67,7 @@ returns-clause-state g c =
     told_at g.K.PartialEq.eq g.K.CacheKey.word g.V.Weighs.measure s c.args.key c.args.now c.max-now.result
     c.max-now.ensures c.args.value c.max-now.result in
     let low : (g.V.Weighs.measure c.args.value).weight ≤ i.regions.caps.bound =
-    rw (c.measure.ensures, c.self.invariant.1) at c.in_ok-within.ensures.ok in
+    rw (c.measure.ensures, c.self.invariant.1) at c.in_ok-check_weight.ensures.ok in
     let evicted : c.evicted_since.result ≡ evictions told.1 =
     told-since told.1 c.list-from.result.now c.args.notices.now c.store.new.notices c.evicted_since.result
     c.in_ok-store.ensures.notices c.list-from.ensures c.evicted_since.ensures in
@@ -95,7 +95,7 @@ returns-clause-whole g c =
     told_at g.K.PartialEq.eq g.K.CacheKey.word g.V.Weighs.measure s c.args.key c.args.now c.max-now.result
     c.max-now.ensures c.args.value c.max-now.result in
     let low : (g.V.Weighs.measure c.args.value).weight ≤ i.regions.caps.bound =
-    rw (c.measure.ensures, c.self.invariant.1) at c.in_ok-within.ensures.ok in
+    rw (c.measure.ensures, c.self.invariant.1) at c.in_ok-check_weight.ensures.ok in
     let laws = (g.met.K.Eq g.world.𝓛 g.world.𝓜 g.world.𝓡 ((λ s x. x), (λ x. x), (λ x. x), λ x. x)).laws in
     let room : i.regions.caps.entries ≤ c.args.notices.now.room = rw (← c.self.view_is) at c.requires.room in
     whole-told told.1 c.args.notices.now c.store.new.notices c.in_ok-store.ensures.notices
