@@ -19,13 +19,13 @@ use caller::Answer;
 use wt_core::{Call, Config, Land, Reply, Weighs};
 use wt_keys::Fault;
 use wt_shards::{Noted, Shade};
-use wt_tests::{Do, Loaded, Said, comparable};
+use wt_tests::{Do, Loaded, PlainReply, comparable};
 
 // A reply or a fault, which can be compared.
-fn answered(reply: Result<Reply<Loaded>, Fault>) -> Said {
+fn answered(reply: Result<Reply<Loaded>, Fault>) -> PlainReply {
     match reply {
         Ok(reply) => comparable(reply),
-        Err(fault) => Said::Refused(fault),
+        Err(fault) => PlainReply::Refused(fault),
     }
 }
 
@@ -44,10 +44,10 @@ fn config(bound: u64) -> Config {
 }
 
 // A caller's answer, which can be compared, and its number, or 0.
-fn said(answer: Answer<Loaded>) -> (Said, u64) {
+fn plain_answer(answer: Answer<Loaded>) -> (PlainReply, u64) {
     match answer {
         Ok((reply, step)) => (comparable(reply), step),
-        Err(fault) => (Said::Refused(fault), 0),
+        Err(fault) => (PlainReply::Refused(fault), 0),
     }
 }
 

@@ -9,10 +9,10 @@ mod turns;
 
 use wt_core::{Cause, Config};
 use wt_shared::{Caller, Unmade};
-use wt_tests::{Do, Loaded, Said, call_of, comparable};
+use wt_tests::{Do, Loaded, PlainReply, call_of, comparable};
 
 // A caller of a cache whose values can be compared.
-type Mine = Caller<u64, Loaded>;
+type LoadedCaller = Caller<u64, Loaded>;
 
 // Four entries of weight 10 together. They expire only after this time without a use.
 fn limits(after_access: Option<u64>) -> Config {
@@ -29,7 +29,7 @@ fn limits(after_access: Option<u64>) -> Config {
 }
 
 // The reply of the call, if it was made.
-fn told(caller: &mut Mine, act: Do, key: u64, now: u64) -> Result<Said, Unmade> {
+fn reply_to(caller: &mut LoadedCaller, act: Do, key: u64, now: u64) -> Result<PlainReply, Unmade> {
     match caller.call(call_of(act, key, now)) {
         Ok(reply) => Ok(comparable(reply)),
         Err(why) => Err(why),
@@ -37,7 +37,7 @@ fn told(caller: &mut Mine, act: Do, key: u64, now: u64) -> Result<Said, Unmade> 
 }
 
 // How many entries left in the caller's latest call, and the first of them.
-fn first_left(caller: &Mine) -> (usize, Option<(u64, Loaded, Cause)>) {
+fn first_left(caller: &LoadedCaller) -> (usize, Option<(u64, Loaded, Cause)>) {
     let left = caller.left();
     let first = left
         .first()

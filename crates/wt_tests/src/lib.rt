@@ -9,7 +9,7 @@ mod fussy;
 mod gated;
 mod lists;
 mod loaded;
-mod said;
+mod plain_reply;
 
 pub use acts::{Do, Step, call_of, call_with, choose};
 pub use dice::Dice;
@@ -17,4 +17,4 @@ pub use fussy::{Fussy, counter};
 pub use gated::{Gate, Gated};
 pub use lists::{Lists, Row};
 pub use loaded::{Loaded, light, random_value};
-pub use said::{Said, comparable};
+pub use plain_reply::{PlainReply, comparable};

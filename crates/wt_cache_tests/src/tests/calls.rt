@@ -124,10 +124,10 @@ pub fn put<N: Names, R: Wait>(
 }
 
 /// The notices of a call: their number, and the key and the cause of the first.
-pub type Told = (usize, u64, Option<Cause>);
+pub type NoticeSummary = (usize, u64, Option<Cause>);
 
 // The contents of a list of notices.
-fn told_in(notices: &Notices<u64, Version>) -> Told {
+fn summary_of(notices: &Notices<u64, Version>) -> NoticeSummary {
     let list = notices.list();
     match list.first() {
         Some(first) => (list.len(), first.key, Some(first.cause)),
@@ -141,12 +141,12 @@ pub fn sweep<N: Names, R: Wait>(
     alloc: Global,
     cache: &Cache<N>,
     pass: &mut Pass<u64, Version, Of<N>>,
-) -> Result<(Told, Told), Fault> {
+) -> Result<(NoticeSummary, NoticeSummary), Fault> {
     let shards = cache.shards();
     let mut notices = Notices::new(alloc, shards * cache.entries() as usize)?;
     cache.clean_up(rt, pass, 10, &mut notices)?;
-    let cleaned = told_in(&notices);
+    let cleaned = summary_of(&notices);
     notices.empty();
     cache.invalidate_all(rt, pass, 10, &mut notices)?;
-    Ok((cleaned, told_in(&notices)))
+    Ok((cleaned, summary_of(&notices)))
 }

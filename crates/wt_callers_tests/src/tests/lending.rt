@@ -143,7 +143,7 @@ fn refused<N: Names, R: Wait>(rt: &R, callers: &Lender<N>) -> Result<(), Fault> 
 }
 
 // Ends a cache: all passes that were ever lent are there, and settle.
-fn ended<N: Names, R: Wait + Abort>(
+fn end_cache<N: Names, R: Wait + Abort>(
     rt: &R,
     alloc: Global,
     callers: Lender<N>,
@@ -202,7 +202,7 @@ fn played<N: Names + Send + Sync, R: Threads + Wait + Abort + Sync>(
     let shards: Shards<u64, Number, Of<N>> = Shards::new(rt, alloc, blanks, config, count)?;
     let callers: Lender<N> = Callers::new(alloc, LoadingCache::new(shards, Zeros {}, None));
     act(rt, alloc, &callers, play)?;
-    ended(rt, alloc, callers, count)
+    end_cache(rt, alloc, callers, count)
 }
 
 // The one place that names the ledgers of these caches.

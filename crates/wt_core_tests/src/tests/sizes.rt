@@ -1,13 +1,13 @@
 // The greatest sizes: the most entries, and the most open loads. More calls in a run, and more
 // sharers of a load, than any limit of a cache.
 use super::compare::{holds, same};
-use super::{Run, config, told};
+use super::{Run, config, reply_to};
 use std::alloc::Global;
 use std::process::Abort;
 use std::test::Fail;
 use wt_core::{Call, Config, Region, Reply, run_calls};
 use wt_keys::Fault;
-use wt_tests::{Do, Loaded, Said, light};
+use wt_tests::{Do, Loaded, PlainReply, light};
 
 fn hold_all(rt: &impl Abort, run: &mut Run<Loaded>) {
     same(
@@ -17,8 +17,8 @@ fn hold_all(rt: &impl Abort, run: &mut Run<Loaded>) {
         65536,
     );
     for key in 0..65536u64 {
-        let made = told(run, Do::Put(light(key)), key, 0);
-        same(rt, "the reply to a put", made, Some(Said::Stored));
+        let made = reply_to(run, Do::Put(light(key)), key, 0);
+        same(rt, "the reply to a put", made, Some(PlainReply::Stored));
         holds(rt, "no notice of a put", run.notices.list().is_empty());
     }
     same(
@@ -28,20 +28,25 @@ fn hold_all(rt: &impl Abort, run: &mut Run<Loaded>) {
         (65536, 65536),
     );
     for key in [0, 1, 40_000, 65_535] {
-        let made = told(run, Do::Look, key, 0);
+        let made = reply_to(run, Do::Look, key, 0);
         same(
             rt,
             "a look in the full cache",
             made,
-            Some(Said::Hit(light(key))),
+            Some(PlainReply::Hit(light(key))),
         );
     }
 }
 
 // One more comes, and one leaves; then all do.
 fn let_go(rt: &impl Abort, run: &mut Run<Loaded>) {
-    let made = told(run, Do::Put(light(1)), 65536, 0);
-    same(rt, "the reply to one more put", made, Some(Said::Stored));
+    let made = reply_to(run, Do::Put(light(1)), 65536, 0);
+    same(
+        rt,
+        "the reply to one more put",
+        made,
+        Some(PlainReply::Stored),
+    );
     same(
         rt,
         "one notice of one more put",
@@ -54,8 +59,8 @@ fn let_go(rt: &impl Abort, run: &mut Run<Loaded>) {
         run.core.len(),
         65536,
     );
-    let made = told(run, Do::Clear, 0, 0);
-    same(rt, "the reply to a clear", made, Some(Said::Cleared));
+    let made = reply_to(run, Do::Clear, 0, 0);
+    same(rt, "the reply to a clear", made, Some(PlainReply::Cleared));
     same(
         rt,
         "how many notices of a clear",
@@ -75,27 +80,32 @@ fn as_many_entries_are_held_as_may_be(rt: HostRuntime) -> Result<(), Fail> {
 
 fn open_and_land_all(rt: &impl Abort, run: &mut Run<Loaded>) {
     for key in 1..=4096u64 {
-        let made = told(run, Do::Seek, key, 0);
-        same(rt, "the reply to a seek", made, Some(Said::Lead(key)));
+        let made = reply_to(run, Do::Seek, key, 0);
+        same(rt, "the reply to a seek", made, Some(PlainReply::Lead(key)));
     }
     same(rt, "how many open loads", run.core.open_flights(), 4096);
-    let full = Said::Refused(Fault::TooManyFlights { limit: 4096 });
+    let full = PlainReply::Refused(Fault::TooManyFlights { limit: 4096 });
     same(
         rt,
         "one more seek",
-        told(run, Do::Seek, 5000, 0),
+        reply_to(run, Do::Seek, 5000, 0),
         Some(full),
     );
-    let joined = told(run, Do::Seek, 4096, 0);
-    same(rt, "a seek of the last key", joined, Some(Said::Join(4096)));
+    let joined = reply_to(run, Do::Seek, 4096, 0);
+    same(
+        rt,
+        "a seek of the last key",
+        joined,
+        Some(PlainReply::Join(4096)),
+    );
     for key in 1..=4096u64 {
-        let landed = told(run, Do::Keep(key, light(key)), key, 0);
+        let landed = reply_to(run, Do::Keep(key, light(key)), key, 0);
         let sharers = if key == 4096 { 2 } else { 1 };
         same(
             rt,
             "the reply to a landing",
             landed,
-            Some(Said::Kept(sharers)),
+            Some(PlainReply::Kept(sharers)),
         );
     }
     same(
@@ -121,8 +131,8 @@ fn as_many_loads_are_open_as_may_be(rt: HostRuntime) -> Result<(), Fail> {
 // Puts as many entries as window may hold: its order has each before those that were put earlier.
 fn order_all(rt: &impl Abort, alloc: Global, run: &mut Run<Loaded>) -> Result<(), Fail> {
     for key in 0..65536u64 {
-        let made = told(run, Do::Put(light(key)), key, 0);
-        same(rt, "the reply to a put", made, Some(Said::Stored));
+        let made = reply_to(run, Do::Put(light(key)), key, 0);
+        same(rt, "the reply to a put", made, Some(PlainReply::Stored));
     }
     let order = run.core.order(alloc, Region::Window)?;
     same(rt, "how many keys of window", order.len(), 65536);
@@ -175,14 +185,14 @@ fn a_run_may_be_long(rt: HostRuntime) -> Result<(), Fail> {
 
 // The first seek opens the load.
 fn share_all(rt: &impl Abort, run: &mut Run<Loaded>) {
-    let opened = told(run, Do::Seek, 1, 0);
-    same(rt, "the first seek", opened, Some(Said::Lead(1)));
+    let opened = reply_to(run, Do::Seek, 1, 0);
+    same(rt, "the first seek", opened, Some(PlainReply::Lead(1)));
     for _ in 1..MANY {
-        let joined = told(run, Do::Seek, 1, 0);
-        same(rt, "a later seek", joined, Some(Said::Join(1)));
+        let joined = reply_to(run, Do::Seek, 1, 0);
+        same(rt, "a later seek", joined, Some(PlainReply::Join(1)));
     }
-    let landed = told(run, Do::Keep(1, light(5)), 1, 0);
-    same(rt, "the landing", landed, Some(Said::Kept(MANY)));
+    let landed = reply_to(run, Do::Keep(1, light(5)), 1, 0);
+    same(rt, "the landing", landed, Some(PlainReply::Kept(MANY)));
 }
 
 #[test]

@@ -26,7 +26,7 @@ struct Seen {
     protected: Vec<u64>,
     len: usize,
     weight: u64,
-    told: usize,
+    notices: usize,
     // For each key at each of some moments, whether it is there unexpired.
     alive: [[bool; 8]; 8],
 }
@@ -45,7 +45,7 @@ impl Run<Fussy> {
             protected: self.regions.order(alloc, Region::Protected)?,
             len: self.regions.len(),
             weight: self.regions.weight(),
-            told: self.notices.list().len(),
+            notices: self.notices.list().len(),
             alive,
         })
     }

@@ -52,9 +52,9 @@ fn expect_same<N: Names>(rt: &impl Abort, run: &Run<Loaded, N>, plain: &Plain<Lo
 
 fn expect_notices<N: Names>(rt: &impl Abort, run: &Run<Loaded, N>, plain: &Plain<Loaded>) {
     let list = plain.notices.list();
-    same(rt, "how many notices", run.told().len(), list.len());
-    for (told, wanted) in run.told().iter().zip(list) {
-        let got = (told.key, told.value, told.cause);
+    same(rt, "how many notices", run.notices().len(), list.len());
+    for (notice, wanted) in run.notices().iter().zip(list) {
+        let got = (notice.key, notice.value, notice.cause);
         same(
             rt,
             "a notice",

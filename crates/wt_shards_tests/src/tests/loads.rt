@@ -13,7 +13,7 @@ use wt_core::{Config, Land};
 use wt_flights::{Lead, Outcome, Publish, Ticket};
 use wt_keys::Fault;
 use wt_shards::{Names, Sought};
-use wt_tests::{Do, Fussy, Loaded, Said, call_of, counter, light};
+use wt_tests::{Do, Fussy, Loaded, PlainReply, call_of, counter, light};
 
 // The leads and tickets that seeks answered, in this order.
 #[derive(Drop)]
@@ -41,20 +41,20 @@ impl Loads {
 
     // Keeps what a seek answered, and tells of it: the id, the key and the moment of a lead, the id
     // and the key of a join.
-    fn keep(&mut self, sought: Sought<u64, Loaded>) -> Result<Told, Fault> {
+    fn keep(&mut self, sought: Sought<u64, Loaded>) -> Result<Effect, Fault> {
         match sought {
             Sought::Lead(lead, ticket) => {
-                let told = Told::Lead(lead.id(), lead.key(), lead.moment());
+                let effect = Effect::Lead(lead.id(), lead.key(), lead.moment());
                 self.leads.push(lead)?;
                 self.tickets.push(ticket)?;
-                Ok(told)
+                Ok(effect)
             }
             Sought::Join(ticket) => {
-                let told = Told::Join(ticket.id(), ticket.key());
+                let effect = Effect::Join(ticket.id(), ticket.key());
                 self.tickets.push(ticket)?;
-                Ok(told)
+                Ok(effect)
             }
-            Sought::Hit(_) | Sought::HitLead(_, _, _) => Ok(Told::Other),
+            Sought::Hit(_) | Sought::HitLead(_, _, _) => Ok(Effect::Other),
         }
     }
 
@@ -86,35 +86,35 @@ enum Act {
 }
 
 #[derive(Clone, Copy, Debug, PartialEq, Eq)]
-enum Told {
+enum Effect {
     Lead(u64, u64, u64),
     Join(u64, u64),
     Other,
-    Step(Said),
+    Step(PlainReply),
     Published,
     Nothing,
     Value(Loaded),
 }
 
-fn tell<N: Names>(
+fn effect_of<N: Names>(
     rt: &impl Abort,
     run: &mut Run<Loaded, N>,
     loads: &mut Loads,
     (act, key, now): (Act, u64, u64),
-) -> Result<Told, Fault> {
+) -> Result<Effect, Fault> {
     match act {
         Act::Seek => {
             let sought = run.seek(key, now)?;
             loads.keep(sought)
         }
-        Act::Step(act) => Ok(Told::Step(answered(run.make(call_of(act, key, now))))),
+        Act::Step(act) => Ok(Effect::Step(answered(run.make(call_of(act, key, now))))),
         Act::Publish(value) => {
             loads.publish(rt, value)?;
-            Ok(Told::Published)
+            Ok(Effect::Published)
         }
         Act::Poll(place) => match loads.value(rt, place)? {
-            Some(value) => Ok(Told::Value(value)),
-            None => Ok(Told::Nothing),
+            Some(value) => Ok(Effect::Value(value)),
+            None => Ok(Effect::Nothing),
         },
     }
 }
@@ -135,26 +135,26 @@ fn publish(rt: &impl Abort, lead: Lead<u64, Loaded>, value: Loaded) -> Ticket<u6
     }
 }
 
-// Each row has an act on key 7, its moment, and what `tell` is to return.
-fn rows() -> [(Act, u64, Told); 13] {
+// Each row has an act on key 7, its moment, and what `effect_of` is to return.
+fn rows() -> [(Act, u64, Effect); 13] {
     let value = light(5);
     let (keep, drop_key) = (Act::Step(Do::Keep(1, value)), Act::Step(Do::DropKey));
     [
-        (Act::Seek, 3, Told::Lead(1, 7, 3)),
-        (Act::Seek, 4, Told::Join(1, 7)),
-        (Act::Poll(1), 4, Told::Nothing),
-        (keep, 3, Told::Step(Said::Kept(2))),
+        (Act::Seek, 3, Effect::Lead(1, 7, 3)),
+        (Act::Seek, 4, Effect::Join(1, 7)),
+        (Act::Poll(1), 4, Effect::Nothing),
+        (keep, 3, Effect::Step(PlainReply::Kept(2))),
         // The landing is no publish.
-        (Act::Poll(1), 4, Told::Nothing),
-        (Act::Publish(value), 4, Told::Published),
-        (Act::Poll(0), 4, Told::Value(value)),
-        (Act::Poll(1), 4, Told::Value(value)),
-        (Act::Poll(2), 4, Told::Value(value)),
+        (Act::Poll(1), 4, Effect::Nothing),
+        (Act::Publish(value), 4, Effect::Published),
+        (Act::Poll(0), 4, Effect::Value(value)),
+        (Act::Poll(1), 4, Effect::Value(value)),
+        (Act::Poll(2), 4, Effect::Value(value)),
         // A later load has an outcome of its own.
-        (drop_key, 5, Told::Step(Said::Dropped(true))),
-        (Act::Seek, 6, Told::Lead(2, 7, 6)),
-        (Act::Poll(3), 6, Told::Nothing),
-        (Act::Poll(1), 6, Told::Value(value)),
+        (drop_key, 5, Effect::Step(PlainReply::Dropped(true))),
+        (Act::Seek, 6, Effect::Lead(2, 7, 6)),
+        (Act::Poll(3), 6, Effect::Nothing),
+        (Act::Poll(1), 6, Effect::Value(value)),
     ]
 }
 
@@ -170,9 +170,9 @@ impl Scene<Loaded> for Shared {
         run: &mut Run<Loaded, N>,
     ) -> Result<(), Fault> {
         let mut loads = Loads::new(alloc);
-        for (act, now, told) in rows() {
-            let heard = tell(rt, run, &mut loads, (act, 7, now));
-            same(rt, "what a row tells", heard, Ok(told));
+        for (act, now, effect) in rows() {
+            let heard = effect_of(rt, run, &mut loads, (act, 7, now));
+            same(rt, "what a row tells", heard, Ok(effect));
         }
         Ok(())
     }
@@ -193,15 +193,20 @@ fn join_many<N: Names>(
     run: &mut Run<Loaded, N>,
     loads: &mut Loads,
 ) -> Result<(), Fault> {
-    let opened = tell(rt, run, loads, (Act::Seek, 7, 3))?;
-    same(rt, "the first seek", opened, Told::Lead(1, 7, 3));
+    let opened = effect_of(rt, run, loads, (Act::Seek, 7, 3))?;
+    same(rt, "the first seek", opened, Effect::Lead(1, 7, 3));
     for _ in 1..MANY {
-        let joined = tell(rt, run, loads, (Act::Seek, 7, 3))?;
-        same(rt, "a later seek", joined, Told::Join(1, 7));
+        let joined = effect_of(rt, run, loads, (Act::Seek, 7, 3))?;
+        same(rt, "a later seek", joined, Effect::Join(1, 7));
     }
     let landing = (Act::Step(Do::Keep(1, light(5))), 7, 3);
-    let landed = tell(rt, run, loads, landing)?;
-    same(rt, "the landing", landed, Told::Step(Said::Kept(MANY)));
+    let landed = effect_of(rt, run, loads, landing)?;
+    same(
+        rt,
+        "the landing",
+        landed,
+        Effect::Step(PlainReply::Kept(MANY)),
+    );
     Ok(())
 }
 

@@ -15,7 +15,7 @@ use std::test::Fail;
 use wt_core::{Config, Stats, Weighs};
 use wt_keys::{Answers, Fault, Share};
 use wt_shards::{Names, Shade};
-use wt_tests::{Do, Fussy, Loaded, Said, Step, call_of, call_with, counter, light};
+use wt_tests::{Do, Fussy, Loaded, PlainReply, Step, call_of, call_with, counter, light};
 
 // A step on a key at a moment, with the number of shares that it asks for with ample memory.
 type Row = (Step, u64, u64, u32);
@@ -31,7 +31,7 @@ fn seen<V: Share + Weighs + Answers<u64>, N: Names>(rt: &impl Abort, run: &Run<V
         dropped.wrapping_add(kept as u64),
         run.steps(),
     );
-    (run.stats(), run.steps(), run.counts(), run.told().len())
+    (run.stats(), run.steps(), run.counts(), run.notices().len())
 }
 
 // Entries 5, window 1: main 4, protected 3. Values are due 20 ms after they were written, and
@@ -155,29 +155,29 @@ fn a_refused_share_is_no_step(rt: HostRuntime) -> Result<(), Fail> {
 }
 
 // A call on a key, and its reply once there is memory.
-type Asked = (Do, u64, Said);
+type Asked = (Do, u64, PlainReply);
 
 // All calls, each of which is a step.
 fn calls() -> [Asked; 18] {
     [
-        (Do::Put(light(1)), 1, Said::Stored),
-        (Do::Put(light(2)), 2, Said::Stored),
-        (Do::Put(light(3)), 3, Said::Stored),
-        (Do::Seek, 4, Said::Lead(1)),
-        (Do::Loose(1), 4, Said::Loose(1)),
-        (Do::Look, 1, Said::Hit(light(1))),
-        (Do::Seek, 4, Said::Lead(2)),
-        (Do::Seek, 4, Said::Join(2)),
-        (Do::Keep(2, light(4)), 4, Said::Kept(2)),
-        (Do::Seek, 4, Said::Hit(light(4))),
-        (Do::DropKey, 3, Said::Dropped(true)),
-        (Do::Seek, 5, Said::Lead(3)),
-        (Do::Forget, 5, Said::Forgot(true)),
-        (Do::Fail(3), 5, Said::Failed(1)),
-        (Do::Slide(true), 0, Said::Slid(true)),
-        (Do::Clean, 0, Said::Cleaned),
-        (Do::Clear, 0, Said::Cleared),
-        (Do::Look, 4, Said::Absent),
+        (Do::Put(light(1)), 1, PlainReply::Stored),
+        (Do::Put(light(2)), 2, PlainReply::Stored),
+        (Do::Put(light(3)), 3, PlainReply::Stored),
+        (Do::Seek, 4, PlainReply::Lead(1)),
+        (Do::Loose(1), 4, PlainReply::Loose(1)),
+        (Do::Look, 1, PlainReply::Hit(light(1))),
+        (Do::Seek, 4, PlainReply::Lead(2)),
+        (Do::Seek, 4, PlainReply::Join(2)),
+        (Do::Keep(2, light(4)), 4, PlainReply::Kept(2)),
+        (Do::Seek, 4, PlainReply::Hit(light(4))),
+        (Do::DropKey, 3, PlainReply::Dropped(true)),
+        (Do::Seek, 5, PlainReply::Lead(3)),
+        (Do::Forget, 5, PlainReply::Forgot(true)),
+        (Do::Fail(3), 5, PlainReply::Failed(1)),
+        (Do::Slide(true), 0, PlainReply::Slid(true)),
+        (Do::Clean, 0, PlainReply::Cleaned),
+        (Do::Clear, 0, PlainReply::Cleared),
+        (Do::Look, 4, PlainReply::Absent),
     ]
 }
 
@@ -257,8 +257,8 @@ fn ask<N: Names>(
 ) {
     run.forget_notices();
     let before = seen(rt, run);
-    let said = answered(run.make(call_of(act, key, 0)));
-    if said == Said::Refused(Fault::NoMemory) {
+    let reply = answered(run.make(call_of(act, key, 0)));
+    if reply == PlainReply::Refused(Fault::NoMemory) {
         holds(rt, "the call takes memory", !takes_no_memory(act));
         same(
             rt,
@@ -267,10 +267,10 @@ fn ask<N: Names>(
             before,
         );
         expect_explained(rt, alloc, limits, run);
-        let said = answered(run.make(call_of(act, key, 0)));
-        same(rt, "the reply once memory is there", said, answer);
+        let reply = answered(run.make(call_of(act, key, 0)));
+        same(rt, "the reply once memory is there", reply, answer);
     } else {
-        same(rt, "the reply", said, answer);
+        same(rt, "the reply", reply, answer);
     }
     expect_explained(rt, alloc, limits, run);
 }

@@ -9,11 +9,11 @@ use std::test::Fail;
 use wt_core::Config;
 use wt_keys::Fault;
 use wt_shards::Names;
-use wt_tests::{Do, Loaded, Said, call_of, light};
+use wt_tests::{Do, Loaded, PlainReply, call_of, light};
 
 // What is done to a key, what is answered, and then how many records were dropped and how many are
 // kept.
-type Row = (Do, u64, Said, u64, usize);
+type Row = (Do, u64, PlainReply, u64, usize);
 
 // In a shard whose bound is 5.
 fn rows() -> [Row; 7] {
@@ -27,15 +27,15 @@ fn rows() -> [Row; 7] {
         bound: 5,
     };
     [
-        (Do::Put(light(1)), 1, Said::Stored, 0, 1),
-        (Do::Put(light(2)), 2, Said::Stored, 0, 2),
-        (Do::Put(light(3)), 3, Said::Stored, 1, 2),
-        (Do::Seek, 4, Said::Lead(1), 3, 1),
-        (Do::Loose(1), 4, Said::Loose(1), 3, 2),
+        (Do::Put(light(1)), 1, PlainReply::Stored, 0, 1),
+        (Do::Put(light(2)), 2, PlainReply::Stored, 0, 2),
+        (Do::Put(light(3)), 3, PlainReply::Stored, 1, 2),
+        (Do::Seek, 4, PlainReply::Lead(1), 3, 1),
+        (Do::Loose(1), 4, PlainReply::Loose(1), 3, 2),
         // A refused call is no step.
-        (Do::Put(heavy), 5, Said::Refused(fault), 3, 2),
+        (Do::Put(heavy), 5, PlainReply::Refused(fault), 3, 2),
         // A load that isn't open is a step, and has no place of its own.
-        (Do::Loose(1), 4, Said::Gone, 4, 2),
+        (Do::Loose(1), 4, PlainReply::Gone, 4, 2),
     ]
 }
 

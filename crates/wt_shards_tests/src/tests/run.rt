@@ -161,7 +161,7 @@ impl<V: Share + Weighs + Answers<u64>, N: Names> Run<V, N> {
 
     // Its visible state.
 
-    pub fn told(&self) -> &[Notice<u64, V>] {
+    pub fn notices(&self) -> &[Notice<u64, V>] {
         self.notices.list()
     }
 

@@ -4,7 +4,7 @@ ghost use Rattle.wt_shards.specs.Opening.{AreBlanksOf};
 
 use super::caller::Caller;
 use super::compare::same;
-use super::{config, said};
+use super::{config, plain_answer};
 use std::alloc::Global;
 use std::marker::Brand;
 use std::process::Abort;
@@ -13,7 +13,7 @@ use std::test::Fail;
 use wt_core::{Call, Config};
 use wt_keys::Fault;
 use wt_shards::{Blanks, Names, Of, Pass, Shards};
-use wt_tests::{Loaded, Said, light};
+use wt_tests::{Loaded, PlainReply, light};
 
 // Steps and hits at each of the four shards.
 type Counts = [(u64, u64); 4];
@@ -25,13 +25,18 @@ fn play<N: Names, R: Wait + Abort>(
     caller: &mut Caller<Loaded, Of<N>>,
 ) {
     let put = caller.make(rt, shards, Call::Put(1, light(5), 0));
-    same(rt, "a put and its step", said(put), (Said::Stored, 1));
+    same(
+        rt,
+        "a put and its step",
+        plain_answer(put),
+        (PlainReply::Stored, 1),
+    );
     let look = caller.make(rt, shards, Call::Look(1, 0));
     same(
         rt,
         "a look and its step",
-        said(look),
-        (Said::Hit(light(5)), 2),
+        plain_answer(look),
+        (PlainReply::Hit(light(5)), 2),
     );
     same(
         rt,

@@ -4,7 +4,7 @@ ghost use Rattle.wt_shards.specs.Opening.{AreBlanksOf};
 
 use super::caller::Caller;
 use super::compare::{holds, same};
-use super::{config, said};
+use super::{config, plain_answer};
 use std::alloc::Global;
 use std::marker::Brand;
 use std::process::Abort;
@@ -15,7 +15,7 @@ use std::thread::Threads;
 use wt_core::Config;
 use wt_keys::Fault;
 use wt_shards::{Blanks, Names, Of, Pass, Shards, Total};
-use wt_tests::{Dice, Do, Loaded, Said, call_of, choose};
+use wt_tests::{Dice, Do, Loaded, PlainReply, call_of, choose};
 
 // How many threads call, and the turns of each.
 const CALLERS: usize = 4;
@@ -36,9 +36,9 @@ fn next<N: Names>(dice: &mut Dice, caller: &Caller<Loaded, Of<N>>, version: u64)
 
 // How many steps an answer tells of: a sweep is one at each shard, and a landing without a lead
 // isn't made and has no number.
-fn steps_of((said, number): (Said, u64), act: Do, shards: u64) -> u64 {
-    match (said, act) {
-        (Said::Refused(_), _) => 0,
+fn steps_of((reply, number): (PlainReply, u64), act: Do, shards: u64) -> u64 {
+    match (reply, act) {
+        (PlainReply::Refused(_), _) => 0,
         _ if number == 0 => 0,
         (_, Do::Clear | Do::Clean) => shards,
         _ => 1,
@@ -57,7 +57,7 @@ fn take_turns<N: Names, R: Wait + Abort>(
     for turn in 0..TURNS {
         let (act, key) = next(&mut dice, caller, turn);
         let answer = caller.make(rt, shards, call_of(act, key, turn));
-        steps = steps.wrapping_add(steps_of(said(answer), act, shards.shards() as u64));
+        steps = steps.wrapping_add(steps_of(plain_answer(answer), act, shards.shards() as u64));
     }
     steps
 }

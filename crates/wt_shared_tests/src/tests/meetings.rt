@@ -4,18 +4,18 @@ ghost use mathlib.Core.List.{IsPrefix};
 ghost use Rattle.wt_shared.specs.Runs.{IsRun};
 
 use super::compare::{holds, same};
-use super::{Mine, first_left, limits, told};
+use super::{LoadedCaller, first_left, limits, reply_to};
 use std::test::Fail;
 use wt_core::{Call, Cause};
 use wt_shared::Caller;
-use wt_tests::{Do, Loaded, Said, light};
+use wt_tests::{Do, Loaded, PlainReply, light};
 
 // One caller makes a call, the other one meets it, and makes a call then. The numbers of the two
 // calls, if both were made.
 #[tactic(auto, using(crate::proofs::Following::follows))]
 fn follow(
-    mine: &mut Mine,
-    theirs: &mut Mine,
+    mine: &mut LoadedCaller,
+    theirs: &mut LoadedCaller,
     first: Call<u64, Loaded>,
     then: Call<u64, Loaded>,
 ) -> Option<(u64, u64)>
@@ -34,7 +34,7 @@ fn follow(
 }
 
 // Meets the other caller. The laws then hold of all calls that one of the two had seen.
-fn meet_lawfully(mine: &mut Mine, theirs: &Mine)
+fn meet_lawfully(mine: &mut LoadedCaller, theirs: &LoadedCaller)
     requires one_log { theirs.now.known.seen.book ≡ mine.old.known.seen.book }
     ensures that { IsPrefix theirs.now.known.seen.entries mine.new.known.seen.entries }
     ensures lawful { IsRun nat_eq (λ k. k) (λ v. record { weight = v.weight; life = v.life })
@@ -46,7 +46,7 @@ fn meet_lawfully(mine: &mut Mine, theirs: &Mine)
 
 #[test]
 fn a_caller_that_has_met_another_one_follows_it(rt: HostRuntime) -> Result<(), Fail> {
-    let mut mine: Mine = Caller::open(rt.alloc(), &limits(None))?;
+    let mut mine: LoadedCaller = Caller::open(rt.alloc(), &limits(None))?;
     let mut theirs = mine.another(rt.alloc())?;
     let numbers = follow(
         &mut mine,
@@ -66,14 +66,14 @@ fn a_caller_that_has_met_another_one_follows_it(rt: HostRuntime) -> Result<(), F
 
 #[test]
 fn a_meeting_leaves_number_and_notices(rt: HostRuntime) -> Result<(), Fail> {
-    let mut mine: Mine = Caller::open(rt.alloc(), &limits(None))?;
+    let mut mine: LoadedCaller = Caller::open(rt.alloc(), &limits(None))?;
     let theirs = mine.another(rt.alloc())?;
     meet_lawfully(&mut mine, &theirs);
     same(
         &rt,
         "the look",
-        told(&mut mine, Do::Look, 1, 0),
-        Ok(Said::Absent),
+        reply_to(&mut mine, Do::Look, 1, 0),
+        Ok(PlainReply::Absent),
     );
     let mut third = mine.another(rt.alloc())?;
     meet_lawfully(&mut third, &mine);

@@ -1,6 +1,6 @@
 // The numbers of a cache, which are all of one moment and no step.
 use super::compare::{holds, same};
-use super::{Mine, first_left, limits, told};
+use super::{LoadedCaller, first_left, limits, reply_to};
 use std::test::Fail;
 use wt_core::{Cause, Stats};
 use wt_shared::{Caller, Numbers};
@@ -8,14 +8,14 @@ use wt_tests::{Do, light};
 
 #[test]
 fn numbers_are_of_one_moment(rt: HostRuntime) -> Result<(), Fail> {
-    let mut first: Mine = Caller::open(rt.alloc(), &limits(None))?;
+    let mut first: LoadedCaller = Caller::open(rt.alloc(), &limits(None))?;
     let mut second = first.another(rt.alloc())?;
     for value in [light(5), light(6)] {
-        let put = told(&mut first, Do::Put(value), 1, 0);
+        let put = reply_to(&mut first, Do::Put(value), 1, 0);
         holds(&rt, "a put", put.is_ok());
     }
     for (act, key, now) in [(Do::Look, 1, 3), (Do::Look, 2, 4), (Do::Seek, 2, 5)] {
-        let call = told(&mut second, act, key, now);
+        let call = reply_to(&mut second, act, key, now);
         holds(&rt, "a call", call.is_ok());
     }
     // A hit, a miss, and a load that is open. Nothing was evicted: the first value was replaced.

@@ -1,6 +1,6 @@
 // Calls and peeks that are refused: a bad configuration, and a share without memory.
 use super::compare::{holds, same};
-use super::{Mine, limits};
+use super::{LoadedCaller, limits};
 use std::cell::Cell;
 use std::process::Abort;
 use std::test::Fail;
@@ -15,7 +15,7 @@ fn a_bad_configuration_opens_no_cache(rt: HostRuntime) {
         window: 5,
         ..limits(None)
     };
-    let opened: Result<Mine, Fault> = Caller::open(rt.alloc(), &wide);
+    let opened: Result<LoadedCaller, Fault> = Caller::open(rt.alloc(), &wide);
     same(
         &rt,
         "the fault",

@@ -1,24 +1,24 @@
 // Two callers of one cache, in turn on one thread: each finds what the other one left, and no call is
 // busy.
 use super::compare::same;
-use super::{Mine, first_left, limits, told};
+use super::{LoadedCaller, first_left, limits, reply_to};
 use std::process::Abort;
 use std::test::Fail;
 use wt_core::Cause;
 use wt_keys::Fault;
 use wt_shared::Caller;
-use wt_tests::{Do, Loaded, Said, light};
+use wt_tests::{Do, Loaded, PlainReply, light};
 
 // Whether the second caller makes the call, the call on a key at a moment, its reply, and the number
 // that its caller then has.
-type Row = (bool, Do, u64, u64, Said, u64);
+type Row = (bool, Do, u64, u64, PlainReply, u64);
 
-fn expect_row(rt: &impl Abort, first: &mut Mine, second: &mut Mine, row: &Row) {
+fn expect_row(rt: &impl Abort, first: &mut LoadedCaller, second: &mut LoadedCaller, row: &Row) {
     let (by_second, act, key, now, reply, number) = *row;
     let got = if by_second {
-        told(second, act, key, now)
+        reply_to(second, act, key, now)
     } else {
-        told(first, act, key, now)
+        reply_to(first, act, key, now)
     };
     same(rt, "the reply", got, Ok(reply));
     let at = if by_second {
@@ -29,7 +29,7 @@ fn expect_row(rt: &impl Abort, first: &mut Mine, second: &mut Mine, row: &Row) {
     same(rt, "the number", at, number);
 }
 
-fn expect_rows(rt: &impl Abort, first: &mut Mine, second: &mut Mine, rows: &[Row]) {
+fn expect_rows(rt: &impl Abort, first: &mut LoadedCaller, second: &mut LoadedCaller, rows: &[Row]) {
     for row in rows {
         expect_row(rt, first, second, row);
     }
@@ -46,16 +46,16 @@ fn two_callers_in_turn_have_one_cache(rt: HostRuntime) -> Result<(), Fail> {
         bound: 10,
     };
     let rows = [
-        (false, Do::Seek, 1, 0, Said::Lead(1), 1),
-        (true, Do::Seek, 1, 0, Said::Join(1), 2),
-        (true, Do::Keep(1, light(5)), 1, 3, Said::Kept(2), 3),
-        (false, Do::Look, 1, 4, Said::Hit(light(5)), 4),
-        (false, Do::Put(light(6)), 1, 5, Said::Stored, 5),
+        (false, Do::Seek, 1, 0, PlainReply::Lead(1), 1),
+        (true, Do::Seek, 1, 0, PlainReply::Join(1), 2),
+        (true, Do::Keep(1, light(5)), 1, 3, PlainReply::Kept(2), 3),
+        (false, Do::Look, 1, 4, PlainReply::Hit(light(5)), 4),
+        (false, Do::Put(light(6)), 1, 5, PlainReply::Stored, 5),
         // A call that the cache refuses has a number too.
-        (true, Do::Put(heavy), 2, 6, Said::Refused(fault), 6),
-        (true, Do::DropKey, 1, 7, Said::Dropped(true), 7),
+        (true, Do::Put(heavy), 2, 6, PlainReply::Refused(fault), 6),
+        (true, Do::DropKey, 1, 7, PlainReply::Dropped(true), 7),
     ];
-    let mut first: Mine = Caller::open(rt.alloc(), &limits(None))?;
+    let mut first: LoadedCaller = Caller::open(rt.alloc(), &limits(None))?;
     let mut second = first.another(rt.alloc())?;
     same(
         &rt,
@@ -81,7 +81,7 @@ fn two_callers_in_turn_have_one_cache(rt: HostRuntime) -> Result<(), Fail> {
         &rt,
         &mut first,
         &mut second,
-        &(false, Do::Look, 1, 8, Said::Absent, 8),
+        &(false, Do::Look, 1, 8, PlainReply::Absent, 8),
     );
     same(&rt, "what left in the look", first_left(&first), (0, None));
     Ok(())
@@ -89,12 +89,12 @@ fn two_callers_in_turn_have_one_cache(rt: HostRuntime) -> Result<(), Fail> {
 
 #[test]
 fn the_cache_stays_while_it_has_a_caller(rt: HostRuntime) -> Result<(), Fail> {
-    let mut first: Mine = Caller::open(rt.alloc(), &limits(None))?;
+    let mut first: LoadedCaller = Caller::open(rt.alloc(), &limits(None))?;
     same(
         &rt,
         "the put",
-        told(&mut first, Do::Put(light(5)), 1, 0),
-        Ok(Said::Stored),
+        reply_to(&mut first, Do::Put(light(5)), 1, 0),
+        Ok(PlainReply::Stored),
     );
     let mut second = first.another(rt.alloc())?;
     drop(first);
@@ -108,8 +108,8 @@ fn the_cache_stays_while_it_has_a_caller(rt: HostRuntime) -> Result<(), Fail> {
     same(
         &rt,
         "the look",
-        told(&mut second, Do::Look, 1, 0),
-        Ok(Said::Hit(light(5))),
+        reply_to(&mut second, Do::Look, 1, 0),
+        Ok(PlainReply::Hit(light(5))),
     );
     same(&rt, "its number", second.number(), 2);
     Ok(())
