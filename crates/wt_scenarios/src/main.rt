@@ -1,6 +1,7 @@
 //! Plays a scenario, calls in a fixed order, on one layer of the cache, and prints each result.
 #![tactic(auto)]
 
+mod answer;
 mod line;
 mod on_cache;
 mod on_callers;
@@ -9,7 +10,6 @@ mod on_shards;
 mod player;
 mod settings;
 mod source;
-mod told;
 mod words;
 
 use line::Scenario;

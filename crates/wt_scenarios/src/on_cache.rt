@@ -1,12 +1,12 @@
 // The lines on a `LoadingCache`, with one pass.
 ghost use Rattle.std.specs.Prelude.{◌≤◌};
 
+use crate::answer::{
+    Answer, AnswerAt, answer_by, drop_answer, forget_answer, peek_answer, print_answer,
+    print_stats, put_answer, refused, slide_answer, sweep_answer,
+};
 use crate::line::{Line, Load, Slide};
 use crate::source::Source;
-use crate::told::{
-    Said, Told, drop_told, forget_told, peek_told, print_stats, print_told, put_told, refused,
-    slide_told, sweep_told, told_by,
-};
 use std::alloc::Global;
 use std::io::Print;
 use std::sync::Wait;
@@ -78,8 +78,8 @@ fn play_peek<'s, B: Books, R: Print + Wait>(
     key: u64,
     now: u64,
 ) -> anyhow::Result<()> {
-    let (step, said) = peek_told(cache.peek(rt, pass, key, now));
-    print_told(rt, step, &said, &[], &[])?;
+    let (step, answer) = peek_answer(cache.peek(rt, pass, key, now));
+    print_answer(rt, step, &answer, &[], &[])?;
     Ok(())
 }
 
@@ -92,8 +92,8 @@ fn play_read<'s, B: Books, R: Print + Wait>(
     now: u64,
 ) -> anyhow::Result<()> {
     let mut left = Notices::new(alloc, cache.entries() as usize)?;
-    let (step, said) = peek_told(cache.read(rt, pass, key, now, &mut left));
-    print_told(rt, step, &said, left.list(), &[])?;
+    let (step, answer) = peek_answer(cache.read(rt, pass, key, now, &mut left));
+    print_answer(rt, step, &answer, left.list(), &[])?;
     Ok(())
 }
 
@@ -116,8 +116,8 @@ fn play_sweep<'s, B: Books, R: Print + Wait>(
     } else {
         (cache.clean_up(rt, pass, now, &mut left), Reply::Cleaned)
     };
-    let (step, said) = sweep_told(outcome, reply, pass.steps(0));
-    print_told(rt, step, &said, left.list(), &[])?;
+    let (step, answer) = sweep_answer(outcome, reply, pass.steps(0));
+    print_answer(rt, step, &answer, left.list(), &[])?;
     Ok(())
 }
 
@@ -131,8 +131,8 @@ fn play_slide<'s, B: Books, R: Print + Wait>(
 ) -> anyhow::Result<()> {
     let Slide { wider, now } = slide;
     let mut left = Notices::new(alloc, cache.entries() as usize)?;
-    let (step, said) = slide_told(cache.slide(rt, pass, key, wider, now, &mut left));
-    print_told(rt, step, &said, left.list(), &[])?;
+    let (step, answer) = slide_answer(cache.slide(rt, pass, key, wider, now, &mut left));
+    print_answer(rt, step, &answer, left.list(), &[])?;
     Ok(())
 }
 
@@ -144,27 +144,27 @@ fn play_call<'s, B: Books, R: Print + Wait>(
     call: Call<u64, Loaded>,
 ) -> anyhow::Result<()> {
     let mut left = Notices::new(alloc, cache.entries() as usize)?;
-    let (step, said) = told_at(rt, cache, pass, call, &mut left);
-    print_told(rt, step, &said, left.list(), &[])?;
+    let (step, answer) = answer_at(rt, cache, pass, call, &mut left);
+    print_answer(rt, step, &answer, left.list(), &[])?;
     Ok(())
 }
 
 // A call at the shard of its key.
-fn told_at<'s, B: Books, R: Wait>(
+fn answer_at<'s, B: Books, R: Wait>(
     rt: &R,
     cache: &Cache<'s, B>,
     pass: &mut Pass<u64, Loaded, B>,
     call: Call<u64, Loaded>,
     left: &mut Left,
-) -> Told
+) -> AnswerAt
     requires room { cache.now.layout.config.entries ≤ left.old.room }
 {
     match call {
-        Call::Look(key, now) => told_by(cache.get_if_present(rt, pass, key, now, left)),
-        Call::Put(key, value, now) => put_told(cache.put(rt, pass, key, value, now, left)),
-        Call::DropKey(key, now) => drop_told(cache.invalidate(rt, pass, key, now, left)),
-        Call::Forget(key, now) => forget_told(cache.forget(rt, pass, key, now, left)),
-        _ => (0, Said::NoSuchCall),
+        Call::Look(key, now) => answer_by(cache.get_if_present(rt, pass, key, now, left)),
+        Call::Put(key, value, now) => put_answer(cache.put(rt, pass, key, value, now, left)),
+        Call::DropKey(key, now) => drop_answer(cache.invalidate(rt, pass, key, now, left)),
+        Call::Forget(key, now) => forget_answer(cache.forget(rt, pass, key, now, left)),
+        _ => (0, Answer::NoSuchCall),
     }
 }
 
@@ -177,10 +177,10 @@ fn play_get<'s, B: Books, R: Print + Wait>(
     now: u64,
 ) -> anyhow::Result<()> {
     let mut left = Notices::new(alloc, 2 * cache.entries() as usize)?;
-    let (step, said) = match cache.get(rt, pass, key, now, &mut left) {
-        Ok(got) => (got.step, Said::Got(got.how, got.value)),
+    let (step, answer) = match cache.get(rt, pass, key, now, &mut left) {
+        Ok(got) => (got.step, Answer::Got(got.how, got.value)),
         Err(fault) => refused(fault),
     };
-    print_told(rt, step, &said, left.list(), &[])?;
+    print_answer(rt, step, &answer, left.list(), &[])?;
     Ok(())
 }

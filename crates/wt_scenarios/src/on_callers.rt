@@ -1,10 +1,10 @@
 // The lines on a `LoadingCache`, each call by a caller that is lent for it.
+use crate::answer::{
+    Answer, AnswerAt, answer_by, drop_answer, forget_answer, peek_answer, print_answer,
+    print_stats, put_answer, refused, slide_answer, sweep_answer,
+};
 use crate::line::{Line, Load, Slide};
 use crate::source::Source;
-use crate::told::{
-    Said, Told, drop_told, forget_told, peek_told, print_stats, print_told, put_told, refused,
-    slide_told, sweep_told, told_by,
-};
 use std::alloc::Global;
 use std::io::Print;
 use std::sync::Wait;
@@ -71,8 +71,8 @@ fn play_peek<'s, B: Books, R: Print + Wait>(
     now: u64,
 ) -> anyhow::Result<()> {
     let mut caller = callers.lend(rt)?;
-    let (step, said) = peek_told(caller.peek(key, now));
-    let printed = print_told(rt, step, &said, caller.left(), &[]);
+    let (step, answer) = peek_answer(caller.peek(key, now));
+    let printed = print_answer(rt, step, &answer, caller.left(), &[]);
     caller.give_back();
     printed?;
     Ok(())
@@ -85,8 +85,8 @@ fn play_read<'s, B: Books, R: Print + Wait>(
     now: u64,
 ) -> anyhow::Result<()> {
     let mut caller = callers.lend(rt)?;
-    let (step, said) = peek_told(caller.read(key, now));
-    let printed = print_told(rt, step, &said, caller.left(), &[]);
+    let (step, answer) = peek_answer(caller.read(key, now));
+    let printed = print_answer(rt, step, &answer, caller.left(), &[]);
     caller.give_back();
     printed?;
     Ok(())
@@ -110,8 +110,8 @@ fn play_sweep<'s, B: Books, R: Print + Wait>(
     } else {
         (caller.clean_up(now, &mut left), Reply::Cleaned)
     };
-    let (step, said) = sweep_told(outcome, reply, 0);
-    let printed = print_told(rt, step, &said, left.list(), caller.left());
+    let (step, answer) = sweep_answer(outcome, reply, 0);
+    let printed = print_answer(rt, step, &answer, left.list(), caller.left());
     caller.give_back();
     printed?;
     Ok(())
@@ -124,8 +124,8 @@ fn play_slide<'s, B: Books, R: Print + Wait>(
     slide: Slide,
 ) -> anyhow::Result<()> {
     let mut caller = callers.lend(rt)?;
-    let (step, said) = slide_told(caller.slide(key, slide.wider, slide.now));
-    let printed = print_told(rt, step, &said, caller.left(), &[]);
+    let (step, answer) = slide_answer(caller.slide(key, slide.wider, slide.now));
+    let printed = print_answer(rt, step, &answer, caller.left(), &[]);
     caller.give_back();
     printed?;
     Ok(())
@@ -137,24 +137,24 @@ fn play_call<'s, B: Books, R: Print + Wait>(
     call: Call<u64, Loaded>,
 ) -> anyhow::Result<()> {
     let mut caller = callers.lend(rt)?;
-    let (step, said) = told_to(&mut caller, call);
-    let printed = print_told(rt, step, &said, caller.left(), &[]);
+    let (step, answer) = answer_to(&mut caller, call);
+    let printed = print_answer(rt, step, &answer, caller.left(), &[]);
     caller.give_back();
     printed?;
     Ok(())
 }
 
 // A call at the shard of its key.
-fn told_to<'c, 's, B: Books, R: Wait>(
+fn answer_to<'c, 's, B: Books, R: Wait>(
     caller: &mut Lent<'c, 's, B, R>,
     call: Call<u64, Loaded>,
-) -> Told {
+) -> AnswerAt {
     match call {
-        Call::Look(key, now) => told_by(caller.get_if_present(key, now)),
-        Call::Put(key, value, now) => put_told(caller.put(key, value, now)),
-        Call::DropKey(key, now) => drop_told(caller.invalidate(key, now)),
-        Call::Forget(key, now) => forget_told(caller.forget(key, now)),
-        _ => (0, Said::NoSuchCall),
+        Call::Look(key, now) => answer_by(caller.get_if_present(key, now)),
+        Call::Put(key, value, now) => put_answer(caller.put(key, value, now)),
+        Call::DropKey(key, now) => drop_answer(caller.invalidate(key, now)),
+        Call::Forget(key, now) => forget_answer(caller.forget(key, now)),
+        _ => (0, Answer::NoSuchCall),
     }
 }
 
@@ -168,11 +168,11 @@ fn play_get<'s, B: Books, R: Print + Wait>(
 ) -> anyhow::Result<()> {
     source.tell(load);
     let mut caller = callers.lend(rt)?;
-    let (step, said) = match caller.get(key, now) {
-        Ok(got) => (got.step, Said::Got(got.how, got.value)),
+    let (step, answer) = match caller.get(key, now) {
+        Ok(got) => (got.step, Answer::Got(got.how, got.value)),
         Err(fault) => refused(fault),
     };
-    let printed = print_told(rt, step, &said, caller.left(), &[]);
+    let printed = print_answer(rt, step, &answer, caller.left(), &[]);
     caller.give_back();
     printed?;
     Ok(())

@@ -1,6 +1,6 @@
 // The lines on a `Core`.
+use crate::answer::{Answer, peek_answer, print_answer, print_keys, print_stats};
 use crate::line::{Line, Load, Slide};
-use crate::told::{Said, peek_told, print_keys, print_stats, print_told};
 use std::alloc::Global;
 use std::io::Print;
 use wt_cache::How;
@@ -41,7 +41,7 @@ fn play_line<R: Print>(rt: &R, alloc: Global, core: &mut Cache, line: Line) -> a
     match line {
         Line::Call(call) => play_call(rt, alloc, core, call),
         Line::Peek(key, now) => play_peek(rt, core, key, now),
-        Line::Read(_, _) => Ok(print_told(rt, 0, &Said::NoSuchCall, &[], &[])?),
+        Line::Read(_, _) => Ok(print_answer(rt, 0, &Answer::NoSuchCall, &[], &[])?),
         Line::Get(key, load, now) => play_get(rt, alloc, core, key, load, now),
         Line::Slide(_, Slide { wider, now }) => {
             play_call(rt, alloc, core, Call::Slide { wider, now })
@@ -60,13 +60,13 @@ fn play_call<R: Print>(
 ) -> anyhow::Result<()> {
     let mut left = Notices::new(alloc, core.entries() as usize)?;
     let reply = core.take(call, &mut left)?;
-    print_told(rt, core.step(), &Said::Reply(reply), left.list(), &[])?;
+    print_answer(rt, core.step(), &Answer::Reply(reply), left.list(), &[])?;
     Ok(())
 }
 
 fn play_peek<R: Print>(rt: &R, core: &Cache, key: u64, now: u64) -> anyhow::Result<()> {
-    let (step, said) = peek_told(core.peek(key, now));
-    print_told(rt, step, &said, &[], &[])?;
+    let (step, answer) = peek_answer(core.peek(key, now));
+    print_answer(rt, step, &answer, &[], &[])?;
     Ok(())
 }
 
@@ -79,20 +79,20 @@ fn landing(load: Load) -> Land<Loaded> {
 }
 
 // The result of a get of an absent key.
-fn loaded(load: Load) -> Said {
+fn loaded(load: Load) -> Answer {
     match load {
-        Load::Value(value) => Said::Got(How::Loaded, value),
-        Load::Failed(code) => Said::Reply(Reply::Refused(Fault::LoadFailed { code })),
+        Load::Value(value) => Answer::Got(How::Loaded, value),
+        Load::Failed(code) => Answer::Reply(Reply::Refused(Fault::LoadFailed { code })),
     }
 }
 
 // The result of a get by its seek's reply, and the load that the seek opened.
-fn got_by(reply: Reply<Loaded>, load: Load) -> (Said, Option<u64>) {
+fn got_by(reply: Reply<Loaded>, load: Load) -> (Answer, Option<u64>) {
     match reply {
-        Reply::Hit(value) => (Said::Got(How::Hit, value), None),
-        Reply::HitLead(value, id) => (Said::Got(How::Refreshed, value), Some(id)),
+        Reply::Hit(value) => (Answer::Got(How::Hit, value), None),
+        Reply::HitLead(value, id) => (Answer::Got(How::Refreshed, value), Some(id)),
         Reply::Lead(id) => (loaded(load), Some(id)),
-        other => (Said::Reply(other), None),
+        other => (Answer::Reply(other), None),
     }
 }
 
@@ -124,9 +124,9 @@ fn play_get<R: Print>(
     let mut left = Notices::new(alloc, core.entries() as usize)?;
     let reply = core.take(Call::Seek(key, now), &mut left)?;
     let step = core.step();
-    let (said, id) = got_by(reply, load);
+    let (answer, id) = got_by(reply, load);
     let later = landed(alloc, core, id, key, load, now)?;
-    print_told(rt, step, &said, left.list(), later.list())?;
+    print_answer(rt, step, &answer, left.list(), later.list())?;
     Ok(())
 }
 

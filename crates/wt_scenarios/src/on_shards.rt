@@ -1,11 +1,11 @@
 // The lines on `Shards`, with one pass.
 ghost use Rattle.std.specs.Prelude.{◌≤◌};
 
-use crate::line::{Line, Slide};
-use crate::told::{
-    Said, Told, drop_told, forget_told, peek_told, print_stats, print_told, put_told, refused,
-    slide_told, sweep_told, told_by,
+use crate::answer::{
+    Answer, AnswerAt, answer_by, drop_answer, forget_answer, peek_answer, print_answer,
+    print_stats, put_answer, refused, slide_answer, sweep_answer,
 };
+use crate::line::{Line, Slide};
 use std::alloc::Global;
 use std::io::Print;
 use std::sync::Wait;
@@ -65,7 +65,7 @@ fn play_line<B: Books, R: Print + Wait>(
         Line::Peek(key, now) => play_peek(rt, shards, pass, key, now),
         Line::Read(key, now) => play_read(rt, alloc, shards, pass, key, now),
         Line::Slide(key, slide) => play_slide(rt, alloc, shards, pass, key, slide),
-        Line::Get(_, _, _) => Ok(print_told(rt, 0, &Said::NoSuchCall, &[], &[])?),
+        Line::Get(_, _, _) => Ok(print_answer(rt, 0, &Answer::NoSuchCall, &[], &[])?),
         Line::Stats => Ok(print_stats(rt, &shards.stats(rt))?),
         Line::Order | Line::Nothing => Ok(()),
     }
@@ -78,8 +78,8 @@ fn play_peek<B: Books, R: Print + Wait>(
     key: u64,
     now: u64,
 ) -> anyhow::Result<()> {
-    let (step, said) = peek_told(shards.peek(rt, pass, key, now));
-    print_told(rt, step, &said, &[], &[])?;
+    let (step, answer) = peek_answer(shards.peek(rt, pass, key, now));
+    print_answer(rt, step, &answer, &[], &[])?;
     Ok(())
 }
 
@@ -92,8 +92,8 @@ fn play_read<B: Books, R: Print + Wait>(
     now: u64,
 ) -> anyhow::Result<()> {
     let mut left = Notices::new(alloc, shards.entries() as usize)?;
-    let (step, said) = peek_told(shards.read(rt, pass, key, now, &mut left));
-    print_told(rt, step, &said, left.list(), &[])?;
+    let (step, answer) = peek_answer(shards.read(rt, pass, key, now, &mut left));
+    print_answer(rt, step, &answer, left.list(), &[])?;
     Ok(())
 }
 
@@ -113,8 +113,8 @@ fn play_sweep<B: Books, R: Print + Wait>(
     } else {
         (shards.clean(rt, pass, now, &mut left), Reply::Cleaned)
     };
-    let (step, said) = sweep_told(outcome, reply, pass.steps(0));
-    print_told(rt, step, &said, left.list(), &[])?;
+    let (step, answer) = sweep_answer(outcome, reply, pass.steps(0));
+    print_answer(rt, step, &answer, left.list(), &[])?;
     Ok(())
 }
 
@@ -128,8 +128,8 @@ fn play_slide<B: Books, R: Print + Wait>(
 ) -> anyhow::Result<()> {
     let Slide { wider, now } = slide;
     let mut left = Notices::new(alloc, shards.entries() as usize)?;
-    let (step, said) = slide_told(shards.slide(rt, pass, key, wider, now, &mut left));
-    print_told(rt, step, &said, left.list(), &[])?;
+    let (step, answer) = slide_answer(shards.slide(rt, pass, key, wider, now, &mut left));
+    print_answer(rt, step, &answer, left.list(), &[])?;
     Ok(())
 }
 
@@ -142,32 +142,32 @@ fn play_call<B: Books, R: Print + Wait>(
     call: Call<u64, Loaded>,
 ) -> anyhow::Result<()> {
     let mut left = Notices::new(alloc, shards.entries() as usize)?;
-    let (step, said) = told_at(rt, shards, pass, leads, call, &mut left)?;
-    print_told(rt, step, &said, left.list(), &[])?;
+    let (step, answer) = answer_at(rt, shards, pass, leads, call, &mut left)?;
+    print_answer(rt, step, &answer, left.list(), &[])?;
     Ok(())
 }
 
 // A call at the shard of its key.
-fn told_at<B: Books, R: Wait>(
+fn answer_at<B: Books, R: Wait>(
     rt: &R,
     shards: &Cache<B>,
     pass: &mut Pass<u64, Loaded, B>,
     leads: &mut Leads,
     call: Call<u64, Loaded>,
     left: &mut Left,
-) -> Result<Told, Fault>
+) -> Result<AnswerAt, Fault>
     requires room { shards.now.config.entries ≤ left.old.room }
 {
     match call {
-        Call::Look(key, now) => Ok(told_by(shards.look(rt, pass, key, now, left))),
+        Call::Look(key, now) => Ok(answer_by(shards.look(rt, pass, key, now, left))),
         Call::Seek(key, now) => seek(rt, shards, pass, leads, key, now, left),
         Call::Land(id, key, what, now) => {
             Ok(land(rt, shards, pass, lead_of(leads, id, key), what, now, left))
         }
-        Call::Put(key, value, now) => Ok(put_told(shards.put(rt, pass, key, value, now, left))),
-        Call::DropKey(key, now) => Ok(drop_told(shards.drop_key(rt, pass, key, now, left))),
-        Call::Forget(key, now) => Ok(forget_told(shards.forget(rt, pass, key, now, left))),
-        Call::Clean(_) | Call::Clear(_) | Call::Slide { .. } => Ok((0, Said::NoSuchCall)),
+        Call::Put(key, value, now) => Ok(put_answer(shards.put(rt, pass, key, value, now, left))),
+        Call::DropKey(key, now) => Ok(drop_answer(shards.drop_key(rt, pass, key, now, left))),
+        Call::Forget(key, now) => Ok(forget_answer(shards.forget(rt, pass, key, now, left))),
+        Call::Clean(_) | Call::Clear(_) | Call::Slide { .. } => Ok((0, Answer::NoSuchCall)),
     }
 }
 
@@ -202,11 +202,11 @@ fn seek<B: Books, R: Wait>(
     key: u64,
     now: u64,
     left: &mut Left,
-) -> Result<Told, Fault>
+) -> Result<AnswerAt, Fault>
     requires room { shards.now.config.entries ≤ left.old.room }
 {
     match shards.seek(rt, pass, key, now, left) {
-        Ok(done) => Ok((done.step, Said::Reply(reply_of(leads, done.reply)?))),
+        Ok(done) => Ok((done.step, Answer::Reply(reply_of(leads, done.reply)?))),
         Err(fault) => Ok(refused(fault)),
     }
 }
@@ -229,11 +229,11 @@ fn land<B: Books, R: Wait>(
     what: Land<Loaded>,
     now: u64,
     left: &mut Left,
-) -> Told
+) -> AnswerAt
     requires room { shards.now.config.entries ≤ left.old.room }
 {
     match lead {
-        Some(lead) => told_by(shards.land(rt, pass, lead, what, now, left)),
-        None => (0, Said::NoSuchCall),
+        Some(lead) => answer_by(shards.land(rt, pass, lead, what, now, left)),
+        None => (0, Answer::NoSuchCall),
     }
 }

@@ -9,7 +9,7 @@ use wt_tests::Loaded;
 
 /// The result of a call.
 #[derive(Drop)]
-pub enum Said {
+pub enum Answer {
     /// The reply of a step.
     Reply(Reply<Loaded>),
     /// The result of a get.
@@ -18,67 +18,67 @@ pub enum Said {
     NoSuchCall,
 }
 
-/// A step's number, which a refused call doesn't tell, and what was said.
-pub type Told = (u64, Said);
+/// A step's number, which a refused call doesn't tell, and the answer.
+pub type AnswerAt = (u64, Answer);
 
 /// Returns the result of a step, or its fault.
-pub fn told_by(outcome: Result<Done<Reply<Loaded>>, Fault>) -> Told {
+pub fn answer_by(outcome: Result<Done<Reply<Loaded>>, Fault>) -> AnswerAt {
     match outcome {
-        Ok(done) => (done.step, Said::Reply(done.reply)),
+        Ok(done) => (done.step, Answer::Reply(done.reply)),
         Err(fault) => refused(fault),
     }
 }
 
 /// Returns the result of a refused call.
-pub fn refused(fault: Fault) -> Told {
-    (0, Said::Reply(Reply::Refused(fault)))
+pub fn refused(fault: Fault) -> AnswerAt {
+    (0, Answer::Reply(Reply::Refused(fault)))
 }
 
 /// Returns the result of a peek or a read, which tells no step.
-pub fn peek_told(outcome: Result<Option<Loaded>, Fault>) -> Told {
+pub fn peek_answer(outcome: Result<Option<Loaded>, Fault>) -> AnswerAt {
     match outcome {
-        Ok(Some(value)) => (0, Said::Reply(Reply::Hit(value))),
-        Ok(None) => (0, Said::Reply(Reply::Absent)),
+        Ok(Some(value)) => (0, Answer::Reply(Reply::Hit(value))),
+        Ok(None) => (0, Answer::Reply(Reply::Absent)),
         Err(fault) => refused(fault),
     }
 }
 
 /// Returns the result of a store.
-pub fn put_told(outcome: Result<Done<()>, Fault>) -> Told {
+pub fn put_answer(outcome: Result<Done<()>, Fault>) -> AnswerAt {
     match outcome {
-        Ok(done) => (done.step, Said::Reply(Reply::Stored)),
+        Ok(done) => (done.step, Answer::Reply(Reply::Stored)),
         Err(fault) => refused(fault),
     }
 }
 
 /// Returns the result of a removal.
-pub fn drop_told(outcome: Result<Done<bool>, Fault>) -> Told {
+pub fn drop_answer(outcome: Result<Done<bool>, Fault>) -> AnswerAt {
     match outcome {
-        Ok(done) => (done.step, Said::Reply(Reply::Dropped(done.reply))),
+        Ok(done) => (done.step, Answer::Reply(Reply::Dropped(done.reply))),
         Err(fault) => refused(fault),
     }
 }
 
 /// Returns the result of a forget.
-pub fn forget_told(outcome: Result<Done<bool>, Fault>) -> Told {
+pub fn forget_answer(outcome: Result<Done<bool>, Fault>) -> AnswerAt {
     match outcome {
-        Ok(done) => (done.step, Said::Reply(Reply::Forgot(done.reply))),
+        Ok(done) => (done.step, Answer::Reply(Reply::Forgot(done.reply))),
         Err(fault) => refused(fault),
     }
 }
 
 /// Returns the result of a slide.
-pub fn slide_told(outcome: Result<Done<bool>, Fault>) -> Told {
+pub fn slide_answer(outcome: Result<Done<bool>, Fault>) -> AnswerAt {
     match outcome {
-        Ok(done) => (done.step, Said::Reply(Reply::Slid(done.reply))),
+        Ok(done) => (done.step, Answer::Reply(Reply::Slid(done.reply))),
         Err(fault) => refused(fault),
     }
 }
 
-/// Returns what a sweep told, which replies this and left so many steps made.
-pub fn sweep_told(outcome: Result<(), Fault>, reply: Reply<Loaded>, steps: u64) -> Told {
+/// Returns the answer of a sweep, which replies this and left so many steps made.
+pub fn sweep_answer(outcome: Result<(), Fault>, reply: Reply<Loaded>, steps: u64) -> AnswerAt {
     match outcome {
-        Ok(()) => (steps, Said::Reply(reply)),
+        Ok(()) => (steps, Answer::Reply(reply)),
         Err(fault) => refused(fault),
     }
 }
@@ -147,21 +147,21 @@ fn reply_words(reply: &Reply<Loaded>) -> Words {
     }
 }
 
-fn words_of(said: &Said) -> Words {
-    match said {
-        Said::Reply(reply) => reply_words(reply),
-        Said::Got(How::Hit, value) => with_value("hit", value, None),
-        Said::Got(How::Loaded, value) => with_value("loaded", value, None),
-        Said::Got(How::Joined, value) => with_value("joined", value, None),
-        Said::Got(How::Refreshed, value) => with_value("refreshed", value, None),
-        Said::NoSuchCall => bare("no-such-call"),
+fn words_of(answer: &Answer) -> Words {
+    match answer {
+        Answer::Reply(reply) => reply_words(reply),
+        Answer::Got(How::Hit, value) => with_value("hit", value, None),
+        Answer::Got(How::Loaded, value) => with_value("loaded", value, None),
+        Answer::Got(How::Joined, value) => with_value("joined", value, None),
+        Answer::Got(How::Refreshed, value) => with_value("refreshed", value, None),
+        Answer::NoSuchCall => bare("no-such-call"),
     }
 }
 
 // The number of a step, which a refused call doesn't have; 0 is none.
-fn told_step(step: u64, said: &Said) -> Option<u64> {
-    match said {
-        Said::Reply(Reply::Refused(_)) | Said::NoSuchCall => None,
+fn shown_step(step: u64, answer: &Answer) -> Option<u64> {
+    match answer {
+        Answer::Reply(Reply::Refused(_)) | Answer::NoSuchCall => None,
         _ if step == 0 => None,
         _ => Some(step),
     }
@@ -201,15 +201,15 @@ fn print_left<R: Print>(rt: &R, left: &[Notice<u64, Loaded>]) -> io::Result<()> 
     Ok(())
 }
 
-/// Prints a call's line: the step, what was said, what left, and what left later in the same call.
-pub fn print_told<R: Print>(
+/// Prints a call's line: the step, the answer, what left, and what left later in the same call.
+pub fn print_answer<R: Print>(
     rt: &R,
     step: u64,
-    said: &Said,
+    answer: &Answer,
     left: &[Notice<u64, Loaded>],
     later: &[Notice<u64, Loaded>],
 ) -> io::Result<()> {
-    print_words(rt, told_step(step, said), words_of(said))?;
+    print_words(rt, shown_step(step, answer), words_of(answer))?;
     print_left(rt, left)?;
     print_left(rt, later)?;
     println!(rt; "")
