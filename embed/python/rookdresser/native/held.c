@@ -90,7 +90,7 @@ static int has_expired(Table *self, const Use *use, uint64_t now) {
 
 /* Copies each use with references to what it has, as far as there is room; with a moment, the entries alone that haven't expired by then.
  * Returns how many there are. */
-static Py_ssize_t copied(Table *self, const uint64_t *now, Use *all, Py_ssize_t room) {
+static Py_ssize_t copy_uses(Table *self, const uint64_t *now, Use *all, Py_ssize_t room) {
     Py_ssize_t count = 0;
     STEP
     for (uint64_t i = 0; i <= self->mask; i++)
@@ -123,7 +123,7 @@ static PyObject *list_of(Table *self, const uint64_t *now, PyObject *of(const Us
     Py_ssize_t room = self->entries + self->loads;
     Use *all = zeroed(((size_t)room + 1) * sizeof(Use));
     if (!all) return PyErr_NoMemory();
-    Py_ssize_t count = copied(self, now, all, room);
+    Py_ssize_t count = copy_uses(self, now, all, room);
     PyObject *list = PyList_New(0);
     for (Py_ssize_t i = 0; i < count && i < room; i++) {
         PyObject *one = list ? of(&all[i]) : NULL;

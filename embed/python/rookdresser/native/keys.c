@@ -25,7 +25,7 @@ static inline void round_of(Sip *s) {
     s->c = rotated(s->c, 32);
 }
 
-static inline Sip begun(Table *self, int level) {
+static inline Sip start_hash(Table *self, int level) {
     uint64_t one = self->seed[0], two = self->seed[1];
     return (Sip){one ^ 0x736f6d6570736575u, two ^ 0x646f72616e646f6du, one ^ 0x6c7967656e657261u, two ^ 0x7465646279746573u, level};
 }
@@ -36,7 +36,8 @@ static inline void add(Sip *s, uint64_t word) {
     s->a ^= word;
 }
 
-static inline uint64_t ended(Sip *s) {
+/* The end of SipHash: its mark, and three rounds. */
+static inline uint64_t finish_hash(Sip *s) {
     s->c ^= 0xff;
     for (int i = 0; i < 3; i++) round_of(s);
     return s->a ^ s->b ^ s->c ^ s->d;
@@ -149,9 +150,9 @@ static int add_key(Table *self, Sip *s, PyObject *key) {
 }
 
 static int seeded_hash_of(Table *self, PyObject *key, int level, uint64_t *hash) {
-    Sip s = begun(self, level);
+    Sip s = start_hash(self, level);
     if (add_key(self, &s, key) < 0) return -1;
-    *hash = ended(&s);
+    *hash = finish_hash(&s);
     return 0;
 }
 

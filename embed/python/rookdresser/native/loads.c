@@ -66,7 +66,7 @@ int seek(Table *self, PyObject *key, Load *mine, PyObject **found) {
 }
 
 /* The use of a load that ends. The reference to the load is the caller's from now on. */
-static Use *ended(Table *self, Load *load) {
+static Use *end_load(Table *self, Load *load) {
     Use *use = load->use;
     unlink_use(self, use);
     use->load = NULL, load->use = NULL, load->is_open = 0, load->is_over = 1;
@@ -95,7 +95,7 @@ int fail(Table *self, Load *load, PyObject *error) {
         rd_answer answer;
         uint64_t number = load->use->number;
         rd_cache *cache = shard_of(self, number);
-        use = ended(self, load);
+        use = end_load(self, load);
         left = load->left, load->left = NULL;
         Py_INCREF(error);
         load->error = error, load->trace = trace, trace = NULL;
@@ -136,7 +136,7 @@ int land(Table *self, Load *load, PyObject *value, PyObject *ttl) {
         rd_token token = {(uintptr_t)load->use, (uint32_t)weight};
         if (self->advice) follow(self, cache, load->now);
         uint64_t fault = rd_land_for(cache, load->id, number, token, life, load->now, &answer, &first);
-        use = ended(self, load);
+        use = end_load(self, load);
         left = load->left, load->left = NULL;
         Py_INCREF(value);
         load->value = value;

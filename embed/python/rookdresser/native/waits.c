@@ -210,7 +210,7 @@ typedef struct {
 } Waiting;
 
 /* Copies the waits for loads that are led so and that began before `serial`, as many as there is room for; returns how many there are. */
-static Py_ssize_t copied(Waits *self, const Who *who, uint64_t serial, Waiting *all, Py_ssize_t room) {
+static Py_ssize_t copy_waits(Waits *self, const Who *who, uint64_t serial, Waiting *all, Py_ssize_t room) {
     Py_ssize_t count = 0;
     STEP
     for (Load *load = self->first; load; load = load->next) {
@@ -234,10 +234,10 @@ static PyObject *waits_behind(Waits *self, PyObject *args) {
     Who who;
     unsigned long long serial;
     if (!PyArg_ParseTuple(args, "OK", &given, &serial) || taken_apart(given, &who) < 0) return NULL;
-    Py_ssize_t room = copied(self, &who, serial, NULL, 0);
+    Py_ssize_t room = copy_waits(self, &who, serial, NULL, 0);
     Waiting *all = zeroed((size_t)(room + 1) * sizeof *all);
     if (!all) return PyErr_NoMemory();
-    Py_ssize_t count = copied(self, &who, serial, all, room);
+    Py_ssize_t count = copy_waits(self, &who, serial, all, room);
     if (count > room) count = room;
     PyObject *list = PyList_New(count);
     for (Py_ssize_t i = 0; i < count; i++) {
