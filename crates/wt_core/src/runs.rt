@@ -7,6 +7,7 @@ ghost use Rattle.wt_core.specs.Contract.{KeepsWhole, IsPartRun};
 ghost use Rattle.wt_core.specs.Landings.{TakesNone};
 ghost use Rattle.wt_core.specs.Laws.{is_slide};
 ghost use Rattle.wt_core.specs.Run.{taken, run, replies, last_notices};
+ghost use Rattle.wt_core.specs.Seek.{OpensBy};
 ghost use Rattle.wt_core.specs.Step.{refusal_of};
 
 use crate::calls::{Call, Reply};
@@ -56,9 +57,42 @@ impl<K: CacheKey, V: Share + Weighs> Core<K, V> {
         ensures memory { TakesNone V.Share.is_copied K.eq V.measure self.old call → IsOk result }
         ensures err { OnErr result ((self.new ≡ self.old) × (notices.new ≡ notices.old)) }
     {
+        self.take_met(call, None, notices)
+    }
+
+    /// Makes the call as [`Core::take`] does. If it is a seek, `opens` may say whether a hit would
+    /// open a load, as `foresee` shows it.
+    #[inline(always)]
+    pub fn take_met(
+        &mut self,
+        call: Call<K, V>,
+        opens: Option<bool>,
+        notices: &mut Notices<K, V>,
+    ) -> Result<Reply<V>, NoMemory>
+        requires opens { OpensBy K.eq call opens self.old }
+        requires room { self.old.regions.caps.entries ≤ notices.old.room }
+
+        ensures state { OnOk result (self.new ≡ (taken K.eq K.word V.measure self.old call).state) }
+        ensures answer { IfOk result (λ r. r ≡ (taken K.eq K.word V.measure self.old call).reply) }
+        ensures notices { OnOk result (notices.new
+            ≡ appended (taken K.eq K.word V.measure self.old call).notices notices.old) }
+
+        ensures same { KeepsAllButWindow self.old.regions.caps self.new.regions.caps }
+        ensures still { is_slide call ≡ false → self.new.regions.caps ≡ self.old.regions.caps }
+        ensures whole { KeepsWhole notices.old notices.new }
+        // The state's refusals don't depend on memory, and some calls take none.
+        ensures refusal { IsSome (refusal_of K.eq K.word V.measure self.old call) → IsOk result }
+        ensures memory { TakesNone V.Share.is_copied K.eq V.measure self.old call → IsOk result }
+        ensures err { OnErr result ((self.new ≡ self.old) × (notices.new ≡ notices.old)) }
+    {
         match call {
             Call::Look(key, now) => reply_of!(self.look(key, now, notices), reply => reply),
-            Call::Seek(key, now) => reply_of!(self.seek(key, now, notices), reply => reply),
+            Call::Seek(key, now) => match opens {
+                None => reply_of!(self.seek(key, now, notices), reply => reply),
+                Some(opens) => {
+                    reply_of!(self.seek_met(key, now, opens, notices), reply => reply)
+                }
+            },
             Call::Land(id, key, what, now) => {
                 reply_of!(self.land(id, key, what, now, notices), reply => reply)
             }

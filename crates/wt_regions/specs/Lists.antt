@@ -3,6 +3,8 @@ use Rattle.std.specs.Prelude.{ℕ, ◌-◌, ◌*◌, ◌/◌, nat_le, nat_lt, ma
 use Rattle.std.specs.Option.{option_map_or}
 use Rattle.std.specs.Map.{lookup, remove_entry}
 use Rattle.wt_regions.specs.declared.caps.Caps.{Caps}
+use Rattle.wt_regions.specs.declared.caps.Freshness.{Freshness}
+use Rattle.wt_regions.specs.declared.caps.Freshness.TheVariants.{Absent, Fresh, Due}
 use Rattle.wt_regions.specs.declared.notices.Cause.{Cause}
 use Rattle.wt_regions.specs.declared.notices.Cause.TheVariants.{Explicit, Replaced, Expired, Size}
 use Rattle.wt_regions.specs.declared.touch.Found.{Found}
@@ -97,6 +99,10 @@ module _ {V : Type 0} where
   abbrev pub is_due : Caps → ℕ → Held V → Bool
   is_due c now h = gone_by c.refresh h.written now
 
+  -- whether an entry is unexpired, and whether it is time to load it again
+  abbrev pub freshness_of : Caps → ℕ → Held V → Freshness
+  freshness_of c now h = if is_expired c now h then Absent else if is_due c now h then Due else Fresh
+
 module _ {K V : Type 0} where
   -- regions of these limits with these entries
   abbrev pub lists_of : Caps → List (Entry K V) → List (Entry K V) → List (Entry K V) → Lists K V
@@ -152,3 +158,7 @@ module _ {K V : Type 0} where
     -- whether one is there, and it is time to load it again
     abbrev pub due_at : K → ℕ → Lists K V → Bool
     due_at k now r = option_map_or (λ h. not (is_expired r.caps now h) && is_due r.caps now h) (held_for k r) false
+
+    -- whether an unexpired entry of the key is there, and whether it is time to load it again
+    abbrev pub freshness_at : K → ℕ → Lists K V → Freshness
+    freshness_at k now r = option_map_or (freshness_of r.caps now) (held_for k r) Absent

@@ -1,7 +1,7 @@
 // The limits of the regions: their ranges, and the age at which an entry expires or is due.
 ghost use Rattle.std.specs.Prelude.{◌≡◌, ◌&&◌, ◌||◌, not, is_some, if◌then◌else◌};
 ghost use Rattle.wt_regions.specs.declared.notices.Cause.TheVariants.{Expired};
-ghost use Rattle.wt_regions.specs.Lists.{gone_by, is_expired, is_due, main_cap, outlived, protected_cap};
+ghost use Rattle.wt_regions.specs.Lists.{freshness_of, gone_by, is_expired, is_due, main_cap, outlived, protected_cap};
 ghost use Rattle.wt_regions.specs.Lawful.{IsFit, caps_fault};
 
 use crate::held::Held;
@@ -29,6 +29,17 @@ pub struct Caps {
     /// How long after it was written an entry is due for a further load, in milliseconds. With
     /// 45,000 an entry that was written at 5,000 is due from 50,000 on, until it expires.
     pub refresh: Option<u64>,
+}
+
+/// Whether an unexpired entry of a key is there, and whether it is due for a further load.
+#[derive(Clone, Copy, Debug, PartialEq, Eq)]
+pub enum Freshness {
+    /// No entry, or an expired one.
+    Absent,
+    /// An entry that isn't due.
+    Fresh,
+    /// An entry that is due.
+    Due,
 }
 
 // Ours: a cache with more entries should have more shards, and not larger tables in one.
@@ -104,6 +115,20 @@ impl Caps {
             ≡ (not (is_expired self.now now held.now) && is_due self.now now held.now) }
     {
         !self.is_expired(now, held) && gone_by(self.refresh, held.written, now)
+    }
+
+    // Whether an entry is unexpired, and old enough to be loaded again.
+    pub(crate) fn freshness<V>(&self, now: u64, held: &Held<V>) -> Freshness
+        ensures { result ≡ freshness_of self.now now held.now }
+    {
+        if self.is_expired(now, held) {
+            return Freshness::Absent;
+        }
+        if gone_by(self.refresh, held.written, now) {
+            Freshness::Due
+        } else {
+            Freshness::Fresh
+        }
     }
 
     // Why an entry leaves that is taken out.

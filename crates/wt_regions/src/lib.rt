@@ -17,7 +17,7 @@ mod trim;
 mod weighs;
 
 pub use caches::Region;
-pub use caps::Caps;
+pub use caps::{Caps, Freshness};
 pub use held::Held;
 pub use notices::{Cause, Notice, Notices};
 pub use regions::Regions;

@@ -2,11 +2,12 @@
 ghost use Rattle.std.specs.Prelude.{◌≡◌, [], length, false, IfOk, IsOk, IsTrue};
 ghost use Rattle.std.specs.Map.{keys_of};
 ghost use Rattle.wt_regions.specs.Lawful.{IsLawful};
-ghost use Rattle.wt_regions.specs.Lists.{all_entries, due_at, found_at, has_at, region_of, weight_of};
+ghost use Rattle.wt_regions.specs.Lists.{all_entries, due_at, found_at, freshness_at, has_at, region_of, weight_of};
 ghost use Rattle.wt_regions.specs.Peeks.{value_of};
 
 use super::Regions;
 use crate::caches::Region;
+use crate::caps::Freshness;
 use crate::weighs::Weighs;
 use std::alloc::Global;
 use wt_keys::{CacheKey, NoMemory, Share};
@@ -23,6 +24,21 @@ impl<K: CacheKey, V: Share + Weighs> Regions<K, V> {
         match self.caches.find(key) {
             Some(held) => !caps.is_expired(now, held),
             None => false,
+        }
+    }
+
+    /// Returns whether an unexpired entry of the key is there, as `has` does, and whether it is due,
+    /// as `due` does, by one search.
+    ///
+    /// `now` is in milliseconds. Takes no memory. Expected O(1), unless an attacker chooses the
+    /// keys (see `Seeded`).
+    pub fn freshness(&self, key: K, now: u64) -> Freshness
+        ensures { result ≡ freshness_at K.eq key now self.now }
+    {
+        let caps = self.caches.caps;
+        match self.caches.find(key) {
+            Some(held) => caps.freshness(now, held),
+            None => Freshness::Absent,
         }
     }
 

@@ -51,7 +51,14 @@ impl<K: CacheKey, V: Share + Weighs + Answers<K>, S: ShardLedger, H: Ledger> Sha
         };
         match met {
             Foreseen::Hit => {
-                let reply = self.make_allowed(shares, Call::Seek(key, now), rows, None, notices)?;
+                let reply = self.make_allowed(
+                    shares,
+                    Call::Seek(key, now),
+                    Some(false),
+                    rows,
+                    None,
+                    notices,
+                )?;
                 let Reply::Hit(value) = reply else {
                     unreachable!()
                 };
@@ -65,7 +72,14 @@ impl<K: CacheKey, V: Share + Weighs + Answers<K>, S: ShardLedger, H: Ledger> Sha
                     self.stay(&Call::Seek(key, now));
                     return Err(Fault::NoMemory);
                 };
-                self.make_allowed(shares, Call::Seek(key, now), rows, None, notices)?;
+                self.make_allowed(
+                    shares,
+                    Call::Seek(key, now),
+                    Some(false),
+                    rows,
+                    None,
+                    notices,
+                )?;
                 Ok(Sought::Join(ticket))
             }
             Foreseen::Lead(id) => {
@@ -73,7 +87,14 @@ impl<K: CacheKey, V: Share + Weighs + Answers<K>, S: ShardLedger, H: Ledger> Sha
                     self.stay(&Call::Seek(key, now));
                     return Err(Fault::NoMemory);
                 };
-                self.make_allowed(shares, Call::Seek(key, now), rows, Some(kept), notices)?;
+                self.make_allowed(
+                    shares,
+                    Call::Seek(key, now),
+                    Some(false),
+                    rows,
+                    Some(kept),
+                    notices,
+                )?;
                 Ok(Sought::Lead(lead, ticket))
             }
             Foreseen::HitLead(id) => {
@@ -84,6 +105,7 @@ impl<K: CacheKey, V: Share + Weighs + Answers<K>, S: ShardLedger, H: Ledger> Sha
                 let reply = self.make_allowed(
                     shares,
                     Call::Seek(key, now),
+                    Some(true),
                     rows,
                     Some(kept),
                     notices,

@@ -21,6 +21,7 @@ use wt_keys::{Answers, CacheKey, Fault, NoMemory, Share};
 
 impl<K: CacheKey, V: Share + Weighs + Answers<K>, S: ShardLedger, H: Ledger> Shard<K, V, S, H> {
     ghost use Rattle.wt_core.specs.Landings.{IsLanding, IsEmptyLanding, TakesNone};
+    ghost use Rattle.wt_core.specs.Seek.{OpensBy};
     ghost use Rattle.wt_core.specs.Step.{step, refusal_of};
     ghost use Rattle.wt_shards.specs.Asked.{AnswersAsked, MayAsk};
     ghost use Rattle.wt_shards.specs.Audited.{IsAudited, IsCaughtUp, excess, load_at, load_of, moved, need, places, shard_step, still_open};
@@ -73,24 +74,27 @@ impl<K: CacheKey, V: Share + Weighs + Answers<K>, S: ShardLedger, H: Ledger> Sha
             × (shares.new ≡ shares.old) × (notices.new ≡ notices.old)) }
     {
         match self.core.open_after(&call) {
-            Ok(rows) => self.make_allowed(shares, call, rows, opened, notices),
+            Ok(rows) => self.make_allowed(shares, call, None, rows, opened, notices),
             Err(fault) => Err(fault),
         }
     }
 
-    // Makes the step of a call that the state doesn't refuse, after which `rows` loads are open.
+    // Makes the step of a call that the state doesn't refuse, after which `rows` loads are open. If
+    // it is a seek, `opens` may say whether a hit opens a load.
     #[inline(always)]
     #[tactic(auto, using(crate::proofs::Told::told_none, crate::proofs::Loads::empty_takes_none))]
     pub(crate) fn make_allowed(
         &mut self,
         shares: &mut Shares<S, H>,
         call: Call<K, V>,
+        opens: Option<bool>,
         rows: usize,
         opened: Option<Kept<K, V>>,
         notices: &mut Notices<K, V>,
     ) -> Result<Reply<V>, Fault>
         requires asked { MayAsk V.answers K.word S.ShardLedger.place call notices.old }
         requires allowed { refusal_of K.eq K.word V.measure self.old.core call ≡ None }
+        requires opens { OpensBy K.eq call opens self.old.core }
         requires rows { rows
             ≡ length (step K.eq K.word V.measure self.old.core call).state.flights.rows }
         // Where each open load has one landing, each has one after the call.
@@ -131,7 +135,7 @@ impl<K: CacheKey, V: Share + Weighs + Answers<K>, S: ShardLedger, H: Ledger> Sha
             return Err(Fault::NoMemory);
         };
         let noted = shaded(&call);
-        let Ok(reply) = self.core.take(call, notices) else {
+        let Ok(reply) = self.core.take_met(call, opens, notices) else {
             return Err(Fault::NoMemory);
         };
         // For the prover: shows what holds of the cache at all times.

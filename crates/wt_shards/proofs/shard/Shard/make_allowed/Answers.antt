@@ -120,8 +120,8 @@ invariant_of-self-2 g c =
     subst (λ (x : Audited K V). map load_at (still_open eq call x.landings ++ opened)
     ≡ map load_of (step eq word measure x.core call).state.flights.rows) (sym e2)
     (c.requires.landed c.steps-steps.ensures.audited) in
-    let made = c.in-Ok-take.ensures.state ∙ ap (λ (m : Made K V). m.state) (taken-made eq word measure s2.core call allowed2) in
-    let told = c.in-Ok-take.ensures.answer ∙ ap (λ (m : Made K V). m.reply) (taken-made eq word measure s2.core call allowed2) in
+    let made = c.in-Ok-take_met.ensures.state ∙ ap (λ (m : Made K V). m.state) (taken-made eq word measure s2.core call allowed2) in
+    let told = c.in-Ok-take_met.ensures.answer ∙ ap (λ (m : Made K V). m.reply) (taken-made eq word measure s2.core call allowed2) in
     let to = step-to eq word measure s2.core call in
     let rows : c.args.rows ≡ length (step eq word measure s2.core call).state.flights.rows = c.requires.rows
     ∙ ap (λ (x : State K V). length (step eq word measure x call).state.flights.rows) (sym core2) in
@@ -142,7 +142,7 @@ invariant_of-self-2 g c =
     let whole = noted eq word measure answers shards index s2
     (record {
       config = b.config;
-      core = c.take.new.self;
+      core = c.take_met.new.self;
       lagging = b.lagging;
       records =
           c.push_back-dropped.new.self.items;
@@ -154,7 +154,7 @@ invariant_of-self-2 g c =
     let law = subst (λ (x : State K V). IsLawful eq measure x) made c.stats-stats.ensures.lawful in
     let state = shard_state-step eq same word measure answers shards index s2.core call inv.0.state c.requires.asked.0 law in
     let limit = limit-step eq word measure s2.core call ∙ inv.0.limit in
-    let caps = subst (λ (x : State K V). KeepsAllButWindow s2.core.regions.caps x.regions.caps) made c.in-Ok-take.ensures.same in (
+    let caps = subst (λ (x : State K V). KeepsAllButWindow s2.core.regions.caps x.regions.caps) made c.in-Ok-take_met.ensures.same in (
       subst (IsAudited (members_by eq word measure answers) shards index) (sym whole)
           (audited-recorded eq word measure answers shards index s2 call opened inv.0 allowed2 room state limit
           caps landed),
@@ -199,7 +199,7 @@ returns-clause-state g c =
     let core2 : s2.core ≡ now.core = ap (λ (x : Audited K V). x.core) e2 in
     let allowed2 : refusal_of eq word measure s2.core call ≡ None =
     ap (λ (x : State K V). refusal_of eq word measure x call) core2 ∙ c.requires.allowed in
-    let made = c.in-Ok-take.ensures.state ∙ ap (λ (m : Made K V). m.state) (taken-made eq word measure s2.core call allowed2) in
+    let made = c.in-Ok-take_met.ensures.state ∙ ap (λ (m : Made K V). m.state) (taken-made eq word measure s2.core call allowed2) in
     let rows : c.args.rows ≡ length (step eq word measure s2.core call).state.flights.rows = c.requires.rows
     ∙ ap (λ (x : State K V). length (step eq word measure x call).state.flights.rows) (sym core2) in
     let room : length s2.records + 1 + length (step eq word measure s2.core call).state.flights.rows ≤ places s2 =
@@ -219,7 +219,7 @@ returns-clause-state g c =
     let whole = noted eq word measure answers shards index s2
     (record {
       config = b.config;
-      core = c.take.new.self;
+      core = c.take_met.new.self;
       lagging = b.lagging;
       records =
           c.push_back-dropped.new.self.items;
@@ -256,7 +256,7 @@ returns-clause-answers g c =
     let core2 : s2.core ≡ now.core = ap (λ (x : Audited K V). x.core) e2 in
     let allowed2 : refusal_of eq word measure s2.core call ≡ None =
     ap (λ (x : State K V). refusal_of eq word measure x call) core2 ∙ c.requires.allowed in
-    let told = c.in-Ok-take.ensures.answer ∙ ap (λ (m : Made K V). m.reply) (taken-made eq word measure s2.core call allowed2) in
+    let told = c.in-Ok-take_met.ensures.answer ∙ ap (λ (m : Made K V). m.reply) (taken-made eq word measure s2.core call allowed2) in
     let same = (g.met.K.CacheKey g.world.𝓛 g.world.𝓜 g.world.𝓡 ((λ s x. x), (λ x. x), (λ x. x), λ x. x)).same in
     subst (AnswersAsked answers call) (sym told) (reply-answers eq same word measure answers shards index s2.core call inv.0.state.values)
 
@@ -288,8 +288,8 @@ returns-in_default-clause-place g c =
     λ landing. landing-place eq word measure now.core call (length now.records)
     (places now) landing whole.state.lawful.flights.rising whole.room
 
-pub returns-in_default-take-clause-place : goal.returns-in_default-take-clause-place
-returns-in_default-take-clause-place g c =
+pub returns-in_default-take_met-clause-place : goal.returns-in_default-take_met-clause-place
+returns-in_default-take_met-clause-place g c =
     let eq = g.K.PartialEq.eq in
     let word = g.K.CacheKey.word in
     let measure = g.V.Weighs.measure in
@@ -343,7 +343,7 @@ returns-clause-later g c =
     let core2 : s2.core ≡ now.core = ap (λ (x : Audited K V). x.core) e2 in
     let allowed2 : refusal_of eq word measure s2.core call ≡ None =
     ap (λ (x : State K V). refusal_of eq word measure x call) core2 ∙ c.requires.allowed in
-    let made = c.in-Ok-take.ensures.state ∙ ap (λ (m : Made K V). m.state) (taken-made eq word measure s2.core call allowed2) in
+    let made = c.in-Ok-take_met.ensures.state ∙ ap (λ (m : Made K V). m.state) (taken-made eq word measure s2.core call allowed2) in
     let to = step-to eq word measure s2.core call in
     let core_step : s2.core.step ≡ now.core.step = ap (λ (x : State K V). x.step) core2 in
     (omega (arith, c.count.ensures.later, inv.4, core_step), omega (arith, ap (λ (x : State K V). x.step) made, to.number, core_step))
@@ -373,7 +373,7 @@ returns-clause-told g c =
     let allowed2 : refusal_of eq word measure s2.core call ≡ None =
     ap (λ (x : State K V). refusal_of eq word measure x call) core2 ∙ c.requires.allowed in
     let few = c.steps_tell_few.ensures s2.core call inv.0.state.lawful allowed2 in
-    told_by _ _ _ _ c.in-Ok-take.ensures.notices
+    told_by _ _ _ _ c.in-Ok-take_met.ensures.notices
     (omega (
       arith,
       few,
@@ -381,4 +381,4 @@ returns-clause-told g c =
           (taken-made eq word measure s2.core call allowed2),
       ap (λ (x : Caps). x.entries) inv.0.caps,
       ap (λ (x : Config). x.entries) inv.10,
-    )) c.in-Ok-take.ensures.whole
+    )) c.in-Ok-take_met.ensures.whole

@@ -1,12 +1,13 @@
-use Rattle.std.proofs.Common.{◌≡◌, ◌≤◌, true, false, None, List, refl, sym, ap, ◌∙◌, arith}
+use Rattle.std.proofs.Common.{◌≡◌, ◌≤◌, ℕ, Bool, true, false, ◌&&◌, None, List, refl, sym, ap, ◌∙◌, arith}
+use Rattle.std.specs.Prelude.{not, is_none}
 use Rattle.wt_regions.specs.declared.caps.Caps.{Caps}
 use Rattle.wt_regions.specs.declared.touch.Found.{Found}
 use Rattle.wt_regions.specs.declared.notices.Notice.{Notice}
-use Rattle.wt_regions.specs.Lists.{Lists, has_at, is_hit}
+use Rattle.wt_regions.specs.Lists.{Lists, due_at, has_at, is_hit}
 use Rattle.wt_regions.specs.Notices.{appended}
 use Rattle.wt_regions.specs.Steps.{without_expired}
 use Rattle.wt_regions.specs.Touch.{used_if}
-use Rattle.wt_flights.specs.Rows.{is_current}
+use Rattle.wt_flights.specs.Rows.{Flights, current_of, is_current, is_full}
 use Rattle.wt_core.specs.declared.calls.Call.{Call}
 use Rattle.wt_core.specs.declared.calls.Call.TheVariants.{Seek}
 use Rattle.wt_core.specs.Meets.{fault_met}
@@ -18,14 +19,20 @@ use Rattle.wt_core.proofs.Hits.{state_of, is_miss, missed-still}
 use Rattle.wt_core.proofs.Rows.{sharers-left}
 use Rattle.wt_core.proofs.Sought.{lead-state, lead-taken, hit-state, hit-taken, miss-state, miss-refusal, miss-reply, miss-notices, met-none, limit-met}
 use Rattle.wt_core.proofs.Whole.{whole-told, balanced-told}
-use Rattle.wt_core.proofs.sequential.Core.seek.Goals as goal
+use Rattle.wt_core.proofs.sequential.Core.seek_met.Goals as goal
 
-pub invariant_of-self-then-refreshes : goal.invariant_of-self-then-refreshes
-invariant_of-self-then-refreshes g c =
+-- whether a hit opens a load at a moment
+abbrev refreshes-at : {K V : Type 0} → (K → K → Bool) → K → ℕ → Lists K V → Flights K → Bool
+refreshes-at eq k now r t = due_at eq k now r && (is_none (current_of eq k t) && not (is_full t))
+
+pub invariant_of-self-then-opens : goal.invariant_of-self-then-opens
+invariant_of-self-then-opens g c =
     let i = c.self.inside in
     let s : State g.row.K.Denot g.row.V.Denot = state_of i.regions i.sketch i.flights i.counts i.latest i.step in
     let call : Call g.row.K.Denot g.row.V.Denot = Seek c.args.key c.args.now in
-    let opens = sym c.refreshes.ensures ∙ c.if-refreshes.true in
+    let req = rw (← c.self.view_is) at c.requires.opens in
+    let opens : refreshes-at g.K.PartialEq.eq c.args.key c.max-now.result i.regions i.flights ≡ true =
+    ap (λ m. refreshes-at g.K.PartialEq.eq c.args.key m i.regions i.flights) c.max-now.ensures ∙ (sym req ∙ c.if-opens.true) in
     let is = lead-state g.K.PartialEq.eq c.args.key g.K.CacheKey.word g.V.Weighs.measure s c.args.now c.max-now.result
     c.max-now.ensures c.in_ok-value.value c.in_ok-value.ensures.found opens c.open_beside.new.regions
     c.count_key.new.sketch c.open_beside.new.flights c.in_ok-value.ensures.regions c.count_key.ensures
@@ -42,7 +49,9 @@ invariant_of-self-in-Hit g c =
     let i = c.self.inside in
     let s : State g.row.K.Denot g.row.V.Denot = state_of i.regions i.sketch i.flights i.counts i.latest i.step in
     let call : Call g.row.K.Denot g.row.V.Denot = Seek c.args.key c.args.now in
-    let closed = sym c.refreshes.ensures ∙ c.if-refreshes.false in
+    let req = rw (← c.self.view_is) at c.requires.opens in
+    let closed : refreshes-at g.K.PartialEq.eq c.args.key c.max-now.result i.regions i.flights ≡ false =
+    ap (λ m. refreshes-at g.K.PartialEq.eq c.args.key m i.regions i.flights) c.max-now.ensures ∙ (sym req ∙ c.if-opens.false) in
     let at = sym c.in_ok-missed.ensures.found ∙ c.in-Hit.is in
     let is = hit-state g.K.PartialEq.eq c.args.key g.K.CacheKey.word g.V.Weighs.measure s c.args.now c.max-now.result
     c.max-now.ensures c.in-Hit.value at closed c.get.new.self c.count_key-in-Hit.new.sketch
@@ -157,7 +166,9 @@ pub returns-in_err-value-clause-none_succeeds : goal.returns-in_err-value-clause
 returns-in_err-value-clause-none_succeeds g c = λ takes allowed.
     let i = c.self.inside in
     let s : State g.row.K.Denot g.row.V.Denot = state_of i.regions i.sketch i.flights i.counts i.latest i.step in
-    let opens = sym c.refreshes.ensures ∙ c.if-refreshes.true in
+    let req = rw (← c.self.view_is) at c.requires.opens in
+    let opens : refreshes-at g.K.PartialEq.eq c.args.key c.max-now.result i.regions i.flights ≡ true =
+    ap (λ m. refreshes-at g.K.PartialEq.eq c.args.key m i.regions i.flights) c.max-now.ensures ∙ (sym req ∙ c.if-opens.true) in
     let free = rw (← c.self.view_is) at takes in
     absurd (free-alone g.V.Share.is_copied g.K.PartialEq.eq g.V.Weighs.measure c.args.key s c.args.now c.max-now.result
     c.max-now.ensures free opens)
