@@ -30,7 +30,7 @@ pub(crate) struct Older<K: CacheKey> {
     by_id: HashMap<u64, Open<K>>,
     // The id of each key's current load.
     by_key: HashMap<K, u64>,
-    // The id of the next load. Ids count from 1.
+    // The id behind that of the last load which these took over; 1 before the first.
     next: u64,
     // How many loads may be open at once.
     limit: u32,

@@ -100,7 +100,8 @@ fn opened<K: TraceKey, N: Names + Send + Sync, R: Wait>(
     Ok(LoadingCache::new(shards, loader, Some(line)))
 }
 
-// The sums of the numbers of all shards, if the passes account for all steps.
+// Ends the cache, and returns the sums of all shards' numbers; `PassMissing`, if the passes don't
+// account for all steps.
 fn settled<K: TraceKey, N: Names + Send + Sync, R: Wait>(
     rt: &R,
     alloc: Global,

@@ -136,8 +136,9 @@ impl<K: CacheKey, V: Value<K>, L: Loader<K, V> + Drop, B: Books> LoadingCache<K,
         self.shards.drop_key(rt, pass, key, now, notices)
     }
 
-    /// Lets no further caller join the key's open load, keeps its value out, and returns whether
-    /// there was one. The key's entry stays, unless it has expired: then it leaves.
+    /// Lets no further caller join the key's current load, keeps its value out, and returns whether
+    /// there was one. That load stays open until it lands. The key's entry stays, unless it has
+    /// expired: then it leaves.
     ///
     /// `now` is in milliseconds. Takes no memory of its own, and the lock of the key's shard for
     /// one step. Expected O(1), unless an attacker chooses the keys (see `Seeded`).

@@ -120,8 +120,8 @@ impl<'c, K: CacheKey, V: Value<K>, L: Loader<K, V> + Drop, B: Books, R: Wait> Ca
         cache.invalidate(self.rt, &mut self.pass, key, now, &mut self.left)
     }
 
-    /// Lets no further caller join the key's open load, and returns whether there was one:
-    /// `LoadingCache::forget`, whose documentation has the rest.
+    /// Lets no further caller join the key's current load, keeps its value out, and returns whether
+    /// there was one: `LoadingCache::forget`, whose documentation has the rest.
     ///
     /// `now` is in milliseconds. First the list of entries that left is emptied.
     ///

@@ -66,7 +66,8 @@ fn print_lines(
     Ok(())
 }
 
-// Piece `t`, of at most `most` lines.
+// The text that thread `t` prints: of at most `most` lines from the one of number `t * most` on, and
+// empty past the last.
 fn piece(alloc: Global, lines: &Answered<'_>, most: usize, t: usize) -> Result<Vec<u8>, AllocError>
     requires cut { IsCut lines.now.first lines.now.all.now lines.now.count most }
     requires t { t < 64 }

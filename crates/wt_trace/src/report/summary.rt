@@ -46,7 +46,7 @@ pub(crate) fn show_numbers(out: &mut Vec<u8>, sum: &Stats) -> Result<(), AllocEr
     Ok(())
 }
 
-/// Appends the summary.
+/// Appends the summary of shards that were replayed by themselves: the sums of their numbers.
 pub fn show_summary(out: &mut Vec<u8>, all: &[ShardAnswers]) -> Result<(), AllocError>
     requires { length all.now ≤ 4 }
     ensures { OnOk result (out.new.items ≡ out.old.items ++ spec.summary all.now) }

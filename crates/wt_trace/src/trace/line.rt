@@ -73,7 +73,7 @@ pub fn line_of<K: TraceKey>(bytes: &[u8]) -> Option<Line<K>>
     Some(Line { moment, act })
 }
 
-// Reads the call from the bytes behind the moment.
+// Reads the letter and its key from the bytes behind the moment and its space.
 fn act_of<K: TraceKey>(bytes: &[u8]) -> Option<Act<K>>
     ensures { result ≡ spec.act_of K.read bytes.now }
 {
@@ -85,7 +85,7 @@ fn act_of<K: TraceKey>(bytes: &[u8]) -> Option<Act<K>>
     }
 }
 
-// The call of a letter on a key.
+// What a letter does with a key.
 fn act_on<K: Copy>(letter: u8, key: K) -> Option<Act<K>>
     ensures { result ≡ spec.lettered letter (spec.keyed key) }
 {
