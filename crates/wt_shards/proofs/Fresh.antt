@@ -119,7 +119,7 @@ module _ {K V : Type 0} (eq : K → K → Bool) (same : (a b : K) → eq a b ≡
     Left s = All (Has (Only eq laws k Q)) (all_entries s.regions)
 
     dropped : (now : ℕ) → IsLawful eq measure (after before) → Left (step eq word measure (after before) (DropKey k now)).state
-    dropped now lawful = all-of (Only eq laws k Q) (step eq word measure (after before) (DropKey k now)).state.regions
+    dropped now lawful = all-of (Has (Only eq laws k Q)) (step eq word measure (after before) (DropKey k now)).state.regions
         (each-cut eq laws k Q (after before).regions lawful.regions.distinct)
 
     left : (write : Call K V) → IsLawful eq measure (after before) → makes_stale eq k write ≡ true

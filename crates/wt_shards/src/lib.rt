@@ -36,10 +36,11 @@ pub use closed::Closed;
 pub use done::Done;
 pub use explained::Explained;
 pub use laws::{
-    found_values_are_young, joins_are_fresh, loads_land_once, one_load_is_current, outline_of_step,
-    own_put_is_found, own_put_is_read, own_put_is_sought, own_removal_is_read, reads_are_fresh,
-    reads_are_young, served_values_are_young, served_values_were_brought, sharers_are_counted,
-    stale_loads_are_left_out, stale_loads_are_not_stored,
+    found_values_are_young, found_values_were_used, joins_are_fresh, loads_land_once,
+    one_load_is_current, outline_of_step, own_put_is_found, own_put_is_read, own_put_is_sought,
+    own_removal_is_read, read_values_were_used, reads_are_fresh, reads_are_young,
+    served_values_are_young, served_values_were_brought, served_values_were_used,
+    sharers_are_counted, stale_loads_are_left_out, stale_loads_are_not_stored,
 };
 pub use names::{Hits, Names, Of, Steps};
 pub use pass::Pass;
