@@ -1,18 +1,18 @@
 -- What passes add up to where the shards end.
 use Rattle.std.proofs.Common.{◌≡◌, ◌⊎◌, ℕ, zero, suc, ◌+◌, ◌<◌, ◌≤◌, List, [], ◌∷◌, ◌++◌, length, Option, Some, None, refl, ap, sym, subst, ◌∙◌, arith, inl, inr, append_assoc}
-use Rattle.std.specs.Prelude.{◌≢◌, ◌↔◌, IfSome, IsSome, sum_by, slice_index_or}
+use Rattle.std.specs.Prelude.{◌≢◌, ◌↔◌, IfSome, IsSome, IsSomeAnd, sum_by, slice_index_or}
 use Rattle.std.proofs.lemmas.List.Sums.{sum_by-cons}
 use mathlib.Core.List.{IsPrefix}
 use Rattle.wt_core.specs.declared.calls.Call.{Call}
 use Rattle.wt_core.specs.State.{State, stats_of}
 use Rattle.wt_history.proofs.Fronts.{prefix_self, prefix_trans}
 use Rattle.wt_shards.specs.Counts.{Counted, no_steps}
-use Rattle.wt_shards.specs.Endings.{AddsTo, AreAdded, AreSummed, BeginSeen, Ending, FallsShort, IsAddedTo, OneSaw}
+use Rattle.wt_shards.specs.Endings.{AddsTo, AreAdded, AreAllBelow, AreNotSums, AreSummed, BeginSeen, Ending, Ends, FallsShort, IsAddedTo, IsAllOf, IsPartOf, IsShort, OneSaw, ending_at}
 use Rattle.wt_shards.specs.History.{state_at}
 use Rattle.wt_shards.specs.Members.{Members}
 use Rattle.wt_shards.specs.Passes.{Seen, counts_at, front_at, hits_in, new_pass, steps_in}
-use Rattle.wt_shards.specs.Place.{Place}
-use Rattle.wt_shards.specs.Totals.{AddUp, IsEnding, IsMissing, IsTotal, total_of}
+use Rattle.wt_shards.specs.Place.{Layout, Place, place_of}
+use Rattle.wt_shards.specs.Totals.{AddUp, AddUpBelow, AreEndings, AreSettled, AreTotals, IsEnding, IsMissing, IsSettled, IsTotal, Settled, total_of}
 use Rattle.wt_shards.specs.declared.total.Total.{Total}
 
 -- each list begins with nothing
@@ -87,78 +87,117 @@ pub nothing_before : {A : Type 0} (xs done all : List A) → all ≡ xs ++ done 
 nothing_before [] done all e none = sym e
 nothing_before (x ∷ xs) done all e none = absurd (omega arith)
 
-module _ {K V : Type 0} (members : Members K V) (p : Place) (passes : List (Seen K V)) (all : Seen K V) (e : Ending K V) where
-  pub adds-up : AreSummed p.index passes all → IsEnding members p e → AddsTo e (counts_at p.index all.counted) (front_at p.index all)
-      → AddUp members p passes
-  adds-up s n a = record {
+module _ {K V : Type 0} (i : ℕ) (passes : List (Seen K V)) (all : Seen K V) where
+  pub all-of : (e : Ending K V) → AreSummed i passes all → AddsTo e (counts_at i all.counted) (front_at i all) → IsAllOf i passes e
+  all-of e s a = record {
+    sums = record { steps = s.steps ∙ a.steps; hits = s.hits ∙ a.hits };
+    begins = begin-more i passes (front_at i all) e.calls a.begins s.seen;
+  }
+
+  pub part-of : (e : Ending K V) → AreSummed i passes all → FallsShort e (counts_at i all.counted) (front_at i all) → IsPartOf i passes e
+  part-of e s f = record {
+    steps = (let a = f.steps in let b = s.steps in omega (arith, a, b));
+    hits = (let a = f.hits in let b = s.hits in omega (arith, a, b));
+    differ = at_less f.less;
+  }
+    where
+      at_less : (IsPrefix (front_at i all) e.calls × ((steps_in i all ≢ e.total.steps) ⊎ (hits_in i all ≢ e.total.hits)))
+          ⊎ (steps_in i all < length (front_at i all))
+          → (BeginSeen i passes e.calls × AreNotSums i passes e.total.steps e.total.hits) ⊎ OneSaw (sum_by (steps_in i) passes) i passes
+      at_less (inl (b, inl d)) = inl (begin-more i passes (front_at i all) e.calls b s.seen, inl (λ x. d (sym s.steps ∙ x)))
+      at_less (inl (b, inr d)) = inl (begin-more i passes (front_at i all) e.calls b s.seen, inr (λ x. d (sym s.hits ∙ x)))
+      at_less (inr more) = inr (s.saw (sum_by (steps_in i) passes) (let b = s.steps in omega (arith, more, b)))
+
+  -- the same of a shard that may not be in use
+  pub all-at : (o : Option (Ending K V)) → AreSummed i passes all → IsSome o
+      → IfSome o (λ e. AddsTo e (counts_at i all.counted) (front_at i all)) → IsSomeAnd o (IsAllOf i passes)
+  all-at None s there a = absurd cc
+  all-at (Some e) s there a = all-of e s a
+
+  pub part-at : (o : Option (Ending K V)) → AreSummed i passes all → IsSome o
+      → IfSome o (λ e. FallsShort e (counts_at i all.counted) (front_at i all)) → IsSomeAnd o (IsPartOf i passes)
+  part-at None s there f = absurd cc
+  part-at (Some e) s there f = part-of e s f
+
+  pub settled-at : (o : Option (Ending K V)) (c : Option Total) → AreSummed i passes all
+      → IsSome c ↔ IsSome o → IfSome o (λ e. IfSome c (λ t. t ≡ e.total))
+      → IfSome o (λ e. AddsTo e (counts_at i all.counted) (front_at i all)) → IsSettled i passes c o
+  settled-at None None s there same a = (refl, tt)
+  settled-at None (Some t) s there same a = absurd (let some = there.0 refl in cc)
+  settled-at (Some e) None s there same a = absurd (let some = there.1 refl in cc)
+  settled-at (Some e) (Some t) s there same a = (ap (λ x. Some x) same, all-of e s a)
+
+module _ {K V : Type 0} (members : Members K V) (p : Place) (passes : List (Seen K V)) where
+  adds-up : (e : Ending K V) → IsEnding members p e → IsAllOf p.index passes e → AddUp members p passes
+  adds-up e n a = record {
     calls = e.calls;
     whole = n.whole;
-    begins = begin-more p.index passes (front_at p.index all) e.calls a.begins s.seen;
+    begins = a.begins;
     sums = record {
-      steps = s.steps ∙ a.steps ∙ ap (λ (t : Total). t.steps) n.total ∙ n.whole.counted;
-      hits = s.hits ∙ a.hits ∙ ap (λ (t : Total). t.hits) n.total;
+      steps = a.sums.steps ∙ ap (λ (t : Total). t.steps) n.total ∙ n.whole.counted;
+      hits = a.sums.hits ∙ ap (λ (t : Total). t.hits) n.total;
     };
   }
 
-  pub total-of-all : AreSummed p.index passes all → IsEnding members p e → AddsTo e (counts_at p.index all.counted) (front_at p.index all)
-      → IsTotal members p passes e.total
-  total-of-all s n a = record {
+  total-of-all : (e : Ending K V) → IsEnding members p e → IsAllOf p.index passes e → IsTotal members p passes e.total
+  total-of-all e n a = record {
     calls = e.calls;
     whole = n.whole;
-    begins = begin-more p.index passes (front_at p.index all) e.calls a.begins s.seen;
+    begins = a.begins;
     total = n.total;
-    sound = record {
-      sums = record { steps = s.steps ∙ a.steps; hits = s.hits ∙ a.hits };
-      looked = n.looked;
-      weight = n.weight;
-      small = n.small;
-    };
+    sound = record { sums = a.sums; looked = n.looked; weight = n.weight; small = n.small };
   }
 
-  pub missing-there : AreSummed p.index passes all → IsEnding members p e
-      → FallsShort e (counts_at p.index all.counted) (front_at p.index all) → IsMissing members p passes
-  missing-there s n f =
+  missing-there : (e : Ending K V) → IsEnding members p e → IsPartOf p.index passes e → IsMissing members p passes
+  missing-there e n f =
       let long : e.total.steps ≡ length e.calls = ap (λ (t : Total). t.steps) n.total ∙ n.whole.counted in
       let hit : e.total.hits ≡ (state_at members p e.calls).counts.hits = ap (λ (t : Total). t.hits) n.total in
       record {
         calls = e.calls;
         whole = n.whole;
-        steps = (let a = f.steps in let b = s.steps in omega (arith, a, b, long));
-        hits = (let a = f.hits in let b = s.hits in omega (arith, a, b, hit));
-        differ = at_less f.less;
+        steps = (let a = f.steps in omega (arith, a, long));
+        hits = (let a = f.hits in omega (arith, a, hit));
+        differ = subst (λ (m : ℕ). (BeginSeen p.index passes e.calls
+            × AreNotSums p.index passes m (state_at members p e.calls).counts.hits) ⊎ OneSaw (sum_by (steps_in p.index) passes) p.index passes) long
+            (subst (λ (m : ℕ). (BeginSeen p.index passes e.calls
+            × AreNotSums p.index passes e.total.steps m) ⊎ OneSaw (sum_by (steps_in p.index) passes) p.index passes) hit f.differ);
       }
-    where
-      at_less : (IsPrefix (front_at p.index all) e.calls
-          × ((steps_in p.index all ≢ e.total.steps) ⊎ (hits_in p.index all ≢ e.total.hits)))
-          ⊎ (steps_in p.index all < length (front_at p.index all))
-          → (BeginSeen p.index passes e.calls
-          × ((sum_by (steps_in p.index) passes ≢ length e.calls) ⊎ (sum_by (hits_in p.index) passes ≢ (state_at members p e.calls).counts.hits)))
-          ⊎ OneSaw (sum_by (steps_in p.index) passes) p.index passes
-      at_less (inl (b, inl d)) = inl (
-        begin-more p.index passes (front_at p.index all) e.calls b s.seen,
-        inl (λ x. d (sym s.steps ∙ x ∙ sym (ap (λ (t : Total). t.steps) n.total ∙ n.whole.counted))),
-      )
-      at_less (inl (b, inr d)) = inl (
-        begin-more p.index passes (front_at p.index all) e.calls b s.seen,
-        inr (λ x. d (sym s.hits ∙ x ∙ sym (ap (λ (t : Total). t.hits) n.total))),
-      )
-      at_less (inr more) = inr (s.saw (sum_by (steps_in p.index) passes) (let b = s.steps in omega (arith, more, b)))
 
--- the same of a shard that may not be in use
-module _ {K V : Type 0} (members : Members K V) (p : Place) (passes : List (Seen K V)) (all : Seen K V) where
-  pub adds-at : (o : Option (Ending K V)) → AreSummed p.index passes all → IfSome o (IsEnding members p) → IsSome o
-      → IfSome o (λ e. AddsTo e (counts_at p.index all.counted) (front_at p.index all)) → AddUp members p passes
-  adds-at None s n there a = absurd cc
-  adds-at (Some e) s n there a = adds-up members p passes all e s n a
+  -- the same of a shard that may not be in use
+  adds-at : (o : Option (Ending K V)) → IfSome o (IsEnding members p) → IsSomeAnd o (IsAllOf p.index passes) → AddUp members p passes
+  adds-at None n a = absurd a
+  adds-at (Some e) n a = adds-up e n a
 
-  pub missing-at : (o : Option (Ending K V)) → AreSummed p.index passes all → IfSome o (IsEnding members p) → IsSome o
-      → IfSome o (λ e. FallsShort e (counts_at p.index all.counted) (front_at p.index all)) → IsMissing members p passes
-  missing-at None s n there f = absurd cc
-  missing-at (Some e) s n there f = missing-there members p passes all e s n f
+  missing-at : (o : Option (Ending K V)) → IfSome o (IsEnding members p) → IsSomeAnd o (IsPartOf p.index passes) → IsMissing members p passes
+  missing-at None n f = absurd f
+  missing-at (Some e) n f = missing-there e n f
 
-  pub total-at : (o : Option (Ending K V)) (c : Option Total) → AreSummed p.index passes all → IfSome o (IsEnding members p)
-      → IsSome c ↔ IsSome o → IfSome o (λ e. IfSome c (λ t. t ≡ e.total))
-      → IfSome o (λ e. AddsTo e (counts_at p.index all.counted) (front_at p.index all)) → IfSome c (IsTotal members p passes)
-  total-at o None s n there same a = tt
-  total-at None (Some t) s n there same a = absurd (let some = there.0 refl in cc)
-  total-at (Some e) (Some t) s n there same a = subst (IsTotal members p passes) (sym same) (total-of-all members p passes all e s n a)
+  pub total-at : (o : Option (Ending K V)) (c : Option Total) → IfSome o (IsEnding members p) → IsSettled p.index passes c o
+      → IfSome c (IsTotal members p passes)
+  total-at o None n a = tt
+  total-at None (Some t) n a = absurd (let clash = a.0 in cc)
+  total-at (Some e) (Some t) n a = (let same : t ≡ e.total = (let is = a.0 in cc) in
+      subst (IsTotal members p passes) (sym same) (total-of-all e n a.1))
+
+module _ {K V : Type 0} (members : Members K V) (l : Layout) (e : Ends K V) (passes : List (Seen K V)) (ends : AreEndings members l e) where
+  ended : (i : ℕ) → IfSome (ending_at i e) (IsEnding members (place_of i l))
+  ended zero = ends.0
+  ended (suc zero) = ends.1
+  ended (suc (suc zero)) = ends.2
+  ended (suc (suc (suc zero))) = ends.3
+  ended (suc (suc (suc (suc i)))) = tt
+
+  pub short-missing : (least : ℕ) → IsShort e passes least → IsMissing members (place_of least l) passes
+  short-missing least s = missing-at members (place_of least l) passes (ending_at least e) (ended least) s.part
+
+  pub all-below : (least : ℕ) → AreAllBelow e passes least → AddUpBelow members l passes least
+  all-below zero a = tt
+  all-below (suc n) a = (all-below n a.0, adds-at members (place_of n l) passes (ending_at n e) (ended n) a.1)
+
+  pub settled-totals : (t : Settled) → AreSettled e passes t → AreTotals members l passes t
+  settled-totals t s = (
+    total-at members (place_of 0 l) passes e.zero t.zero ends.0 s.0,
+    total-at members (place_of 1 l) passes e.one t.one ends.1 s.1,
+    total-at members (place_of 2 l) passes e.two t.two ends.2 s.2,
+    total-at members (place_of 3 l) passes e.three t.three ends.3 s.3,
+  )

@@ -1,5 +1,5 @@
 -- What passes add up to where a shard ends.
-use Rattle.std.specs.Prelude.{◌≡◌, ◌≢◌, ◌⊎◌, ℕ, ◌+◌, ◌<◌, ◌≤◌, List, [], ◌∷◌, Option, length, sum_by}
+use Rattle.std.specs.Prelude.{◌≡◌, ◌≢◌, ◌⊎◌, ℕ, zero, suc, ◌+◌, ◌<◌, ◌≤◌, List, [], ◌∷◌, Option, None, IsSomeAnd, length, slice_index_or, sum_by}
 use mathlib.Core.List.{IsPrefix}
 use Rattle.wt_core.specs.declared.calls.Call.{Call}
 use Rattle.wt_shards.specs.Counts.{Counted}
@@ -62,3 +62,39 @@ module _ {K V : Type 0} where
     pub hits : made.hits ≤ e.total.hits
     pub less : (IsPrefix seen e.calls × ((made.steps ≢ e.total.steps) ⊎ (made.hits ≢ e.total.hits)))
         ⊎ (made.steps < length seen)
+
+-- what the shard of a number ended with, if there is one
+abbrev pub ending_at : {K V : Type 0} → ℕ → Ends K V → Option (Ending K V)
+ending_at i e = slice_index_or (e.zero ∷ e.one ∷ e.two ∷ e.three ∷ []) i None
+
+module _ {K V : Type 0} where
+  -- the sums over the passes at a shard are these numbers
+  pub record AreSums (i : ℕ) (passes : List (Seen K V)) (made hit : ℕ) : Type 0 where
+    pub steps : sum_by (steps_in i) passes ≡ made
+    pub hits : sum_by (hits_in i) passes ≡ hit
+
+  -- one of the sums over the passes at a shard isn't this number
+  abbrev pub AreNotSums : ℕ → List (Seen K V) → ℕ → ℕ → Type 0
+  AreNotSums i passes made hit =
+      (sum_by (steps_in i) passes ≢ made) ⊎ (sum_by (hits_in i) passes ≢ hit)
+
+  -- the passes made all that the books of a shard have, and what they have seen begins its history
+  pub record IsAllOf (i : ℕ) (passes : List (Seen K V)) (e : Ending K V) : Type 0 where
+    pub sums : AreSums i passes e.total.steps e.total.hits
+    pub begins : BeginSeen i passes e.calls
+
+  -- they made less; or one of them has seen more calls than all of them made
+  pub record IsPartOf (i : ℕ) (passes : List (Seen K V)) (e : Ending K V) : Type 0 where
+    pub steps : sum_by (steps_in i) passes ≤ e.total.steps
+    pub hits : sum_by (hits_in i) passes ≤ e.total.hits
+    pub differ : (BeginSeen i passes e.calls × AreNotSums i passes e.total.steps e.total.hits) ⊎ OneSaw (sum_by (steps_in i) passes) i passes
+
+  -- at each of the first shards the passes made all of its history
+  abbrev pub AreAllBelow : Ends K V → List (Seen K V) → ℕ → Type 0
+  AreAllBelow e passes zero = Unit {0}
+  AreAllBelow e passes (suc n) = AreAllBelow e passes n × IsSomeAnd (ending_at n e) (IsAllOf n passes)
+
+  -- at the shard of this number they made a part of its history, and at each before it all
+  pub record IsShort (e : Ends K V) (passes : List (Seen K V)) (least : ℕ) : Type 0 where
+    pub part : IsSomeAnd (ending_at least e) (IsPartOf least passes)
+    pub below : AreAllBelow e passes least

@@ -7,6 +7,7 @@ mod books;
 mod closed;
 mod done;
 mod ended;
+mod ends;
 mod explained;
 mod hold;
 mod kept;
@@ -34,6 +35,7 @@ mod value;
 pub use books::{Blanks, Books, Named};
 pub use closed::Closed;
 pub use done::Done;
+pub use ends::Ends;
 pub use explained::Explained;
 pub use laws::{
     found_values_are_young, found_values_were_used, joins_are_fresh, loads_land_once,

@@ -5,41 +5,12 @@ ghost use Rattle.wt_shards.specs.Passes.{counts_of, front_of, new_pass};
 
 use crate::books::Books;
 use crate::ended::Ended;
+use crate::ends::Ends;
 use crate::pass::Pass;
 use crate::shard_ledger::ShardLedger;
 use crate::shard_pass::ShardPass;
 use std::marker::Model;
 use std::sync::ledger::Ledger;
-
-/// The shards as they ended.
-#[derive(Drop)]
-pub struct Ends<K, V, B: Books> {
-    pub(crate) shards: usize,
-    pub(crate) zero: Option<Ended<K, V, B::S0, B::H0>>,
-    pub(crate) one: Option<Ended<K, V, B::S1, B::H1>>,
-    pub(crate) two: Option<Ended<K, V, B::S2, B::H2>>,
-    pub(crate) three: Option<Ended<K, V, B::S3, B::H3>>,
-}
-
-impl<K, V, B: Books> Model for Ends<K, V, B> {
-    ghost use Rattle.std.specs.Prelude.{◌≡◌, ◌<◌, ◌≤◌, ◌↔◌, IsSome};
-    ghost use Rattle.wt_shards.specs.Endings.{Ends};
-
-    ghost Value = { Ends K V };
-
-    ghost view = { λ e. record {
-      shards = e.shards;
-      zero = e.zero;
-      one = e.one;
-      two = e.two;
-      three = e.three;
-    } };
-
-    ghost invariant = { λ e. (B.S0.ShardLedger.place.shards ≡ e.shards)
-        × ((0 < e.shards) ↔ IsSome e.zero) × ((1 < e.shards) ↔ IsSome e.one)
-        × ((2 < e.shards) ↔ IsSome e.two) × ((3 < e.shards) ↔ IsSome e.three)
-        × (e.shards ≤ 4) };
-}
 
 /// What callers made and saw at each shard, added up.
 #[derive(Drop)]

@@ -5,7 +5,7 @@ use Rattle.wt_shards.specs.Endings.{Ending, FallsShort}
 use Rattle.wt_shards.specs.Passes.{ShardPass, counts_of, front_of}
 use Rattle.wt_shards.specs.declared.total.Total.{Total}
 use Rattle.wt_shards.proofs.Endings.{short_none}
-use Rattle.wt_shards.proofs.shards.ending.is_all.Goals as goal
+use Rattle.wt_shards.proofs.ends.is_all.Goals as goal
 
 pub returns-then-total-ne0-clause-short : goal.returns-then-total-ne0-clause-short
 returns-then-total-ne0-clause-short g c _ =
