@@ -1,5 +1,5 @@
 // A `Caller`: one thread's way to a cache that threads share.
-ghost use Rattle.std.specs.Prelude.{◌*◌, ◌≤◌};
+ghost use Rattle.std.specs.Prelude.{◌≡◌, ◌*◌, ◌≤◌};
 
 use crate::source::{Page, Source};
 use std::sync::Wait;
@@ -16,6 +16,21 @@ pub fn get<B: Books, R: Wait>(
 ) -> Result<(u64, bool), Fault> {
     let got = caller.get(number, now)?;
     Ok((got.value.value, got.how == How::Loaded))
+}
+
+/// Gets a page by two callers of one cache, and returns its words, and whether they shared its load.
+pub fn get_both<B: Books, R: Wait>(
+    one: &mut Caller<u64, Page, &Source, B, R>,
+    other: &mut Caller<u64, Page, &Source, B, R>,
+    number: u64,
+    now: u64,
+) -> Result<(u64, bool), Fault>
+    requires one_cache { other.old.cache ≡ one.old.cache }
+{
+    let mut mine = one.get_sharing(number, now)?;
+    let mut theirs = other.get_sharing(number, now)?;
+    let shared = mine.shares_with(&mut theirs);
+    Ok((mine.got().value.value, shared))
 }
 
 /// Returns the words of a page, if it is there.

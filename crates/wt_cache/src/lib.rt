@@ -14,6 +14,7 @@ mod line_view;
 mod loader;
 mod loads;
 mod service;
+mod shared_got;
 mod tally;
 mod workers;
 
@@ -29,4 +30,5 @@ pub use line_pass::LinePass;
 pub use line_view::LineView;
 pub use loader::Loader;
 pub use service::{Service, serve};
+pub use shared_got::SharedGot;
 pub use tally::{Countable, Tally};

@@ -7,6 +7,7 @@ mod compare;
 mod leads;
 mod posted;
 mod refusals;
+mod sharing;
 mod soak;
 mod stage;
 mod threads;

@@ -7,7 +7,7 @@ ghost use Rattle.std.specs.Prelude.{◌≡◌, ◌<◌, ◌^◌, ◌++◌, ◌�
 ghost use mathlib.Core.List.{IsPrefix};
 ghost use Rattle.wt_history.specs.Rules.{head_of};
 
-use crate::front::Asked;
+use crate::trail::Asked;
 use crate::prefix::Prefix;
 use crate::rule::Law;
 use logbook::{Seen, Start, Word};

@@ -3,7 +3,7 @@ ghost use Rattle.std.specs.Prelude.{◌≡◌, ◌+◌, ◌<◌, ◌≤◌, ◌^
 ghost use mathlib.Core.List.{IsPrefix};
 ghost use Rattle.wt_history.specs.Rules.{head_of};
 
-use crate::front::Asked;
+use crate::trail::Asked;
 use crate::rule::{Add, Law, Look, Nothing};
 use logbook::{Seen, Word};
 use std::marker::Model;

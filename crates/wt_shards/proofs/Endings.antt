@@ -28,6 +28,10 @@ module _ {K V : Type 0} where
   pub added_same : (c : Counted) (f : List (Call K V)) → IsAddedTo c no_steps c f [] f
   added_same c f = record { steps = omega arith; hits = omega arith; this = prefix_self f; that = prefix_none f; longer = inl refl }
 
+  -- to nothing was added
+  pub added_first : (c : Counted) (f : List (Call K V)) → IsAddedTo no_steps c c [] f f
+  added_first c f = record { steps = omega arith; hits = omega arith; this = prefix_none f; that = prefix_self f; longer = inr refl }
+
   -- no pass is there, and a step was made
   pub short_none : (e : Ending K V) → 0 ≢ e.total.steps → FallsShort e no_steps []
   short_none e ne = record { steps = omega arith; hits = omega arith; less = inl (prefix_none e.calls, inl ne) }

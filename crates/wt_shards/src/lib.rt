@@ -12,6 +12,7 @@ mod explained;
 mod hold;
 mod kept;
 mod lag;
+mod landings;
 mod laws;
 mod names;
 mod pass;
@@ -37,6 +38,7 @@ pub use closed::Closed;
 pub use done::Done;
 pub use ends::Ends;
 pub use explained::Explained;
+pub use landings::{Landings, Sharing};
 pub use laws::{
     found_values_are_young, found_values_were_used, joins_are_fresh, loads_land_once,
     one_load_is_current, outline_of_step, own_put_is_found, own_put_is_read, own_put_is_sought,

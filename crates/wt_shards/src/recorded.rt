@@ -8,6 +8,7 @@ ghost use Rattle.wt_keys.specs.declared.fault.Fault.TheVariants as fault;
 ghost use Rattle.wt_core.specs.declared.calls.Call.TheVariants as call;
 ghost use Rattle.wt_shards.specs.Asked.{AnswersAsked, MayAsk, ReplyAnswers, is_seek};
 ghost use Rattle.wt_shards.specs.Contract.{IsLockedCall};
+ghost use Rattle.wt_shards.specs.Landings.{IsShared};
 ghost use Rattle.wt_shards.specs.Peeks.{FoundAnswers, IsLockedPeek};
 ghost use Rattle.wt_shards.specs.Members.{members_by};
 ghost use Rattle.wt_shards.specs.Outer.{IsOfKey};
@@ -17,10 +18,10 @@ ghost use Rattle.wt_shards.specs.Totals.{IsEnding};
 
 use crate::done::Done;
 use crate::ended::Ended;
+use crate::landings::{Answered, Landings, Opens, Sharing};
 use crate::shard::Shard;
 use crate::shard_ledger::ShardLedger;
 use crate::shard_pass::ShardPass;
-use crate::sought::Sought;
 use std::marker::Model;
 use std::sync::Wait;
 use std::sync::ledger::Ledger;
@@ -40,14 +41,17 @@ impl<K: CacheKey, V: Share + Weighs + Answers<K>, S: ShardLedger, H: Ledger> Mod
     ghost use Rattle.std.specs.Prelude.{◌≡◌, List, length};
     ghost use Rattle.wt_core.specs.declared.calls.Call.{Call};
     ghost use Rattle.wt_shards.specs.History.{state_after};
+    ghost use Rattle.wt_shards.specs.Landings.{AreTagged};
 
     ghost Value = { List (Call K V) };
 
-    ghost view = { λ r. r.history };
+    ghost view = { λ r. r.history.entries };
 
+    // The history's tags are the landings of the loads that it opened.
     ghost invariant = { λ r.
-        (r.shard.core ≡ state_after K.eq K.word V.measure S.ShardLedger.place.config r.history)
-        × (r.shard.core.step ≡ length r.history) };
+        (r.shard.core ≡ state_after K.eq K.word V.measure S.ShardLedger.place.config r.history.entries)
+        × (r.shard.core.step ≡ length r.history.entries)
+        × AreTagged r.history.tags r.shard.core.flights.next r.shard.landings };
 }
 
 impl<K: CacheKey, V: Share + Weighs + Answers<K>, S: ShardLedger, H: Ledger> Recorded<K, V, S, H> {
@@ -104,22 +108,31 @@ impl<K: CacheKey, V: Share + Weighs + Answers<K>, S: ShardLedger, H: Ledger> Rec
         key: K,
         now: u64,
         notices: &mut Notices<K, V>,
-    ) -> Result<Done<Sought<K, V>>, Fault>
+    ) -> Result<Done<Sharing<K, V>>, Fault>
         requires asked { MayAsk V.answers K.word S.ShardLedger.place
             (call.Seek key now) notices.old }
         ensures made { IsLockedCall (members_by K.eq K.word V.measure V.answers) S.ShardLedger.place
-            (call.Seek key now) reply_of pass.old pass.new notices.old notices.new result }
-        ensures answers { IfOk result (λ done. ReplyAnswers V.answers key (reply_of done.reply)) }
-        ensures asked { IfOk result (λ done. IsOfKey key now done.reply) }
+            (call.Seek key now) (λ r. reply_of r.sought) pass.old pass.new notices.old notices.new
+            result }
+        ensures answers { IfOk result (λ done. ReplyAnswers V.answers key
+            (reply_of done.reply.sought)) }
+        ensures asked { IfOk result (λ done. IsOfKey key now done.reply.sought) }
+        ensures shared { IfOk result (λ done. IsShared S.Naming.book done.reply) }
     {
         let step = self.shard.steps();
-        let asked = self.history.ask(&Call::Seek(key, now));
         match self.shard.seek(&mut pass.shares, key, now, notices) {
-            Ok(reply) => {
+            Ok(sought) => {
+                let answered = Answered { key, now, sought };
+                let asked = self.history.ask_tagged::<Answered<K, V>, Opens>(&answered);
                 self.history.write(rt, &mut pass.front, asked, step);
                 return Ok(Done {
                     step: step + 1,
-                    reply,
+                    reply: Sharing {
+                        sought: answered.sought,
+                        landings: Landings {
+                            tags: self.history.tags(),
+                        },
+                    },
                 });
             }
             Err(fault) => {

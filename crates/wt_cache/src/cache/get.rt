@@ -13,12 +13,16 @@
 // caller that took it off the line. That one lands the load and publishes its outcome. A ticket
 // stays with its caller, and each waits on its own. A caller that ran its own load reads what it
 // published, and doesn't wait. A get holds no lock while it loads or waits.
-ghost use Rattle.std.specs.Prelude.{◌≡◌, ◌*◌, ◌≤◌, [], true, List, IsTrue, IfOk, IfErr};
-ghost use Rattle.wt_flights.specs.Outcomes.{Leading};
+ghost use Rattle.std.specs.Prelude.{◌≡◌, ◌*◌, ◌≤◌, [], true, List, Some, None, IsTrue, IfOk, IfErr, IfSome};
+ghost use Rattle.wt_flights.specs.Outcomes.{Leading, ticket_of};
+ghost use Rattle.wt_flights.specs.declared.outcome.Outcome.TheVariants as outcome;
+ghost use Rattle.wt_shards.specs.Landings.{book_at};
+ghost use Rattle.wt_shards.specs.Place.{home_of};
 ghost use Rattle.wt_shards.specs.Members.{members_of};
 ghost use Rattle.wt_shards.specs.Told.{HasTold};
 ghost use Rattle.wt_cache.specs.Gets.{IsSought, HasTriedIn, is_get_fault};
-ghost use Rattle.wt_cache.specs.Loads.{AreRun, IsHandedTo, IsLoaded, MayReturn};
+ghost use Rattle.wt_cache.specs.Loads.{AreRun, IsHandedTo, IsLoaded, MayReturn, value_in};
+ghost use Rattle.wt_cache.specs.SharedGots.{IsOfShard, IsSoughtSharing, told_by};
 ghost use Rattle.wt_cache.specs.Moves.{HasGotIn, IsLaterIn};
 
 use crate::cache::LoadingCache;
@@ -27,11 +31,32 @@ use crate::job_line::{Back, JobLine, Posted};
 use crate::line_pass::LinePass;
 use crate::loader::Loader;
 use crate::loads::{Ran, value_in, value_of};
+use crate::shared_got::SharedGot;
 use std::sync::Wait;
 use wt_core::Notices;
-use wt_flights::{Lead, Publish, Ticket};
+use wt_flights::{Lead, Outcome, Publish, Ticket};
 use wt_keys::{CacheKey, Fault};
-use wt_shards::{Books, Pass, Sought, Value};
+use wt_shards::{Books, Pass, Sharing, Sought, Value};
+
+// The value of a load that this caller's seek opened, and the ticket that knows it as the load's
+// outcome.
+#[derive(Drop)]
+pub(crate) struct Led<K, V> {
+    pub(crate) value: V,
+    // None if the landing had another outcome already, which never happens: no clause says so.
+    pub(crate) ticket: Option<Ticket<K, V>>,
+}
+
+// The value of an outcome with the ticket that knows it, or the outcome's fault.
+fn led_by<K: Copy, V: Drop>(outcome: Outcome<V>, ticket: Option<Ticket<K, V>>) -> Result<Led<K, V>, Fault>
+    ensures told { told_by result ≡ value_in outcome }
+    ensures ticket { IfOk result (λ led. led.ticket ≡ ticket) }
+{
+    match value_in(outcome) {
+        Ok(value) => Ok(Led { value, ticket }),
+        Err(fault) => Err(fault),
+    }
+}
 
 impl<K: CacheKey, V: Value<K>, L: Loader<K, V> + Drop, B: Books> LoadingCache<K, V, L, B> {
     /// Returns the value of the key: the one that is there, or the one that is loaded, once for all
@@ -49,7 +74,6 @@ impl<K: CacheKey, V: Value<K>, L: Loader<K, V> + Drop, B: Books> LoadingCache<K,
     /// isn't reported. A hit takes memory for a share, a load for its row and its landing. Takes
     /// the lock of the key's shard for each step, and none while it loads or waits. Not promised:
     /// that the loader, and so the call, returns; that it is woken.
-    #[tactic(auto, using(crate::proofs::Faults::of_seek, crate::proofs::Faults::of_land, crate::proofs::Faults::late_land, crate::proofs::Faults::of_late))]
     pub fn get<R: Wait>(
         &self,
         rt: &R,
@@ -73,29 +97,64 @@ impl<K: CacheKey, V: Value<K>, L: Loader<K, V> + Drop, B: Books> LoadingCache<K,
         ensures err { IfErr result (HasTriedIn (members_of K.CacheKey V.Value)
             (MayReturn L.may_return) key now self.now pass.old pass.new notices.old notices.new) }
     {
-        let done = self.shards.seek(rt, pass, key, now, notices)?;
+        match self.get_sharing(rt, pass, key, now, notices) {
+            Ok(shared) => Ok(shared.into_got()),
+            Err(fault) => Err(fault),
+        }
+    }
+
+    /// Gets the key's value as `get` does, and also returns this caller's share of the load, if the
+    /// value was loaded. By it, callers that share a load know that they got the same value: see
+    /// [`SharedGot::shares_with`].
+    #[inline(always)]
+    #[tactic(auto, using(crate::proofs::Faults::of_seek, crate::proofs::Faults::of_land, crate::proofs::Faults::late_land, crate::proofs::Faults::of_late))]
+    pub fn get_sharing<R: Wait>(
+        &self,
+        rt: &R,
+        pass: &mut Pass<K, V, B>,
+        key: K,
+        now: u64,
+        notices: &mut Notices<K, V>,
+    ) -> Result<SharedGot<K, V>, Fault>
+        requires room { 2 * self.now.layout.config.entries ≤ notices.old.room }
+
+        ensures answers { IfOk result (λ shared. IsTrue (V.answers shared.got.value key)) }
+        ensures moved { IfOk result (λ shared. HasGotIn K.word key self.now pass.old.counted
+            pass.new.counted shared.got) }
+        ensures later { IfOk result (λ shared. IsLaterIn K.word key self.now pass.old.counted
+            shared.got) }
+        ensures sought { IfOk result (IsSoughtSharing (members_of K.CacheKey V.Value)
+            (MayReturn L.may_return) key now self.now (book_at (home_of K.word key self.now.layout)
+            B.S0.Naming.book B.S1.Naming.book B.S2.Naming.book B.S3.Naming.book)
+            pass.old pass.new notices.old notices.new) }
+        ensures here { IfOk result (λ shared. IsOfShard (book_at (home_of K.word key self.now.layout)
+            B.S0.Naming.book B.S1.Naming.book B.S2.Naming.book B.S3.Naming.book) shared.share) }
+
+        ensures told { HasTold (2 * self.now.layout.config.entries) notices.old notices.new }
+        ensures faults { IfErr result (λ fault. is_get_fault fault ≡ true) }
+        // Either the seek was refused, for a cause of its own and with nothing done, or it stands.
+        // Then this is why it brought nothing.
+        ensures err { IfErr result (HasTriedIn (members_of K.CacheKey V.Value)
+            (MayReturn L.may_return) key now self.now pass.old pass.new notices.old notices.new) }
+    {
+        let done = self.shards.seek_sharing(rt, pass, key, now, notices)?;
         let step = done.step;
-        match done.reply {
-            Sought::Hit(value) => {
-                let how = How::Hit;
-                Ok(Got { value, how, step })
-            }
+        let Sharing { sought, landings } = done.reply;
+        match sought {
+            Sought::Hit(value) => Ok(SharedGot::found(value, How::Hit, step)),
             Sought::HitLead(value, lead, _ticket) => {
                 // A failed load isn't reported: the value that was there is the result.
                 let _ = self.hand_on(rt, pass, lead, notices);
-                let how = How::Refreshed;
-                Ok(Got { value, how, step })
+                Ok(SharedGot::found(value, How::Refreshed, step))
             }
             Sought::Join(ticket) => {
                 let mut ticket = ticket;
                 let value = value_of(rt, &mut ticket)?;
-                let how = How::Joined;
-                Ok(Got { value, how, step })
+                Ok(SharedGot::loaded(value, How::Joined, step, Some(ticket), landings))
             }
             Sought::Lead(lead, ticket) => {
-                let value = self.load(rt, pass, lead, ticket, notices)?;
-                let how = How::Loaded;
-                Ok(Got { value, how, step })
+                let Led { value, ticket } = self.load(rt, pass, lead, ticket, notices)?;
+                Ok(SharedGot::loaded(value, How::Loaded, step, ticket, landings))
             }
         }
     }
@@ -109,24 +168,30 @@ impl<K: CacheKey, V: Value<K>, L: Loader<K, V> + Drop, B: Books> LoadingCache<K,
         lead: Lead<K, V>,
         ticket: Ticket<K, V>,
         notices: &mut Notices<K, V>,
-    ) -> Result<V, Fault>
+    ) -> Result<Led<K, V>, Fault>
         requires room { self.now.layout.config.entries ≤ notices.old.room }
-        requires ticket { ticket.key ≡ lead.key }
-        ensures answers { IfOk result (λ value. IsTrue (V.answers value lead.key)) }
+        requires ticket { ticket ≡ ticket_of lead None }
+        ensures answers { IfOk result (λ led. IsTrue (V.answers led.value lead.key)) }
         ensures made { IsLoaded (members_of K.CacheKey V.Value) (MayReturn L.may_return) self.now lead
-            pass.old pass.new notices.old notices.new result }
+            pass.old pass.new notices.old notices.new (told_by result) }
+        ensures known { IfOk result (λ led. IfSome led.ticket
+            (λ t. t ≡ ticket_of lead (Some (outcome.Value led.value)))) }
     {
         let Some(ran) = self.hand_on(rt, pass, lead, notices) else {
             let mut ticket = ticket;
-            return value_of(rt, &mut ticket);
+            let value = value_of(rt, &mut ticket)?;
+            return Ok(Led {
+                value,
+                ticket: Some(ticket),
+            });
         };
         let _ = ran.landed?;
         match ran.published {
-            Publish::Already(outcome) => value_in(outcome),
+            Publish::Already(outcome) => led_by(outcome, None),
             Publish::Published(ticket) => {
                 let mut ticket = ticket;
                 match ticket.poll()? {
-                    Some(outcome) => value_in(outcome),
+                    Some(outcome) => led_by(outcome, Some(ticket)),
                     None => unreachable!(),
                 }
             }

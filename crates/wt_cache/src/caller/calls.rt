@@ -8,15 +8,18 @@ ghost use Rattle.wt_shards.specs.Members.{members_of};
 ghost use Rattle.wt_cache.specs.Cached.{most_entries};
 ghost use Rattle.wt_cache.specs.Follows.{IsFollowed};
 ghost use Rattle.wt_cache.specs.Loads.{MayReturn};
-ghost use Rattle.wt_shards.specs.Place.{home_at};
+ghost use Rattle.wt_shards.specs.Landings.{book_at};
+ghost use Rattle.wt_shards.specs.Place.{home_at, home_of};
 ghost use Rattle.wt_cache.specs.Contract.{IsLentCall, IsLentGet, IsLentPut, IsLentSweep};
 ghost use Rattle.wt_cache.specs.Peeks.{IsLentPeek, IsLentRead};
+ghost use Rattle.wt_cache.specs.SharedGots.{IsOfShard, IsSoughtSharing, got_in};
 ghost use Rattle.wt_shards.specs.Peeks.{FoundAnswers};
 
 use crate::caller::Caller;
 use crate::followers::Followers;
 use crate::got::Got;
 use crate::loader::Loader;
+use crate::shared_got::SharedGot;
 use std::sync::Wait;
 use wt_core::{Notices, Reply};
 use wt_keys::{CacheKey, Fault};
@@ -43,6 +46,32 @@ impl<'c, K: CacheKey, V: Value<K>, L: Loader<K, V> + Drop, B: Books, R: Wait> Ca
         self.left.empty();
         let cache = self.callers.cache();
         cache.get(self.rt, &mut self.pass, key, now, &mut self.left)
+    }
+
+    /// Gets the key's value as `get` does, and also returns this caller's share of the load, if the
+    /// value was loaded: `LoadingCache::get_sharing`, whose documentation has the rest.
+    ///
+    /// `now` is in milliseconds. First the list of entries that left is emptied.
+    ///
+    /// In use: `uses::callers::get_both`.
+    pub fn get_sharing(&mut self, key: K, now: u64) -> Result<SharedGot<K, V>, Fault>
+        ensures made { IsLentGet (members_of K.CacheKey V.Value) (MayReturn L.may_return) key now
+            self.old self.new (got_in result) }
+        ensures sought { IfOk result (IsSoughtSharing (members_of K.CacheKey V.Value)
+            (MayReturn L.may_return) key now self.old.cache
+            (book_at (home_of K.word key self.old.cache.layout) B.S0.Naming.book B.S1.Naming.book
+            B.S2.Naming.book B.S3.Naming.book)
+            self.old.pass self.new.pass (emptied self.old.left) self.new.left) }
+        ensures here { IfOk result (λ shared. IsOfShard
+            (book_at (home_of K.word key self.old.cache.layout) B.S0.Naming.book B.S1.Naming.book
+            B.S2.Naming.book B.S3.Naming.book) shared.share) }
+    {
+        self.left.empty();
+        let cache = self.callers.cache();
+        match cache.get_sharing(self.rt, &mut self.pass, key, now, &mut self.left) {
+            Ok(shared) => Ok(shared),
+            Err(fault) => Err(fault),
+        }
     }
 
     /// Returns the key's value if it is there, and loads nothing: `LoadingCache::get_if_present`,

@@ -7,6 +7,7 @@ use crate::tests::calls::{Answer, Led, get, led, put};
 use crate::tests::codes::{failed_jobs, failed_shares};
 use crate::tests::leads::alone;
 use crate::tests::posted::posted_load;
+use crate::tests::sharing::sharers;
 use crate::tests::stage::{Cache, Marks, Plain, Rules, Version, Way, light, new_marks};
 use crate::tests::threads::{given_up, one_load, put_beside_load};
 use crate::tests::workers::{full_line, heavy_load, many_loads, one_worker, refresh, two_workers};
@@ -33,6 +34,8 @@ pub enum Scene {
     Heavy(u32),
     /// Two callers ask for a key while its load is held.
     OneLoad,
+    /// The same, and they compare what they got.
+    Sharers,
     /// A value is put while its key is loaded.
     PutBesideLoad,
     /// A load stands in a line of one place, and is run after all.
@@ -61,7 +64,9 @@ impl Scene {
     // How the loader answers.
     fn way(self) -> Way {
         match self {
-            Scene::OneLoad | Scene::PutBesideLoad | Scene::Posted(_) => Way::HoldsOne,
+            Scene::OneLoad | Scene::Sharers | Scene::PutBesideLoad | Scene::Posted(_) => {
+                Way::HoldsOne
+            }
             Scene::Dropped
             | Scene::Abandoned
             | Scene::Forgotten
@@ -84,6 +89,7 @@ impl Scene {
             | Scene::Abandoned
             | Scene::Forgotten
             | Scene::OneLoad
+            | Scene::Sharers
             | Scene::PutBesideLoad
             | Scene::GivenUp
             | Scene::FailedShares => 0,
@@ -187,6 +193,7 @@ fn act<N: Names + Send + Sync, R: Threads + Wait + Abort + Sync>(
         }
         Scene::Heavy(entries) => heavy_load(rt, alloc, cache, open, entries),
         Scene::OneLoad => one_load(rt, alloc, cache, marks),
+        Scene::Sharers => sharers(rt, alloc, cache, marks),
         Scene::PutBesideLoad => put_beside_load(rt, alloc, cache, marks),
         Scene::FullLine => full_line(rt, alloc, cache, open),
         Scene::OneWorker => one_worker(rt, alloc, cache),

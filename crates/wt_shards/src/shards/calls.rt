@@ -9,13 +9,15 @@ ghost use Rattle.wt_shards.specs.Asked.{AnswersAsked, LandAnswers, MayAsk, Reply
 ghost use Rattle.wt_shards.specs.Contract.{IsHomeCall, IsLockedCall, IsSweepCall};
 ghost use Rattle.wt_shards.specs.Members.{members_of};
 ghost use Rattle.wt_shards.specs.Outer.{IsOfKey};
-ghost use Rattle.wt_shards.specs.Place.{home_at, place_of};
+ghost use Rattle.wt_shards.specs.Landings.{IsShared, book_at};
+ghost use Rattle.wt_shards.specs.Place.{home_at, home_of, place_of};
 ghost use Rattle.wt_shards.specs.Sought.{reply_of};
 
 use crate::at_home::at_home;
 use crate::books::Books;
 use crate::done::Done;
 use crate::hold::hold;
+use crate::landings::Sharing;
 use crate::pass::Pass;
 use crate::recorded::Recorded;
 use crate::shard_ledger::ShardLedger;
@@ -57,12 +59,15 @@ fn seek_at<K: CacheKey, V: Value<K>, S: ShardLedger, H: Ledger, R: Wait>(
     key: K,
     now: u64,
     notices: &mut Notices<K, V>,
-) -> Result<Done<Sought<K, V>>, Fault>
+) -> Result<Done<Sharing<K, V>>, Fault>
     requires asked { MayAsk V.answers K.word S.ShardLedger.place (call.Seek key now) notices.old }
     ensures made { IsLockedCall (members_of K.CacheKey V.Value) S.ShardLedger.place
-        (call.Seek key now) reply_of pass.old pass.new notices.old notices.new result }
-    ensures answers { IfOk result (λ done. ReplyAnswers V.answers key (reply_of done.reply)) }
-    ensures asked { IfOk result (λ done. IsOfKey key now done.reply) }
+        (call.Seek key now) (λ r. reply_of r.sought) pass.old pass.new notices.old notices.new
+        result }
+    ensures answers { IfOk result (λ done. ReplyAnswers V.answers key
+        (reply_of done.reply.sought)) }
+    ensures asked { IfOk result (λ done. IsOfKey key now done.reply.sought) }
+    ensures shared { IfOk result (λ done. IsShared S.Naming.book done.reply) }
 {
     hold(rt, shard).seek(rt, pass, key, now, notices)
 }
@@ -139,6 +144,34 @@ impl<K: CacheKey, V: Value<K>, B: Books> Shards<K, V, B> {
             (call.Seek key now) reply_of pass.old pass.new notices.old notices.new result }
         ensures answers { IfOk result (λ done. ReplyAnswers V.answers key (reply_of done.reply)) }
         ensures asked { IfOk result (λ done. IsOfKey key now done.reply) }
+    {
+        let done = self.seek_sharing(rt, pass, key, now, notices)?;
+        Ok(Done {
+            step: done.step,
+            reply: done.reply.sought,
+        })
+    }
+
+    /// Seeks the key as `seek` does, and also returns which landing each load of its shard has that
+    /// was opened so far. By these, callers that share a load know that they get the same outcome:
+    /// see [`Landings::compare`](crate::Landings::compare).
+    pub fn seek_sharing<R: Wait>(
+        &self,
+        rt: &R,
+        pass: &mut Pass<K, V, B>,
+        key: K,
+        now: u64,
+        notices: &mut Notices<K, V>,
+    ) -> Result<Done<Sharing<K, V>>, Fault>
+        requires room { self.now.config.entries ≤ notices.old.room }
+        ensures made { IsHomeCall (members_of K.CacheKey V.Value) (home_at K.word key self.now)
+            (call.Seek key now) (λ r. reply_of r.sought) pass.old pass.new notices.old notices.new
+            result }
+        ensures answers { IfOk result (λ done. ReplyAnswers V.answers key
+            (reply_of done.reply.sought)) }
+        ensures asked { IfOk result (λ done. IsOfKey key now done.reply.sought) }
+        ensures shared { IfOk result (λ done. IsShared (book_at (home_of K.word key self.now)
+            B.S0.Naming.book B.S1.Naming.book B.S2.Naming.book B.S3.Naming.book) done.reply) }
     {
         let home = shard_of(key.word(), self.shards);
         at_home!(

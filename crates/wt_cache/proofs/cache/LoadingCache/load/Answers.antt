@@ -3,6 +3,7 @@ use Rattle.std.specs.Prelude.{IsSome}
 use Rattle.wt_flights.specs.Outcomes.{IsRefusalOf, Known, KnowsError}
 use Rattle.wt_flights.specs.Published.{Publishes}
 use Rattle.wt_cache.specs.Loads.{outcome_of, value_in}
+use Rattle.wt_cache.proofs.Shares.{err_by, polled_led, published_led, waited_led}
 use Rattle.wt_cache.proofs.Telling.{told_refusal, told_value}
 use Rattle.wt_cache.proofs.cache.LoadingCache.load.Goals as goal
 
@@ -18,7 +19,7 @@ returns-in-Some-2-clause-made g c =
       landed = c.in-Some.ran.landed;
       run = run.landed;
       tells = told_value g.V.Answers.answers c.args.lead.key run.loaded c.in-Some.ran.landed c.in_ok-ran.field-0 _ c.in_ok-ran.was
-          (c.value_in-in-Some-2.ensures ∙ ap value_in same);
+          (c.led_by-in-Some-2.ensures.told ∙ ap value_in same);
     })
 
 pub returns-in_err-outcome-in-Published-clause-made : goal.returns-in_err-outcome-in-Published-clause-made
@@ -37,5 +38,15 @@ returns-in_err-outcome-in-Published-clause-made g c =
       tells = told_refusal g.V.Answers.answers c.args.lead.key run.loaded c.in-Some.ran.landed c.in_ok-ran.field-0 _ f c.in_ok-ran.was
           run.landed.fits (subst (λ o. IsRefusalOf g.V.Answers.answers c.args.lead.key o f) now of_key)
           (λ bad. cc (poll.error_succeeds (subst KnowsError (sym now) bad)))
-          c.from_residual-in_err-outcome-in-Published.ensures.1;
+          (err_by (λ h. h ≡ f) _ c.from_residual-in_err-outcome-in-Published.ensures.1);
     })
+
+pub returns-in-Some-2-clause-known : goal.returns-in-Some-2-clause-known
+returns-in-Some-2-clause-known g c =
+    let run = c.in-Some.ensures in
+    let ticket = c.in-Published.ticket-is ∙ subst (λ p. Publishes c.args.lead (outcome_of run.loaded) p) c.in-Published.is run.published in
+    let known = ap (λ (t : Known g.row.K.Denot g.row.V.Denot). t.known) ticket in
+    let kept = c.poll.ensures.keeps (subst IsSome (sym known) refl) in
+    let same : c.in-Some-2.outcome ≡ outcome_of run.loaded = cc (c.in-Some-2.is, c.in_ok-outcome-in-Published.ensures.told, kept, known) in
+    published_led c.args.lead c.in-Some-2.outcome _ _ c.led_by-in-Some-2.ensures.told c.led_by-in-Some-2.ensures.ticket
+    (polled_led c.args.lead _ _ _ _ c.poll.ensures.same kept ticket same)

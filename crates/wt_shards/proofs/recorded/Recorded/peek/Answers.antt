@@ -9,7 +9,7 @@ pub returns-in-Ok-clause-made : goal.returns-in-Ok-clause-made
 returns-in-Ok-clause-made g c =
     let K = g.row.K.Denot in
     let V = g.row.V.Denot in
-    let calls : List (Call K V) = c.self.inside.history in
+    let calls : List (Call K V) = c.self.inside.history.entries in
     let before = subst (λ (w : List (Call K V)). IsPrefix w calls) (ap (λ (m : ShardPass K V). m.front) c.pass.view_is) c.show.ensures.before in
     record {
       made = peek-behind g.K.PartialEq.eq g.K.CacheKey.word g.V.Weighs.measure g.V.Answers.answers g.S.ShardLedger.place

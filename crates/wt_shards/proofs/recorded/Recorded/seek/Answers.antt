@@ -1,12 +1,18 @@
-use Rattle.std.proofs.Common.{rules, ◌≡◌, List, [], ◌∷◌, ◌++◌, length, ap, sym, subst, ◌∙◌, refl}
+use Rattle.std.proofs.Common.{rules, ◌≡◌, ℕ, List, [], ◌∷◌, ◌++◌, length, ap, sym, subst, ◌∙◌, refl}
+use Rattle.std.specs.Option.{option_to_list}
+use Rattle.wt_history.specs.declared.tags.Tagged.{Tagged}
+use Rattle.wt_history.specs.Tags.{Known}
 use Rattle.wt_core.specs.declared.calls.Call.{Call}
 use Rattle.wt_core.specs.declared.calls.Call.TheVariants.{Seek}
 use Rattle.wt_core.specs.Step.{refusal_of}
 use Rattle.wt_shards.specs.Audited.{Audited}
 use mathlib.Core.List.{IsPrefix}
 use Rattle.wt_shards.specs.History.{state_after}
+use Rattle.wt_shards.specs.Landings.{AreTagged, IsOfItsLoad, tag_of}
 use Rattle.wt_shards.specs.Passes.{ShardPass}
+use Rattle.wt_shards.specs.Sought.{IsOfLandings}
 use Rattle.wt_shards.proofs.Histories.{cause-of, made-behind, recorded-after, refused-behind}
+use Rattle.wt_shards.proofs.Tags.{seek-shared, seek-tagged}
 use Rattle.wt_shards.proofs.recorded.Recorded.seek.Goals as goal
 
 pub invariant_of-self : goal.invariant_of-self
@@ -15,27 +21,53 @@ invariant_of-self g c =
     let V = g.row.V.Denot in
     let config = g.S.ShardLedger.place.config in
     let call : Call K V = Seek c.args.key c.args.now in
-    let calls : List (Call K V) = c.self.inside.history in
+    let calls : List (Call K V) = c.self.inside.history.entries in
     let made = c.in-Ok.ensures.made in
-    let grown : c.write.new.self ≡ calls ++ call ∷ [] = c.write.ensures.state
-    ∙ ap (λ (e : Call K V). calls ++ e ∷ []) c.ask-asked.ensures in
+    let grown : c.write.new.self.entries ≡ calls ++ call ∷ [] = c.write.ensures.state
+    ∙ ap (λ (e : Tagged (Call K V)). calls ++ e.entry ∷ []) c.ask_tagged-asked.ensures in
     let after = ap (λ (x : Audited K V). x.core) made.state in
     let kept = recorded-after g.K.PartialEq.eq g.K.CacheKey.word g.V.Weighs.measure config calls
     c.self.inside.shard.core c.seek.new.self.core call c.self.invariant.0 c.self.invariant.1 made.allowed
     after in
-    subst (λ (w : List (Call K V)).
+    let tags : List ℕ = c.self.inside.history.tags in
+    let tagged : c.write.new.self.tags ≡ tags ++ option_to_list (tag_of c.in-Ok.sought) = c.write.ensures.tags
+    ∙ ap (λ (e : Tagged (Call K V)). tags ++ option_to_list e.tag) c.ask_tagged-asked.ensures in
+    let both = subst (λ (w : List (Call K V)).
     (c.seek.new.self.core ≡ state_after g.K.PartialEq.eq g.K.CacheKey.word g.V.Weighs.measure config w)
-    × (c.seek.new.self.core.step ≡ length w)) (sym grown) kept
+    × (c.seek.new.self.core.step ≡ length w)) (sym grown) kept in (
+      both.0,
+      both.1,
+      subst (λ (w : List ℕ). AreTagged w c.seek.new.self.core.flights.next c.seek.new.self.landings) (sym tagged)
+          (subst (λ (x : Audited K V). AreTagged (tags ++ option_to_list (tag_of c.in-Ok.sought)) x.core.flights.next x.landings)
+          (sym made.state) (seek-tagged g.K.PartialEq.eq g.K.CacheKey.word g.V.Weighs.measure c.args.key c.args.now
+          c.self.inside.shard.core tags c.self.inside.shard.landings c.self.invariant.2 c.in-Ok.sought made.answer)),
+    )
+
+pub returns-in-Ok-clause-shared : goal.returns-in-Ok-clause-shared
+returns-in-Ok-clause-shared g c =
+    let K = g.row.K.Denot in
+    let V = g.row.V.Denot in
+    let made = c.in-Ok.ensures.made in
+    let tags : List ℕ = c.self.inside.history.tags in
+    let tagged : c.write.new.self.tags ≡ tags ++ option_to_list (tag_of c.in-Ok.sought) = c.write.ensures.tags
+    ∙ ap (λ (e : Tagged (Call K V)). tags ++ option_to_list e.tag) c.ask_tagged-asked.ensures in
+    let shown = ap (λ (k : Known). k.tags) c.tags.ensures ∙ tagged in (
+      ap (λ (k : Known). k.book) c.tags.ensures,
+      subst (λ (w : List ℕ). IsOfItsLoad w c.in-Ok.sought) (sym shown)
+          (seek-shared g.K.PartialEq.eq g.K.CacheKey.word g.V.Weighs.measure c.args.key c.args.now
+          c.self.inside.shard.core tags c.self.inside.shard.landings c.self.invariant.2 c.in-Ok.sought made.answer
+          (subst (λ (x : Audited K V). IsOfLandings c.args.key c.args.now x.landings c.in-Ok.sought) made.state c.in-Ok.ensures.landings)),
+    )
 
 pub returns-in-Ok-clause-made : goal.returns-in-Ok-clause-made
 returns-in-Ok-clause-made g c =
     let K = g.row.K.Denot in
     let V = g.row.V.Denot in
     let call : Call K V = Seek c.args.key c.args.now in
-    let calls : List (Call K V) = c.self.inside.history in
+    let calls : List (Call K V) = c.self.inside.history.entries in
     let made = c.in-Ok.ensures.made in
     let grown : c.write.new.front ≡ calls ++ call ∷ [] = c.write.ensures.seen ∙ c.write.ensures.state
-    ∙ ap (λ (e : Call K V). calls ++ e ∷ []) c.ask-asked.ensures in
+    ∙ ap (λ (e : Tagged (Call K V)). calls ++ e.entry ∷ []) c.ask_tagged-asked.ensures in
     let before = subst (λ (w : List (Call K V)). IsPrefix w calls) (ap (λ (m : ShardPass K V). m.front) c.pass.view_is) c.write.ensures.before in
     record {
       moved = search rules;
@@ -55,7 +87,7 @@ returns-in-Err-clause-made g c =
     let K = g.row.K.Denot in
     let V = g.row.V.Denot in
     let call : Call K V = Seek c.args.key c.args.now in
-    let calls : List (Call K V) = c.self.inside.history in
+    let calls : List (Call K V) = c.self.inside.history.entries in
     let made = c.in-Err.ensures.made in
     let before = subst (λ (w : List (Call K V)). IsPrefix w calls) (ap (λ (m : ShardPass K V). m.front) c.pass.view_is) c.show.ensures.before in
     record {

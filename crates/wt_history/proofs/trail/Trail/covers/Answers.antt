@@ -2,7 +2,7 @@ use Rattle.std.proofs.Common.{List, length, ◌≤◌, ap, subst, ◌∙◌, ari
 use Rattle.std.proofs.lemmas.Bool.Decides.{nat_tests}
 use mathlib.Core.List.{IsPrefix}
 use Rattle.wt_history.proofs.Fronts.{prefix_shorter}
-use Rattle.wt_history.proofs.front.Front.covers.Goals as goal
+use Rattle.wt_history.proofs.trail.Trail.covers.Goals as goal
 
 pub returns-clause-before : goal.returns-clause-before
 returns-clause-before g c within =

@@ -1,7 +1,7 @@
 use Rattle.std.proofs.Common.{List, length, ◌≤◌, ap, sym, subst, ◌∙◌, arith}
 use mathlib.Core.List.{IsPrefix}
 use Rattle.wt_history.proofs.Fronts.{prefix_shorter}
-use Rattle.wt_history.proofs.front.Front.learn.Goals as goal
+use Rattle.wt_history.proofs.trail.Trail.learn.Goals as goal
 
 pub returns-then-self-other-clause-this : goal.returns-then-self-other-clause-this
 returns-then-self-other-clause-this g c =

@@ -1,0 +1,117 @@
+// A get with what shows that others which shared its load got the same value.
+ghost use Rattle.std.specs.Prelude.{◌≡◌, None, IfSome, IsTrue};
+ghost use Rattle.std.specs.Option.{option_map};
+ghost use Rattle.wt_cache.specs.SharedGots.{AreOfOneShard, IsShareOf, have_one_load, share_of};
+
+use crate::got::{Got, How};
+use std::marker::Model;
+use wt_flights::Ticket;
+use wt_shards::Landings;
+
+/// A caller's share of a load: its ticket, which knows the outcome, and the landings of the loads of
+/// that shard.
+#[derive(Drop)]
+pub(crate) struct LoadShare<K, V> {
+    pub(crate) ticket: Ticket<K, V>,
+    pub(crate) landings: Landings<K, V>,
+}
+
+/// What a get returned, and its share of the load, if it shared one.
+///
+/// It keeps the load's outcome in memory for as long as it lives.
+#[derive(Drop)]
+pub struct SharedGot<K, V> {
+    got: Got<V>,
+    share: Option<LoadShare<K, V>>,
+}
+
+impl<K, V> Model for SharedGot<K, V> {
+    ghost use Rattle.std.specs.Prelude.{IfSome};
+    ghost use Rattle.std.specs.Option.{option_map};
+    ghost use Rattle.wt_cache.specs.SharedGots.{IsShareOf, SharedGot, share_of};
+
+    ghost Value = { SharedGot V };
+
+    ghost view = { λ g. record { got = g.got; share = option_map share_of g.share } };
+
+    // The ticket knows the value, and is of the landing that its shard's history names.
+    ghost invariant = { λ g. IfSome g.share (IsShareOf g.got.value) };
+}
+
+impl<K, V> SharedGot<K, V> {
+    // What a get found in the cache: no load is shared.
+    pub(crate) fn found(value: V, how: How, step: u64) -> SharedGot<K, V>
+        ensures { result ≡ record {
+          got = record { value = value; how = how; step = step };
+          share = None;
+        } }
+    {
+        SharedGot {
+            got: Got { value, how, step },
+            share: None,
+        }
+    }
+
+    // What a get got of a load, with its share of it.
+    pub(crate) fn loaded(
+        value: V,
+        how: How,
+        step: u64,
+        ticket: Option<Ticket<K, V>>,
+        landings: Landings<K, V>,
+    ) -> SharedGot<K, V>
+        requires { IfSome ticket (λ t. IsShareOf value (record { ticket = t; landings = landings })) }
+        ensures { result ≡ record {
+          got = record { value = value; how = how; step = step };
+          share = option_map (λ t. share_of (record { ticket = t; landings = landings })) ticket;
+        } }
+    {
+        let share = match ticket {
+            Some(ticket) => Some(LoadShare { ticket, landings }),
+            None => None,
+        };
+        SharedGot {
+            got: Got { value, how, step },
+            share,
+        }
+    }
+
+    /// Returns what the get returned, as long as this lives.
+    pub fn got(&self) -> &Got<V>
+        ensures { result.now ≡ self.now.got }
+    {
+        &self.got
+    }
+}
+
+impl<K: Copy, V: Drop> SharedGot<K, V> {
+    /// Returns what the get returned.
+    pub fn into_got(self) -> Got<V>
+        ensures { result ≡ self.got }
+    {
+        let SharedGot { got, share: _ } = self;
+        got
+    }
+
+    /// Returns whether both gets shared a load: then their values are the same.
+    ///
+    /// Both are gets of one shard, so of one cache, as gets of one key are. Takes no memory and no
+    /// lock. O(1).
+    pub fn shares_with(&mut self, other: &mut SharedGot<K, V>) -> bool
+        requires one_shard { AreOfOneShard self.old.share other.old.share }
+        ensures same { (self.new ≡ self.old) × (other.new ≡ other.old) }
+        ensures answer { result ≡ have_one_load self.old.share other.old.share }
+        ensures alike { IsTrue result → self.old.got.value ≡ other.old.got.value }
+    {
+        let (Some(mine), Some(theirs)) = (&mut self.share, &mut other.share) else {
+            return false;
+        };
+        if mine.ticket.id() != theirs.ticket.id() {
+            return false;
+        }
+        let known = theirs.landings.again();
+        let landings = mine.landings.again();
+        landings.compare(&mut mine.ticket, &known, &mut theirs.ticket);
+        true
+    }
+}
