@@ -14,3 +14,4 @@ mod serving;
 mod settings;
 mod shares;
 mod tallies;
+mod telling;

@@ -67,10 +67,11 @@ impl<K: CacheKey, V: Value<K>, L: Loader<K, V> + Drop, B: Books> LoadingCache<K,
     /// lets the policy hear of a part of the hits. Where it finds nothing, call `get`.
     ///
     /// Is a `peek`, which takes a fraction of a look's instructions, and then a `get_if_present` of
-    /// the same key for each of the first 8 hits after a read of this pass that found nothing, and
-    /// for one in 16 of the others. With `after_access` each hit is followed by one, which renews its
-    /// entry. If it is refused, nothing changes, and the read returns its value all the same. Only
-    /// these look-ups are counted: by the cache, and by the pass. `Tally` counts reads.
+    /// the same key for each of the first 8 hits after a read of this pass that found nothing, for
+    /// one in 16 of the next 1,024 hits, and for one in 256 of the others. With `after_access` each
+    /// hit is followed by one, which renews its entry. If it is refused, nothing changes, and the
+    /// read returns its value all the same. Only these look-ups are counted: by the cache, and by the
+    /// pass. `Tally` counts reads.
     ///
     /// `now` is in milliseconds. `NoMemory` comes only if the share of the value is refused. Takes
     /// the lock of the key's shard, once or twice. Expected O(1), unless an attacker chooses the

@@ -101,10 +101,11 @@ impl<K: CacheKey, V: Value<K>, B: Books> Shards<K, V, B> {
     /// lets the policy hear of a part of the hits.
     ///
     /// Is a `peek`, and then a `look` of the same key for each of the first 8 hits after a read of
-    /// this pass that found nothing, and for one in 16 of the others. With `after_access` each hit
-    /// is followed by a look, which renews its entry. A look that is refused changes nothing, and
-    /// is no fault of the read. Only looks are counted: by the shard, and by the pass. A read that
-    /// finds nothing is followed by no look, since a seek or a put of the key comes next.
+    /// this pass that found nothing, for one in 16 of the next 1,024 hits, and for one in 256 of
+    /// the others. With `after_access` each hit is followed by a look, which renews its entry. A
+    /// look that is refused changes nothing, and is no fault of the read. Only looks are counted: by
+    /// the shard, and by the pass. A read that finds nothing is followed by no look, since a seek or
+    /// a put of the key comes next.
     ///
     /// `now` is in milliseconds. `NoMemory` comes only if the share of the value is refused. Takes
     /// that shard's lock, and for a look once more. Expected O(1), unless an attacker chooses the
