@@ -1,6 +1,8 @@
 // A get with what shows that others which shared its load got the same value.
-ghost use Rattle.std.specs.Prelude.{◌≡◌, None, IfSome, IsTrue};
+ghost use Rattle.std.specs.Prelude.{◌≡◌, ◌==◌, None, IfSome, IsTrue};
 ghost use Rattle.std.specs.Option.{option_map};
+ghost use Rattle.wt_flights.specs.Outcomes.{AgreeIfKnown};
+ghost use Rattle.wt_shards.specs.Landings.{IsLandingOf};
 ghost use Rattle.wt_cache.specs.SharedGots.{AreOfOneShard, IsShareOf, have_one_load, share_of};
 
 use crate::got::{Got, How};
@@ -14,6 +16,27 @@ use wt_shards::Landings;
 pub(crate) struct LoadShare<K, V> {
     pub(crate) ticket: Ticket<K, V>,
     pub(crate) landings: Landings<K, V>,
+}
+
+impl<K: Copy, V: Drop> LoadShare<K, V> {
+    // Whether both are shares of one load. Then their tickets know the same outcome.
+    fn is_of_load(&mut self, other: &mut LoadShare<K, V>) -> bool
+        requires one_shard { other.old.landings.book ≡ self.old.landings.book }
+        requires landings { IsLandingOf self.old.landings.tags self.old.ticket.id
+            self.old.ticket.landing × IsLandingOf other.old.landings.tags other.old.ticket.id
+            other.old.ticket.landing }
+        ensures same { (self.new ≡ self.old) × (other.new ≡ other.old) }
+        ensures answer { result ≡ (other.old.ticket.id == self.old.ticket.id) }
+        ensures agree { IsTrue result → AgreeIfKnown self.old.ticket.known other.old.ticket.known }
+    {
+        if other.ticket.id() != self.ticket.id() {
+            return false;
+        }
+        let theirs = other.landings.again();
+        let landings = self.landings.again();
+        landings.compare(&mut self.ticket, &theirs, &mut other.ticket);
+        true
+    }
 }
 
 /// What a get returned, and its share of the load, if it shared one.
@@ -101,17 +124,14 @@ impl<K: Copy, V: Drop> SharedGot<K, V> {
         requires one_shard { AreOfOneShard self.old.share other.old.share }
         ensures same { (self.new ≡ self.old) × (other.new ≡ other.old) }
         ensures answer { result ≡ have_one_load self.old.share other.old.share }
-        ensures alike { IsTrue result → self.old.got.value ≡ other.old.got.value }
+        ensures agree { IsTrue result → self.old.got.value ≡ other.old.got.value }
     {
-        let (Some(mine), Some(theirs)) = (&mut self.share, &mut other.share) else {
-            return false;
-        };
-        if mine.ticket.id() != theirs.ticket.id() {
-            return false;
+        match &mut self.share {
+            None => false,
+            Some(mine) => match &mut other.share {
+                None => false,
+                Some(theirs) => mine.is_of_load(theirs),
+            },
         }
-        let known = theirs.landings.again();
-        let landings = mine.landings.again();
-        landings.compare(&mut mine.ticket, &known, &mut theirs.ticket);
-        true
     }
 }

@@ -7,9 +7,9 @@ ghost use Rattle.std.specs.Prelude.{◌≡◌, ◌<◌, ◌^◌, ◌++◌, ◌�
 ghost use mathlib.Core.List.{IsPrefix};
 ghost use Rattle.wt_history.specs.Rules.{head_of};
 
-use crate::trail::Asked;
 use crate::prefix::Prefix;
 use crate::rule::Law;
+use crate::trail::Asked;
 use logbook::{Seen, Start, Word};
 use std::marker::Model;
 

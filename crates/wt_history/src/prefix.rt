@@ -3,8 +3,8 @@ ghost use Rattle.std.specs.Prelude.{◌≡◌, ◌+◌, ◌<◌, ◌≤◌, ◌^
 ghost use mathlib.Core.List.{IsPrefix};
 ghost use Rattle.wt_history.specs.Rules.{head_of};
 
-use crate::trail::Asked;
 use crate::rule::{Add, Law, Look, Nothing};
+use crate::trail::Asked;
 use logbook::{Seen, Word};
 use std::marker::Model;
 

@@ -53,7 +53,7 @@ impl<E> Tags<E> {
 
     /// Adds the tags that the other one has. Takes no memory. O(1), and nothing at run time.
     pub fn learn(&mut self, other: &Tags<E>)
-        requires one_history { other.now.book ≡ self.old.book }
+        requires one_log { other.now.book ≡ self.old.book }
         ensures same { self.new.book ≡ self.old.book }
         ensures this { IsPrefix self.old.tags self.new.tags }
         ensures that { IsPrefix other.now.tags self.new.tags }

@@ -54,9 +54,9 @@ impl<K: Copy, V: Drop> Landings<K, V> {
         other: &mut Ticket<K, V>,
     )
         requires one_shard { theirs.now.book ≡ self.now.book }
-        requires one_load { other.old.id ≡ mine.old.id }
-        requires mine { IsLandingOf self.now.tags mine.old.id mine.old.landing }
-        requires theirs { IsLandingOf theirs.now.tags other.old.id other.old.landing }
+        requires one_landing { other.old.id ≡ mine.old.id }
+        requires landings { IsLandingOf self.now.tags mine.old.id mine.old.landing
+            × IsLandingOf theirs.now.tags other.old.id other.old.landing }
         ensures same { (mine.new ≡ mine.old) × (other.new ≡ other.old) }
         ensures agree { AgreeIfKnown mine.old.known other.old.known }
     {

@@ -48,7 +48,10 @@ pub(crate) struct Led<K, V> {
 }
 
 // The value of an outcome with the ticket that knows it, or the outcome's fault.
-fn led_by<K: Copy, V: Drop>(outcome: Outcome<V>, ticket: Option<Ticket<K, V>>) -> Result<Led<K, V>, Fault>
+fn led_by<K: Copy, V: Drop>(
+    outcome: Outcome<V>,
+    ticket: Option<Ticket<K, V>>,
+) -> Result<Led<K, V>, Fault>
     ensures told { told_by result ≡ value_in outcome }
     ensures ticket { IfOk result (λ led. led.ticket ≡ ticket) }
 {
@@ -127,7 +130,7 @@ impl<K: CacheKey, V: Value<K>, L: Loader<K, V> + Drop, B: Books> LoadingCache<K,
             (MayReturn L.may_return) key now self.now (book_at (home_of K.word key self.now.layout)
             B.S0.Naming.book B.S1.Naming.book B.S2.Naming.book B.S3.Naming.book)
             pass.old pass.new notices.old notices.new) }
-        ensures here { IfOk result (λ shared. IsOfShard (book_at (home_of K.word key self.now.layout)
+        ensures of_shard { IfOk result (λ shared. IsOfShard (book_at (home_of K.word key self.now.layout)
             B.S0.Naming.book B.S1.Naming.book B.S2.Naming.book B.S3.Naming.book) shared.share) }
 
         ensures told { HasTold (2 * self.now.layout.config.entries) notices.old notices.new }
@@ -174,7 +177,7 @@ impl<K: CacheKey, V: Value<K>, L: Loader<K, V> + Drop, B: Books> LoadingCache<K,
         ensures answers { IfOk result (λ led. IsTrue (V.answers led.value lead.key)) }
         ensures made { IsLoaded (members_of K.CacheKey V.Value) (MayReturn L.may_return) self.now lead
             pass.old pass.new notices.old notices.new (told_by result) }
-        ensures known { IfOk result (λ led. IfSome led.ticket
+        ensures told { IfOk result (λ led. IfSome led.ticket
             (λ t. t ≡ ticket_of lead (Some (outcome.Value led.value)))) }
     {
         let Some(ran) = self.hand_on(rt, pass, lead, notices) else {

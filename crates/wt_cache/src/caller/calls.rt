@@ -62,7 +62,7 @@ impl<'c, K: CacheKey, V: Value<K>, L: Loader<K, V> + Drop, B: Books, R: Wait> Ca
             (book_at (home_of K.word key self.old.cache.layout) B.S0.Naming.book B.S1.Naming.book
             B.S2.Naming.book B.S3.Naming.book)
             self.old.pass self.new.pass (emptied self.old.left) self.new.left) }
-        ensures here { IfOk result (λ shared. IsOfShard
+        ensures of_shard { IfOk result (λ shared. IsOfShard
             (book_at (home_of K.word key self.old.cache.layout) B.S0.Naming.book B.S1.Naming.book
             B.S2.Naming.book B.S3.Naming.book) shared.share) }
     {

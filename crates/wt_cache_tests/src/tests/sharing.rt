@@ -86,7 +86,12 @@ pub fn sharers<N: Names + Send + Sync, R: Threads + Wait + Abort + Sync>(
         || releases(rt, cache, marks, 1),
     );
     holds(rt, "the held load is released", released);
-    same(rt, "two that share a load", met, Ok((How::Loaded, How::Joined, true)));
+    same(
+        rt,
+        "two that share a load",
+        met,
+        Ok((How::Loaded, How::Joined, true)),
+    );
     let later = get_two(rt, alloc, cache, 1);
     same(rt, "two that hit", later, Ok((How::Hit, How::Hit, false)));
     Ok(())

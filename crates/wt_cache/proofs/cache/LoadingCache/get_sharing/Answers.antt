@@ -92,7 +92,7 @@ returns-in_ok-value-in-Lead-clause-sought g c =
     c.loaded-in-Lead.ensures same (as_seek _ _ _ _ _ _ _ _ c.in_ok-done.ensures.made)
     (handed_more _ _ _ _ _ _ _ _ (loaded_on _ _ _ _ _ _ _ _ _ loaded))
     (followed_load _ _ _ _ _ _ _ _ _ _ _ _ loaded (search (rules, i)) (search (rules, i, a)) (search (rules, i, a)))
-    (shares_lead c.in_ok-done.done.reply.landings _ c.in-Lead.lead _ _ _ (search (rules, i)) here c.in_ok-value-in-Lead.ensures.known)
+    (shares_lead c.in_ok-done.done.reply.landings _ c.in-Lead.lead _ _ _ (search (rules, i)) here c.in_ok-value-in-Lead.ensures.told)
 
 pub returns-in_err-value-in-Join-clause-err : goal.returns-in_err-value-in-Join-clause-err
 returns-in_err-value-in-Join-clause-err g c =
@@ -109,8 +109,8 @@ returns-in_err-value-in-Lead-clause-err g c =
     c.from_residual-in_err-value-in-Lead.ensures.1 (ap (λ (s : Cached). s.layout) c.self.view_is) (as_seek _ _ _ _ _ _ _ _ c.in_ok-done.ensures.made)
     c.in_err-value-in-Lead.ensures.made (search (rules, i)) (search (rules, i, a)) (search (rules, i, a))
 
-pub returns-in_ok-value-in-Join-clause-here : goal.returns-in_ok-value-in-Join-clause-here
-returns-in_ok-value-in-Join-clause-here g c = here_of _ _ _ (returns-in_ok-value-in-Join-clause-sought g c).shares
+pub returns-in_ok-value-in-Join-clause-of_shard : goal.returns-in_ok-value-in-Join-clause-of_shard
+returns-in_ok-value-in-Join-clause-of_shard g c = here_of _ _ _ (returns-in_ok-value-in-Join-clause-sought g c).shares
 
-pub returns-in_ok-value-in-Lead-clause-here : goal.returns-in_ok-value-in-Lead-clause-here
-returns-in_ok-value-in-Lead-clause-here g c = here_of _ _ _ (returns-in_ok-value-in-Lead-clause-sought g c).shares
+pub returns-in_ok-value-in-Lead-clause-of_shard : goal.returns-in_ok-value-in-Lead-clause-of_shard
+returns-in_ok-value-in-Lead-clause-of_shard g c = here_of _ _ _ (returns-in_ok-value-in-Lead-clause-sought g c).shares

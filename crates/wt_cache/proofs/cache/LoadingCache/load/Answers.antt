@@ -41,8 +41,8 @@ returns-in_err-outcome-in-Published-clause-made g c =
           (err_by (λ h. h ≡ f) _ c.from_residual-in_err-outcome-in-Published.ensures.1);
     })
 
-pub returns-in-Some-2-clause-known : goal.returns-in-Some-2-clause-known
-returns-in-Some-2-clause-known g c =
+pub returns-in-Some-2-clause-told : goal.returns-in-Some-2-clause-told
+returns-in-Some-2-clause-told g c =
     let run = c.in-Some.ensures in
     let ticket = c.in-Published.ticket-is ∙ subst (λ p. Publishes c.args.lead (outcome_of run.loaded) p) c.in-Published.is run.published in
     let known = ap (λ (t : Known g.row.K.Denot g.row.V.Denot). t.known) ticket in
