@@ -77,6 +77,7 @@ impl<K: CacheKey, V: Value<K>, L: Loader<K, V> + Drop, B: Books> LoadingCache<K,
     /// isn't reported. A hit takes memory for a share, a load for its row and its landing. Takes
     /// the lock of the key's shard for each step, and none while it loads or waits. Not promised:
     /// that the loader, and so the call, returns; that it is woken.
+    #[tactic(auto, using(crate::proofs::Faults::of_seek, crate::proofs::Faults::of_land, crate::proofs::Faults::late_land, crate::proofs::Faults::of_late))]
     pub fn get<R: Wait>(
         &self,
         rt: &R,
@@ -100,16 +101,37 @@ impl<K: CacheKey, V: Value<K>, L: Loader<K, V> + Drop, B: Books> LoadingCache<K,
         ensures err { IfErr result (HasTriedIn (members_of K.CacheKey V.Value)
             (MayReturn L.may_return) key now self.now pass.old pass.new notices.old notices.new) }
     {
-        match self.get_sharing(rt, pass, key, now, notices) {
-            Ok(shared) => Ok(shared.into_got()),
-            Err(fault) => Err(fault),
+        let done = self.shards.seek(rt, pass, key, now, notices)?;
+        let step = done.step;
+        match done.reply {
+            Sought::Hit(value) => {
+                let how = How::Hit;
+                Ok(Got { value, how, step })
+            }
+            Sought::HitLead(value, lead, _ticket) => {
+                // A failed load isn't reported: the value that was there is the result.
+                let _ = self.hand_on(rt, pass, lead, notices);
+                let how = How::Refreshed;
+                Ok(Got { value, how, step })
+            }
+            Sought::Join(ticket) => {
+                let mut ticket = ticket;
+                let value = value_of(rt, &mut ticket)?;
+                let how = How::Joined;
+                Ok(Got { value, how, step })
+            }
+            Sought::Lead(lead, ticket) => {
+                let Led { value, ticket: _ } = self.load(rt, pass, lead, ticket, notices)?;
+                let how = How::Loaded;
+                Ok(Got { value, how, step })
+            }
         }
     }
 
     /// Gets the key's value as `get` does, and also returns this caller's share of the load, if the
     /// value was loaded. By it, callers that share a load know that they got the same value: see
-    /// [`SharedGot::shares_with`].
-    #[inline(always)]
+    /// [`SharedGot::shares_with`]. Its arms are those of `get`, which keeps no share: so a hit of `get`
+    /// has none to drop.
     #[tactic(auto, using(crate::proofs::Faults::of_seek, crate::proofs::Faults::of_land, crate::proofs::Faults::late_land, crate::proofs::Faults::of_late))]
     pub fn get_sharing<R: Wait>(
         &self,
@@ -141,23 +163,23 @@ impl<K: CacheKey, V: Value<K>, L: Loader<K, V> + Drop, B: Books> LoadingCache<K,
             (MayReturn L.may_return) key now self.now pass.old pass.new notices.old notices.new) }
     {
         let done = self.shards.seek_sharing(rt, pass, key, now, notices)?;
-        let step = done.step;
+        let number = done.step;
         let Sharing { sought, landings } = done.reply;
         match sought {
-            Sought::Hit(value) => Ok(SharedGot::found(value, How::Hit, step)),
+            Sought::Hit(value) => Ok(SharedGot::found(value, How::Hit, number)),
             Sought::HitLead(value, lead, _ticket) => {
                 // A failed load isn't reported: the value that was there is the result.
-                let _ = self.hand_on(rt, pass, lead, notices);
-                Ok(SharedGot::found(value, How::Refreshed, step))
+                let _ran = self.hand_on(rt, pass, lead, notices);
+                Ok(SharedGot::found(value, How::Refreshed, number))
             }
             Sought::Join(ticket) => {
-                let mut ticket = ticket;
-                let value = value_of(rt, &mut ticket)?;
-                Ok(SharedGot::loaded(value, How::Joined, step, Some(ticket), landings))
+                let mut joined = ticket;
+                let value = value_of(rt, &mut joined)?;
+                Ok(SharedGot::loaded(value, How::Joined, number, Some(joined), landings))
             }
             Sought::Lead(lead, ticket) => {
                 let Led { value, ticket } = self.load(rt, pass, lead, ticket, notices)?;
-                Ok(SharedGot::loaded(value, How::Loaded, step, ticket, landings))
+                Ok(SharedGot::loaded(value, How::Loaded, number, ticket, landings))
             }
         }
     }

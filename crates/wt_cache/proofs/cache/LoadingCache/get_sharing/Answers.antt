@@ -18,9 +18,9 @@ returns-in-Hit-clause-told g c =
 
 pub returns-in-HitLead-clause-told : goal.returns-in-HitLead-clause-told
 returns-in-HitLead-clause-told g c =
-    told_handed _ _ _ _ _ c.args.self.now c.args.pass.now c.seek_sharing.new.pass c.hand_on.new.pass _ _ _ _ _
+    told_handed _ _ _ _ _ c.args.self.now c.args.pass.now c.seek_sharing.new.pass c.hand_on-ran.new.pass _ _ _ _ _
     (ap (λ (s : Cached). s.layout) c.self.view_is) (as_seek _ _ _ _ _ _ _ _ c.in_ok-done.ensures.made)
-    (handed_on _ _ c.args.self.now _ _ _ _ _ _ c.hand_on.ensures)
+    (handed_on _ _ c.args.self.now _ _ _ _ _ _ c.hand_on-ran.ensures)
 
 pub returns-in_err-value-in-Lead-clause-told : goal.returns-in_err-value-in-Lead-clause-told
 returns-in_err-value-in-Lead-clause-told g c =
@@ -39,10 +39,10 @@ returns-in-HitLead-clause-moved g c =
     let i = c.in-HitLead.is in
     let a = c.in_ok-done.ensures.asked in
     let V = g.row.V.Denot in
-    subst (λ (s : SharedGot V). HasGotIn g.K.CacheKey.word c.args.key c.args.self.now c.args.pass.now.counted c.hand_on.new.pass.counted s.got)
-    (sym c.found-in-HitLead.ensures) (moved_if_any _ _ _ _ _ c.args.self.now c.args.pass.now c.seek_sharing.new.pass c.hand_on.new.pass _ _ _ _ true _
+    subst (λ (s : SharedGot V). HasGotIn g.K.CacheKey.word c.args.key c.args.self.now c.args.pass.now.counted c.hand_on-ran.new.pass.counted s.got)
+    (sym c.found-in-HitLead.ensures) (moved_if_any _ _ _ _ _ c.args.self.now c.args.pass.now c.seek_sharing.new.pass c.hand_on-ran.new.pass _ _ _ _ true _
     (ap (λ (s : Cached). s.layout) c.self.view_is) (as_seek _ _ _ _ _ _ _ _ c.in_ok-done.ensures.made)
-    (handed_on _ _ c.args.self.now _ _ _ _ _ _ c.hand_on.ensures) (search (rules, i)) (search (rules, i, a)))
+    (handed_on _ _ c.args.self.now _ _ _ _ _ _ c.hand_on-ran.ensures) (search (rules, i)) (search (rules, i, a)))
 
 pub returns-in_ok-value-in-Lead-clause-moved : goal.returns-in_ok-value-in-Lead-clause-moved
 returns-in_ok-value-in-Lead-clause-moved g c =
@@ -74,8 +74,8 @@ pub returns-in-HitLead-clause-sought : goal.returns-in-HitLead-clause-sought
 returns-in-HitLead-clause-sought g c =
     let i = c.in-HitLead.is in
     let a = c.in_ok-done.ensures.asked in
-    let handed = handed_on _ _ c.args.self.now _ _ _ _ _ _ c.hand_on.ensures in
-    shared_so _ _ _ _ _ c.args.self.now c.args.pass.now c.seek_sharing.new.pass c.hand_on.new.pass _ _ _ _ _ _ _ _ _
+    let handed = handed_on _ _ c.args.self.now _ _ _ _ _ _ c.hand_on-ran.ensures in
+    shared_so _ _ _ _ _ c.args.self.now c.args.pass.now c.seek_sharing.new.pass c.hand_on-ran.new.pass _ _ _ _ _ _ _ _ _
     c.found-in-HitLead.ensures (ap (λ (s : Cached). s.layout) c.self.view_is) (as_seek _ _ _ _ _ _ _ _ c.in_ok-done.ensures.made)
     (handed_more _ _ _ _ _ _ _ _ handed)
     (followed_hit _ _ _ _ _ _ _ _ _ _ _ _ handed (search (rules, i)) (search (rules, i, a)) (search (rules, i, a)))
