@@ -34,7 +34,7 @@ pub enum Scene {
     Heavy(u32),
     /// Two callers ask for a key while its load is held.
     OneLoad,
-    /// The same, and they compare what they got.
+    /// A caller gets a key twice, each time with its share of the load.
     Sharers,
     /// A value is put while its key is loaded.
     PutBesideLoad,
@@ -64,9 +64,7 @@ impl Scene {
     // How the loader answers.
     fn way(self) -> Way {
         match self {
-            Scene::OneLoad | Scene::Sharers | Scene::PutBesideLoad | Scene::Posted(_) => {
-                Way::HoldsOne
-            }
+            Scene::OneLoad | Scene::PutBesideLoad | Scene::Posted(_) => Way::HoldsOne,
             Scene::Dropped
             | Scene::Abandoned
             | Scene::Forgotten
@@ -74,6 +72,7 @@ impl Scene {
             | Scene::ManyLoads
             | Scene::Refresh
             | Scene::GivenUp
+            | Scene::Sharers
             | Scene::Sleepers => Way::Plain,
             Scene::Heavy(entries) => Way::Weighs(entries.wrapping_mul(2)),
             Scene::OneWorker => Way::FailsOne,
@@ -193,7 +192,7 @@ fn act<N: Names + Send + Sync, R: Threads + Wait + Abort + Sync>(
         }
         Scene::Heavy(entries) => heavy_load(rt, alloc, cache, open, entries),
         Scene::OneLoad => one_load(rt, alloc, cache, marks),
-        Scene::Sharers => sharers(rt, alloc, cache, marks),
+        Scene::Sharers => sharers(rt, alloc, cache),
         Scene::PutBesideLoad => put_beside_load(rt, alloc, cache, marks),
         Scene::FullLine => full_line(rt, alloc, cache, open),
         Scene::OneWorker => one_worker(rt, alloc, cache),
