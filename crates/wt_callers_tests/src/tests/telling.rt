@@ -19,7 +19,8 @@ impl Loader<u64, Number> for Reads {
     }
 }
 
-// The steps of so many reads of key 1, between two steps that forget no load.
+// Returns how many steps the caller's reads of key 1 make. A forget before them and one behind them
+// tell the numbers; neither finds a load.
 fn steps_of<B: Books, R: Wait>(
     caller: &mut Caller<u64, Number, &Reads, B, R>,
     reads: u64,
@@ -51,7 +52,8 @@ impl Service<u64, Number> for Reads {
     }
 }
 
-// Of 1,024 hits some 64 are told, and then of 20,480 some 80. The draws are always the same.
+// A look follows about one in 16 of the 1,024 hits, and one in 256 of the 20,480. The draws are
+// always the same, so tools/model/sampler.py has the exact numbers.
 #[test]
 fn while_all_reads_hit_few_are_told(rt: HostRuntime) -> Result<(), Fail> {
     for shards in [1, 2, 4] {
