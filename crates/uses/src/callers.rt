@@ -70,6 +70,13 @@ pub fn read<B: Books, R: Wait>(
     Ok(got.value.value)
 }
 
+/// Returns for how many more pages the cache has room, after all calls that the caller has seen.
+pub fn seen_stats<B: Books, R: Wait>(caller: &mut Caller<u64, Page, &Source, B, R>) -> u64 {
+    let cache = caller.cache();
+    let most = u64::from(cache.entries()) * cache.shards() as u64;
+    most - caller.seen_stats().entries
+}
+
 /// Stores a page, and returns how many pages left for it.
 pub fn put<B: Books, R: Wait>(
     caller: &mut Caller<u64, Page, &Source, B, R>,

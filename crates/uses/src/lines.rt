@@ -51,6 +51,16 @@ pub fn stats<B: Books, R: Wait>(rt: &R, cache: &Cached<B>) -> Stats {
     cache.stats(rt)
 }
 
+/// Returns how many look-ups missed, with those of all calls that the pass has seen.
+pub fn seen_stats<B: Books, R: Wait>(
+    rt: &R,
+    cache: &Cached<B>,
+    pass: &mut Pass<u64, Page, B>,
+) -> u64 {
+    let stats = cache.seen_stats(rt, pass);
+    stats.lookups - stats.hits
+}
+
 /// Ends the cache, and returns the steps of its first shard, once every pass is back.
 pub fn finish<B: Books, R: Wait>(
     rt: &R,

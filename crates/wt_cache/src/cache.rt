@@ -1,6 +1,8 @@
 // The loading cache, how it is opened, and its reads.
-ghost use Rattle.std.specs.Prelude.{◌≡◌, ◌+◌, ◌≤◌, ◌==◌, ◌||◌, IfOk, IfErr, IsTrue, is_some};
+ghost use Rattle.std.specs.Prelude.{◌≡◌, ◌+◌, ◌*◌, ◌≤◌, ◌==◌, ◌||◌, IfOk, IfErr, IsTrue, is_some};
 ghost use Rattle.wt_keys.specs.declared.fault.Fault.TheVariants as fault;
+ghost use Rattle.wt_shards.specs.Members.{members_of};
+ghost use Rattle.wt_shards.specs.Numbers.{AreSeenNumbers, AreWithin};
 ghost use Rattle.wt_shards.specs.Passes.{new_pass};
 
 mod calls;
@@ -76,8 +78,24 @@ impl<K: CacheKey, V: Value<K>, L: Loader<K, V> + Drop, B: Books> LoadingCache<K,
     /// In use: `uses::lines::stats`.
     pub fn stats<R: Wait>(&self, rt: &R) -> Stats
         ensures looked { result.hits + result.misses ≡ result.lookups }
+        ensures within { AreWithin (self.now.layout.shards * self.now.layout.config.entries)
+            (self.now.layout.shards * self.now.layout.config.bound) result }
     {
         self.shards.stats(rt)
+    }
+
+    /// Returns the numbers of all shards, added up: of each shard those that it has after all calls
+    /// which the pass then has seen there. So they count each call that the pass had seen.
+    ///
+    /// Is no step, and the pass doesn't count it. Takes no memory. Takes each shard's lock in turn,
+    /// so another thread may move between two of them.
+    ///
+    /// In use: `uses::lines::seen_stats`.
+    pub fn seen_stats<R: Wait>(&self, rt: &R, pass: &mut Pass<K, V, B>) -> Stats
+        ensures made { AreSeenNumbers (members_of K.CacheKey V.Value) self.now.layout pass.old
+            pass.new result }
+    {
+        self.shards.seen_stats(rt, pass)
     }
 
     /// Returns how many entries one shard may hold. Takes no lock. O(1).

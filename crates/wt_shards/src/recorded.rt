@@ -4,6 +4,7 @@
 // state, but that it is the outcome of the history. The caller's own front is a beginning of that
 // history.
 ghost use Rattle.std.specs.Prelude.{◌≡◌, IfOk, IfErr, false};
+ghost use mathlib.Core.List.{IsPrefix};
 ghost use Rattle.wt_keys.specs.declared.fault.Fault.TheVariants as fault;
 ghost use Rattle.wt_core.specs.declared.calls.Call.TheVariants as call;
 ghost use Rattle.wt_shards.specs.Asked.{AnswersAsked, MayAsk, ReplyAnswers, is_seek};
@@ -11,6 +12,7 @@ ghost use Rattle.wt_shards.specs.Contract.{IsLockedCall};
 ghost use Rattle.wt_shards.specs.Landings.{IsShared};
 ghost use Rattle.wt_shards.specs.Peeks.{FoundAnswers, IsLockedPeek};
 ghost use Rattle.wt_shards.specs.Members.{members_by};
+ghost use Rattle.wt_shards.specs.Numbers.{AreNumbersOf};
 ghost use Rattle.wt_shards.specs.Outer.{IsOfKey};
 ghost use Rattle.wt_shards.specs.Passes.{new_shard_pass};
 ghost use Rattle.wt_shards.specs.Sought.{reply_of};
@@ -25,7 +27,7 @@ use crate::shard_pass::ShardPass;
 use std::marker::Model;
 use std::sync::Wait;
 use std::sync::ledger::Ledger;
-use wt_core::{Call, Notices, Reply, Weighs};
+use wt_core::{Call, Notices, Reply, Stats, Weighs};
 use wt_history::History;
 use wt_keys::{Answers, CacheKey, Fault, Share};
 
@@ -167,6 +169,21 @@ impl<K: CacheKey, V: Share + Weighs + Answers<K>, S: ShardLedger, H: Ledger> Rec
                 return Err(fault);
             }
         }
+    }
+
+    // The numbers of the shard. Is no step, and shows the caller the whole history.
+    #[inline(always)]
+    pub(crate) fn stats<R: Wait>(&self, rt: &R, pass: &mut ShardPass<K, V, S, H>) -> Stats
+        ensures made { AreNumbersOf (members_by K.eq K.word V.measure V.answers)
+            S.ShardLedger.place pass.new.front result }
+        ensures later { IsPrefix pass.old.front pass.new.front }
+        ensures same { pass.new.counts ≡ pass.old.counts }
+    {
+        // For the prover: shows `lawful`.
+        let _step = self.shard.steps();
+        let stats = self.shard.stats();
+        self.history.show(rt, &mut pass.front);
+        stats
     }
 
     // Ends the shard and closes its books.

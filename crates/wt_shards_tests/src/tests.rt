@@ -6,6 +6,7 @@ mod caller;
 mod compare;
 mod loads;
 mod missing;
+mod numbers;
 mod peeks;
 mod plain;
 mod refusals;

@@ -11,7 +11,7 @@ ghost use Rattle.wt_cache.specs.Loads.{MayReturn};
 ghost use Rattle.wt_shards.specs.Landings.{book_at};
 ghost use Rattle.wt_shards.specs.Place.{home_at, home_of};
 ghost use Rattle.wt_cache.specs.Contract.{IsLentCall, IsLentGet, IsLentPut, IsLentSweep};
-ghost use Rattle.wt_cache.specs.Peeks.{IsLentPeek, IsLentRead};
+ghost use Rattle.wt_cache.specs.Peeks.{AreLentNumbers, IsLentPeek, IsLentRead};
 ghost use Rattle.wt_cache.specs.SharedGots.{IsOfShard, IsSoughtSharing, got_in};
 ghost use Rattle.wt_shards.specs.Peeks.{FoundAnswers};
 
@@ -21,7 +21,7 @@ use crate::got::Got;
 use crate::loader::Loader;
 use crate::shared_got::SharedGot;
 use std::sync::Wait;
-use wt_core::{Notices, Reply};
+use wt_core::{Notices, Reply, Stats};
 use wt_keys::{CacheKey, Fault};
 use wt_shards::{Books, Done, Value};
 
@@ -117,6 +117,19 @@ impl<'c, K: CacheKey, V: Value<K>, L: Loader<K, V> + Drop, B: Books, R: Wait> Ca
         self.left.empty();
         let cache = self.callers.cache();
         cache.read(self.rt, &mut self.pass, key, now, &mut self.left)
+    }
+
+    /// Returns the numbers of all shards, added up, each after all calls that this caller then has
+    /// seen there: `LoadingCache::seen_stats`, whose documentation has the rest.
+    ///
+    /// The list of entries that left stays as it is.
+    ///
+    /// In use: `uses::callers::seen_stats`.
+    pub fn seen_stats(&mut self) -> Stats
+        ensures made { AreLentNumbers (members_of K.CacheKey V.Value) self.old self.new result }
+    {
+        let cache = self.callers.cache();
+        cache.seen_stats(self.rt, &mut self.pass)
     }
 
     /// Stores the value under the key: `LoadingCache::put`, whose documentation has the rest.

@@ -1,8 +1,12 @@
 // The reads of shards: settings, numbers, and the value of a key. None of them is a step, but that
 // `read` tells the policy of some hits by a look. Each lock is held only while its shard is read.
-ghost use Rattle.std.specs.Prelude.{◌≡◌, ◌+◌, ◌≤◌, ◌==◌, ◌||◌, IfOk, IsTrue};
+ghost use Rattle.std.specs.Prelude.{◌≡◌, ◌+◌, ◌*◌, ◌≤◌, ◌==◌, ◌||◌, ◌↔◌, IfOk, IsNone, IsSome, IsTrue};
+ghost use mathlib.Core.List.{IsPrefix};
 ghost use Rattle.wt_core.specs.Lawful.{AreSmall};
+ghost use Rattle.wt_core.specs.Sums.{no_numbers};
 ghost use Rattle.wt_shards.specs.Members.{members_of};
+ghost use Rattle.wt_shards.specs.Numbers.{AreNumbersOf, AreSeenNumbers, AreWithin};
+ghost use Rattle.wt_shards.specs.Passes.{counts_of, front_of};
 ghost use Rattle.wt_shards.specs.Peeks.{FoundAnswers, IsHomePeek, IsLockedPeek};
 ghost use Rattle.wt_shards.specs.Place.{home_at};
 ghost use Rattle.wt_shards.specs.Tells.{IsHomeRead, IsTold};
@@ -26,8 +30,11 @@ fn stats_at<K: CacheKey, V: Value<K>, S: ShardLedger, H: Ledger, R: Wait>(
     rt: &R,
     shard: &Option<Mutex<Recorded<K, V, S, H>>>,
 ) -> Stats
-    ensures small { AreSmall result }
+    ensures none { IsNone shard.now → result ≡ no_numbers }
     ensures looked { result.hits + result.misses ≡ result.lookups }
+    ensures within { AreWithin S.ShardLedger.place.config.entries S.ShardLedger.place.config.bound
+        result }
+    ensures small { AreSmall result }
 {
     let Some(shard) = shard else {
         return Stats::NOTHING;
@@ -36,6 +43,28 @@ fn stats_at<K: CacheKey, V: Value<K>, S: ShardLedger, H: Ledger, R: Wait>(
     // For the prover: shows what holds of the shard.
     let _steps = held.shard.steps();
     held.shard.stats()
+}
+
+// The numbers of one shard after a history that the caller then has seen, if there is a shard.
+fn seen_stats_at<K: CacheKey, V: Value<K>, S: ShardLedger, H: Ledger, R: Wait>(
+    rt: &R,
+    shard: &Option<Mutex<Recorded<K, V, S, H>>>,
+    pass: &mut Option<ShardPass<K, V, S, H>>,
+) -> Stats
+    requires alike { IsSome shard.now ↔ IsSome pass.old }
+    ensures made { IsSome pass.old → AreNumbersOf (members_of K.CacheKey V.Value)
+        S.ShardLedger.place (front_of pass.new) result }
+    ensures none { IsNone pass.old → result ≡ no_numbers }
+    ensures later { IsPrefix (front_of pass.old) (front_of pass.new) }
+    ensures same { counts_of pass.new ≡ counts_of pass.old }
+    ensures there { IsSome pass.new ↔ IsSome pass.old }
+    ensures looked { result.hits + result.misses ≡ result.lookups }
+    ensures small { AreSmall result }
+{
+    match (shard, pass) {
+        (Some(shard), Some(part)) => hold(rt, shard).stats(rt, part),
+        _ => Stats::NOTHING,
+    }
 }
 
 // A share of the value that a look at one shard would hit, if it would hit.
@@ -157,11 +186,30 @@ impl<K: CacheKey, V: Value<K>, B: Books> Shards<K, V, B> {
     /// that it returns, and that all shards had these numbers at one moment.
     pub fn stats<R: Wait>(&self, rt: &R) -> Stats
         ensures looked { result.hits + result.misses ≡ result.lookups }
+        ensures within { AreWithin (self.now.shards * self.now.config.entries)
+            (self.now.shards * self.now.config.bound) result }
     {
         let zero = stats_at(rt, &self.zero);
         let one = stats_at(rt, &self.one);
         let two = stats_at(rt, &self.two);
         let three = stats_at(rt, &self.three);
+        zero.plus(&one).plus(&two).plus(&three)
+    }
+
+    /// Returns the numbers of all shards, added up: of each shard those that it has after all calls
+    /// which the pass then has seen there. So they count each call that the pass had seen.
+    ///
+    /// Is no step, and the pass doesn't count it. Takes no memory, and each shard's lock in turn.
+    /// O(shards). Not promised: that it returns, and that all shards had these numbers at one
+    /// moment.
+    pub fn seen_stats<R: Wait>(&self, rt: &R, pass: &mut Pass<K, V, B>) -> Stats
+        ensures made { AreSeenNumbers (members_of K.CacheKey V.Value) self.now pass.old pass.new
+            result }
+    {
+        let zero = seen_stats_at(rt, &self.zero, &mut pass.zero);
+        let one = seen_stats_at(rt, &self.one, &mut pass.one);
+        let two = seen_stats_at(rt, &self.two, &mut pass.two);
+        let three = seen_stats_at(rt, &self.three, &mut pass.three);
         zero.plus(&one).plus(&two).plus(&three)
     }
 }

@@ -7,7 +7,7 @@ use std::alloc::Global;
 use std::marker::Model;
 use std::process::Abort;
 use std::sync::Wait;
-use wt_core::{Call, Land, Notices, Reply};
+use wt_core::{Call, Land, Notices, Reply, Stats};
 use wt_flights::Lead;
 use wt_keys::Fault;
 use wt_shards::{Books, Pass, Shards, Sought, Value};
@@ -95,6 +95,11 @@ impl<V: Value<u64>, B: Books> Caller<V, B> {
     // The steps and the hits at a shard.
     pub fn made(&self, shard: usize) -> (u64, u64) {
         (self.pass.steps(shard), self.pass.hits(shard))
+    }
+
+    // The numbers of all shards, which the pass then has seen.
+    pub fn seen_stats<R: Wait>(&mut self, rt: &R, shards: &Shards<u64, V, B>) -> Stats {
+        shards.seen_stats(rt, &mut self.pass)
     }
 
     pub fn into_pass(self) -> Pass<u64, V, B> {
