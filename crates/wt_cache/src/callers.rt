@@ -106,7 +106,11 @@ impl<K: CacheKey, V: Value<K>, L: Loader<K, V> + Drop, B: Books> Callers<K, V, L
         // Before the lock: dropping values is the values' own code.
         let mut left = left;
         left.empty();
-        self.idle.lock(rt).take_in(rt, loan, pass, left);
+        if self.idle.lock(rt).take_in(loan, pass, left).is_err() {
+            // The loan is one of this lender's, so this case can't come. The types can't say so.
+            for _ in rt.forever() {}
+            unreachable!()
+        }
     }
 
     /// Ends the cache, and returns its shards and all passes, for `settle`. A caller borrows, so

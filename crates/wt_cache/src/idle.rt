@@ -5,12 +5,11 @@
 // No code can drop or leak a `Loan`, an `Idle` or a `Returned`. A `Loan` ends in `take_in`, which
 // keeps the caller's pass. An `Idle` becomes a `Returned` when the lender ends, and `passes`
 // returns all passes that are in it.
-ghost use Rattle.std.specs.Prelude.{◌≡◌, ◌≤◌, ◌+◌, [], false, length, IfOk, OnErr};
+ghost use Rattle.std.specs.Prelude.{◌≡◌, ◌≤◌, ◌<◌, ◌+◌, [], false, length, IfErr, IfOk, IsOk, IsTrue, OnErr, OnOk};
 ghost use Rattle.wt_cache.specs.Idling.{IsBack, IsLentAgain, none_back};
 
 use std::alloc::Global;
 use std::marker::Model;
-use std::sync::Wait;
 use wt_core::Notices;
 use wt_keys::NoMemory;
 use wt_shards::{Books, Pass};
@@ -111,15 +110,16 @@ impl<K: Drop, V: Drop, B: Books> Idle<K, V, B> {
     /// memory.
     ///
     /// Each loan was counted, or has its room, so the numbers agree with it. The types can't say so:
-    /// if they didn't agree, this would never return.
-    pub(crate) fn take_in<R: Wait>(
+    /// if they didn't agree, the pass would be returned, and nothing changed.
+    pub(crate) fn take_in(
         &mut self,
-        rt: &R,
         loan: Loan,
         pass: Pass<K, V, B>,
         left: Notices<K, V>,
-    )
-        ensures back { IsBack loan.again pass self.old self.new }
+    ) -> Result<(), Pass<K, V, B>>
+        ensures back { OnOk result (IsBack loan.again pass self.old self.new) }
+        ensures succeeds { IsTrue loan.again → 0 < self.old.lent → IsOk result }
+        ensures err { IfErr result (λ again. (again ≡ pass) × (self.new ≡ self.old)) }
     {
         let Loan { again } = loan;
         let agrees = if again {
@@ -128,8 +128,7 @@ impl<K: Drop, V: Drop, B: Books> Idle<K, V, B> {
             self.came < self.room
         };
         if !agrees {
-            for _ in rt.forever() {}
-            unreachable!()
+            return Err(pass);
         }
         if again {
             self.lent -= 1;
@@ -138,6 +137,7 @@ impl<K: Drop, V: Drop, B: Books> Idle<K, V, B> {
         }
         self.passes.push_reserved(pass);
         let _ = self.lists.push(left);
+        Ok(())
     }
 }
 
