@@ -1,4 +1,4 @@
-// The value in the hands of one who changes it, and in those of a reader.
+// The guards: one to change the value, and one to read it.
 ghost use Rattle.std.specs.Prelude.{⊤, IsSome};
 ghost use Rattle.std.specs.Sync.Mutex.{mutex_guard_value};
 
@@ -19,7 +19,8 @@ pub(crate) struct Main<T> {
     pub(crate) reads: u32,
 }
 
-/// A `Striped` value in the hands of the only one who has it. The drop of the guard gives it back.
+/// The right to change a `Striped` value, which no other thread reads or changes meanwhile. Its
+/// drop releases the lock.
 #[derive(Drop)]
 pub struct WriteGuard<'a, T> {
     pub(crate) main: MutexGuard<'a, Main<T>>,
@@ -41,7 +42,8 @@ impl<T> WriteGuard<'_, T> {
     }
 }
 
-/// A `Striped` value in the hands of a reader: nobody changes it while the guard lives.
+/// The right to read a `Striped` value, which no thread changes meanwhile. Its drop releases the
+/// lock.
 #[derive(Drop)]
 pub struct ReadGuard<'a, T> {
     held: Held<'a, T>,

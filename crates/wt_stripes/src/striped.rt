@@ -3,7 +3,8 @@
 //   closed:  main ──► value                         reads and changes take the main lock
 //   open:    main ──► value ◄── each of 4 stripes   a reader takes the lock of its stripe
 //
-// Nobody who has a stripe's lock waits for another lock. So the order is: main, then stripes.
+// A thread that holds a stripe's lock waits for no other lock. So locks are taken in this order:
+// the main one, then the stripes'.
 use crate::guards::{Main, ReadGuard, Stripe, WriteGuard};
 use crate::hold::hold;
 use crossbeam_utils::CachePadded;
@@ -11,11 +12,11 @@ use std::alloc::{AllocError, Global};
 use std::array;
 use std::sync::{Arc, Mutex, Wait};
 
-// How many stripes there are. Ours.
+// How many stripes there are. No source sets it.
 const STRIPES: usize = 4;
 
-// After how many reads with no change between them the next one opens the stripes. Opening and
-// closing them takes about as long as so many reads. Ours.
+// After how many reads with no change between them the next read opens the stripes. No source sets
+// it.
 const READS: u32 = 8;
 
 /// A value that threads read beside each other, or that one of them changes.

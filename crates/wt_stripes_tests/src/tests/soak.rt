@@ -7,7 +7,8 @@ use wt_stripes::Striped;
 
 const TURNS: u64 = 20_000;
 
-// One turn in so many is a change. The stripes open in most of the gaps.
+// Each thread changes the value once in so many turns. Between two changes there are mostly enough
+// reads to open the stripes.
 const GAP: u64 = 40;
 
 // Raises both numbers by one, the second behind the first.
