@@ -34,14 +34,14 @@ module _ {K V : Type 0} (members : Members K V) (returns : K → Result V ℕ �
 
   -- the pass counts a landing for each load, or none
   pub run_counts : (leads : List (Leading K)) (old new : Seen K V) → AreRun members returns l start leads old new
-      → HasLanded (length leads) old.counted new.counted
-  run_counts [] old new same = subst (λ (s : Seen K V). HasLanded 0 old.counted s.counted) (sym same) (landed_none 0 old.counted)
+      → HasLanded (length leads) old.counts new.counts
+  run_counts [] old new same = subst (λ (s : Seen K V). HasLanded 0 old.counts s.counts) (sym same) (landed_none 0 old.counts)
   run_counts (lead ∷ leads) old new ran =
       let mid = ran.0 in
       let here = ran.1.1 in
-      let first = landed_once (home_of members.word lead.key l) old.counted mid.counted
+      let first = landed_once (home_of members.word lead.key l) old.counts mid.counts
       (landed-counts members l lead here.run.what old mid start ran.1.0 here.landed here.run.made) in
-      landed_both 1 (length leads) (length (lead ∷ leads)) old.counted mid.counted new.counted first
+      landed_both 1 (length leads) (length (lead ∷ leads)) old.counts mid.counts new.counts first
       (run_counts leads mid new ran.2) (omega arith)
 
   -- a worker that took nothing yet
@@ -63,8 +63,8 @@ module _ {K V : Type 0} (members : Members K V) (returns : K → Result V ℕ �
 
   -- the pass of a worker counts at most a landing for each load that it took
   pub worked_counts : (jobs : ℕ) (h u : LineView K) (old new : Seen K V) → HasWorked members returns l start jobs h u old new
-      → HasLanded jobs old.counted new.counted
+      → HasLanded jobs old.counts new.counts
   worked_counts jobs h u old new worked =
       let same : length worked.leads ≡ jobs = sym (length-map worked.leads name)
       ∙ ap length worked.named ∙ length-map worked.taken.taken (λ t. t.1) ∙ worked.taken.counted in
-      subst (λ (n : ℕ). HasLanded n old.counted new.counted) same (run_counts worked.leads old new worked.ran)
+      subst (λ (n : ℕ). HasLanded n old.counts new.counts) same (run_counts worked.leads old new worked.ran)

@@ -29,8 +29,8 @@ module _ {K V : Type 0} (members : Members K V) (returns : K → Result V ℕ �
   -- a landing that was told to be made is one step
   landed_so : (loaded : Result V ℕ) (landed : Result (Done (Reply V)) Fault) (what : Landing V) (value : V)
       → IsLandCall members cache.layout lead what old new before list landed
-      → IsToldOf loaded landed (Ok value) → new.counted ≡ with_step home false old.counted
-  landed_so loaded (Ok x) what value made tells = made.made.moved ∙ ap (λ b. with_step home b old.counted) made.miss
+      → IsToldOf loaded landed (Ok value) → new.counts ≡ with_step home false old.counts
+  landed_so loaded (Ok x) what value made tells = made.made.moved ∙ ap (λ b. with_step home b old.counts) made.miss
   landed_so loaded (Err f) what value made tells = cc
 
   -- what tells a fault tells a late one
@@ -43,7 +43,7 @@ module _ {K V : Type 0} (members : Members K V) (returns : K → Result V ℕ �
   fault_so (Err code) (Ok x) what f made tells = cc
 
   -- the landings of a load that was left to the line
-  left_some : IsLeft members returns cache lead old new before list → LandedSome old.counted new.counted
+  left_some : IsLeft members returns cache lead old new before list → LandedSome old.counts new.counts
   left_some left = some_of _ _ _ (run_counts members returns cache.layout left.aside left.leads old new left.ran)
 
   pub handed_on : (ran : Option (Ran K V)) → IsHandedTo members returns cache lead old new before list ran
@@ -66,16 +66,16 @@ module _ {K V : Type 0} (members : Members K V) (returns : K → Result V ℕ �
       (told_none cache.layout.config.entries before)
 
   pub handed_if_any : IsHandedOn members returns cache lead old new before list
-      → HasRunIfAny cache.lined home old.counted new.counted
-  handed_if_any (inl here) = ran_if_any cache.lined home old.counted new.counted
+      → HasRunIfAny cache.lined home old.counts new.counts
+  handed_if_any (inl here) = ran_if_any cache.lined home old.counts new.counts
       (landed-counts members cache.layout lead here.run.what old new before list here.landed here.run.made)
-  handed_if_any (inr left) = (ran_lined cache.lined home old.counted new.counted left.lined (left_some left)).1
+  handed_if_any (inr left) = (ran_lined cache.lined home old.counts new.counts left.lined (left_some left)).1
 
   pub loaded_run : (value : V) → IsLoaded members returns cache lead old new before list (Ok value)
-      → HasRun cache.lined home old.counted new.counted
-  loaded_run value (inl here) = ran_one cache.lined home old.counted new.counted
+      → HasRun cache.lined home old.counts new.counts
+  loaded_run value (inl here) = ran_one cache.lined home old.counts new.counts
       (landed_so here.loaded here.landed here.run.what value here.run.made here.tells)
-  loaded_run value (inr left) = (ran_lined cache.lined home old.counted new.counted left.0.lined (left_some left.0)).0
+  loaded_run value (inr left) = (ran_lined cache.lined home old.counts new.counts left.0.lined (left_some left.0)).0
 
   pub loaded_fault : (f : Fault) → IsLoaded members returns cache lead old new before list (Err f) → is_late_fault f ≡ true
   loaded_fault f (inl here) = fault_so here.loaded here.landed here.run.what f here.run.made here.tells

@@ -22,7 +22,7 @@ use Rattle.wt_regions.specs.Notices.{NoticeList}
 use Rattle.wt_core.specs.declared.calls.Call.{Call}
 use Rattle.wt_core.specs.declared.calls.Call.TheVariants.{Land}
 use Rattle.wt_core.specs.declared.calls.Land.{Land as Landing}
-use Rattle.wt_shards.specs.Passes.{Passed, Seen, SeenAt, SeenMore, front_at, steps_at, with_step}
+use Rattle.wt_shards.specs.Passes.{PassCounts, Seen, SeenAt, SeenMore, front_at, steps_at, with_step}
 use Rattle.wt_shards.specs.Place.{Layout, Place, home_at, home_of}
 use Rattle.wt_shards.proofs.SeenMore.{made-earlier, made-grows, refused-earlier, refused-grows, seen-more, seen-twice}
 use Rattle.wt_cache.specs.Loads.{IsLandCall}
@@ -84,21 +84,21 @@ module _ {K V : Type 0} (members : Members K V) (l : Layout) (lead : Leading K) 
 
     -- a landing is one step or none
     pub landed-counts : (r : Result (Done (Reply V)) Fault) → IsLandCall members l lead what old new before list r
-        → (new.counted ≡ old.counted) ⊎ (new.counted ≡ with_step home false old.counted)
-    landed-counts (Ok done) landed = inr (landed.made.moved ∙ ap (λ b. with_step home b old.counted) landed.miss)
+        → (new.counts ≡ old.counts) ⊎ (new.counts ≡ with_step home false old.counts)
+    landed-counts (Ok done) landed = inr (landed.made.moved ∙ ap (λ b. with_step home b old.counts) landed.miss)
     landed-counts (Err f) landed = inl landed.made.err.0
 
   -- a landing after one that was refused is one for who was there before both
   pub landed-again : (old mid new : Seen K V) (before between list : NoticeList K V) (r : Result (Done (Reply V)) Fault)
-      → mid.counted ≡ old.counted → between ≡ before → SeenMore old mid → SeenAt home old mid
+      → mid.counts ≡ old.counts → between ≡ before → SeenMore old mid → SeenAt home old mid
       → IsLandCall members l lead what mid new between list r
       → IsLandCall members l lead what old new before list r
-  landed-again old mid new before between list (Ok done) counted same more elsewhere landed =
+  landed-again old mid new before between list (Ok done) same_counts same more elsewhere landed =
       let h = landed.made in
       subst (λ (t : NoticeList K V). IsLandCall members l lead what old new t list (Ok done)) same (record {
         made = record {
-          moved = h.moved ∙ ap (with_step home (is_hit done.reply)) counted;
-          later = subst (λ (p : Passed). steps_at home p < done.step) counted h.later;
+          moved = h.moved ∙ ap (with_step home (is_hit done.reply)) same_counts;
+          later = subst (λ (p : PassCounts). steps_at home p < done.step) same_counts h.later;
           step = made-earlier members place call done.reply done.step (front_at home old) (front_at home mid)
               (front_at home new) between list (more home) h.step;
           faults = tt;
@@ -110,7 +110,7 @@ module _ {K V : Type 0} (members : Members K V) (l : Layout) (lead : Leading K) 
         miss = landed.miss;
         more = λ i. prefix_trans (front_at i old) (front_at i mid) (front_at i new) (more i) (landed.more i);
       })
-  landed-again old mid new before between list (Err f) counted same more elsewhere landed =
+  landed-again old mid new before between list (Err f) same_counts same more elsewhere landed =
       let h = landed.made in
       subst (λ (t : NoticeList K V). IsLandCall members l lead what old new t list (Err f)) same (record {
         made = record {
@@ -122,7 +122,7 @@ module _ {K V : Type 0} (members : Members K V) (l : Layout) (lead : Leading K) 
               (more home) h.cause;
           elsewhere = seen-twice home old mid new elsewhere h.elsewhere;
           told = h.told;
-          err = (h.err.0 ∙ counted, h.err.1);
+          err = (h.err.0 ∙ same_counts, h.err.1);
         };
         miss = tt;
         more = λ i. prefix_trans (front_at i old) (front_at i mid) (front_at i new) (more i) (landed.more i);

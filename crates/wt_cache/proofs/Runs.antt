@@ -3,25 +3,25 @@ use Rattle.std.proofs.Common.{◌≡◌, ℕ, ◌+◌, ◌≤◌, Bool, false, t
 use Rattle.std.specs.Prelude.{◌⊎◌}
 use Rattle.wt_regions.specs.Notices.{NoticeList, emptied}
 use Rattle.wt_shards.specs.Told.{HasTold}
-use Rattle.wt_shards.specs.Passes.{Passed, with_step}
+use Rattle.wt_shards.specs.Passes.{PassCounts, with_step}
 use Rattle.wt_cache.proofs.Moved.{landed_none, landed_one, landed_both}
 use Rattle.wt_cache.specs.Moves.{HasLanded, LandedSome, HasRun, HasRunIfAny, HasTaken}
 use Rattle.wt_cache.specs.declared.line_view.LineView.{LineView}
 use Rattle.wt_cache.specs.Line.{line_view}
 
-pub some_none : (p : Passed) → LandedSome p p
+pub some_none : (p : PassCounts) → LandedSome p p
 some_none p = (0, landed_none 0 p)
 
-pub some_one : (i : ℕ) (p q : Passed) → q ≡ with_step i false p → LandedSome p q
+pub some_one : (i : ℕ) (p q : PassCounts) → q ≡ with_step i false p → LandedSome p q
 some_one i p q is = (1, landed_one i 1 p q is (omega arith))
 
 -- one landing, or none
-pub landed_once : (i : ℕ) (p q : Passed) → (q ≡ p) ⊎ (q ≡ with_step i false p) → HasLanded 1 p q
-landed_once i p q (inl none) = let P : Passed → Type 0 = λ u. HasLanded 1 p u in subst P (sym none) (landed_none 1 p)
+pub landed_once : (i : ℕ) (p q : PassCounts) → (q ≡ p) ⊎ (q ≡ with_step i false p) → HasLanded 1 p q
+landed_once i p q (inl none) = let P : PassCounts → Type 0 = λ u. HasLanded 1 p u in subst P (sym none) (landed_none 1 p)
 landed_once i p q (inr one) = landed_one i 1 p q one (omega arith)
 
 -- landings, as many as this
-pub some_of : (n : ℕ) (p q : Passed) → HasLanded n p q → LandedSome p q
+pub some_of : (n : ℕ) (p q : PassCounts) → HasLanded n p q → LandedSome p q
 some_of n p q a = (n, a)
 
 -- an empty list that was filled and emptied is as it was
@@ -34,23 +34,23 @@ emptied_back {K} {V} n t u none told =
     rw (sym none) (ap with_room room)
 
 -- nothing was run
-pub ran_none : (lined : Bool) (home : ℕ) (p : Passed) → HasRunIfAny lined home p p
+pub ran_none : (lined : Bool) (home : ℕ) (p : PassCounts) → HasRunIfAny lined home p p
 ran_none false home p = inl refl
 ran_none true home p = some_none p
 
 -- one landing at the key's shard, or none
-pub ran_if_any : (lined : Bool) (home : ℕ) (p q : Passed) → (q ≡ p) ⊎ (q ≡ with_step home false p) → HasRunIfAny lined home p q
+pub ran_if_any : (lined : Bool) (home : ℕ) (p q : PassCounts) → (q ≡ p) ⊎ (q ≡ with_step home false p) → HasRunIfAny lined home p q
 ran_if_any false home p q either = either
-ran_if_any true home p q (inl none) = let P : Passed → Type 0 = λ u. LandedSome p u in subst P (sym none) (some_none p)
+ran_if_any true home p q (inl none) = let P : PassCounts → Type 0 = λ u. LandedSome p u in subst P (sym none) (some_none p)
 ran_if_any true home p q (inr one) = some_one home p q one
 
 -- one landing at the key's shard
-pub ran_one : (lined : Bool) (home : ℕ) (p q : Passed) → q ≡ with_step home false p → HasRun lined home p q
+pub ran_one : (lined : Bool) (home : ℕ) (p q : PassCounts) → q ≡ with_step home false p → HasRun lined home p q
 ran_one false home p q one = one
 ran_one true home p q one = some_one home p q one
 
 -- what a line leaves of a load's run
-pub ran_lined : (lined : Bool) (home : ℕ) (p q : Passed) → lined ≡ true → LandedSome p q
+pub ran_lined : (lined : Bool) (home : ℕ) (p q : PassCounts) → lined ≡ true → LandedSome p q
     → HasRun lined home p q × HasRunIfAny lined home p q
 ran_lined false home p q is moved = cc
 ran_lined true home p q is moved = (moved, moved)

@@ -61,9 +61,9 @@ pub record IsLentGet {K V : Type 0} (members : Members K V) (returns : K → Res
   -- the value may stand for the key
   pub answers : IfOk result (λ got. IsTrue (members.answers got.value key))
   -- the pass counts the seek, and the landings that this caller ran
-  pub moved : IfOk result (HasGotIn members.word key old.cache old.pass.counted new.pass.counted)
+  pub moved : IfOk result (HasGotIn members.word key old.cache old.pass.counts new.pass.counts)
   -- the number of the seek is above those of all steps that the pass had made there
-  pub later : IfOk result (IsLaterIn members.word key old.cache old.pass.counted)
+  pub later : IfOk result (IsLaterIn members.word key old.cache old.pass.counts)
   -- the seek stands in that shard's history, and then what its answer asked for and nothing else, each with its notices
   pub sought : IfOk result (IsSought members returns key now old.cache old.pass new.pass (emptied old.left) new.left)
   -- whatever is returned: few notices, and no room lost

@@ -84,7 +84,7 @@ impl<'c, K: CacheKey, V: Value<K>, L: Loader<K, V> + Drop, B: Books, R: Wait> Ca
     /// In use: `uses::callers::learn`.
     pub fn learn(&mut self, sight: &Sight<K, V, B>)
         ensures same { (self.new.cache ≡ self.old.cache)
-            × (self.new.pass.counted ≡ self.old.pass.counted) × (self.new.left ≡ self.old.left) }
+            × (self.new.pass.counts ≡ self.old.pass.counts) × (self.new.left ≡ self.old.left) }
         ensures this { SeenMore self.old.pass self.new.pass }
         ensures that { AreSeenIn sight.now self.new.pass.fronts }
     {

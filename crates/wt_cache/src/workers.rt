@@ -40,7 +40,7 @@ impl<K: CacheKey, V: Value<K>, L: Loader<K, V> + Drop, B: Books> LoadingCache<K,
         notices: &mut Notices<K, V>,
     ) -> WorkerReport
         requires room { self.now.layout.config.entries ≤ notices.old.room }
-        ensures landed { HasLanded result.jobs pass.old.counted pass.new.counted }
+        ensures landed { HasLanded result.jobs pass.old.counts pass.new.counts }
         ensures taken { HasTaken result.jobs line_pass.old line_pass.new }
         // Each load that was taken was landed, and nothing else was done with the pass.
         ensures ran { HasWorked (members_of K.CacheKey V.Value) (MayReturn L.may_return)

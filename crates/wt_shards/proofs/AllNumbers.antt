@@ -109,10 +109,10 @@ module _ {K V : Type 0} (members : Members K V) (p : Place) where
   -- the numbers of a shard are those after its history
   pub numbers-of : (calls : List (Call K V)) (s : State K V) (t : Stats) → s ≡ state_at members p calls → s.step ≡ length calls
       → IsStateAt members p s → t ≡ stats_of s → AreSmall t → AreNumbersOf members p calls t
-  numbers-of calls s t is counted at numbers small = record {
+  numbers-of calls s t is all_made at numbers small = record {
     whole = record {
       lawful = subst (IsStateAt members p) is at;
-      counted = ap (λ (x : State K V). x.step) (sym is) ∙ counted;
+      all_made = ap (λ (x : State K V). x.step) (sym is) ∙ all_made;
     };
     numbers = numbers ∙ ap stats_of is;
     looked = subst (λ (x : Stats). x.hits + x.misses ≡ x.lookups) (sym numbers) (state-looked s at);
@@ -168,7 +168,7 @@ module _ {K V : Type 0} (members : Members K V) (l : Layout) (old new : Seen K V
   numbers-in i p t of less = subst (λ (q : Place). AreNumbersOf members q (front_at i new) t) (of.at less) (of.made less)
 
   pub all-numbers : (a b c d : Stats) (p q r s : Place) → IsFew l.shards → AreOf 0 p a → AreOf 1 q b → AreOf 2 r c → AreOf 3 s d
-      → new.counted ≡ old.counted → SeenMore old new → AreSeenNumbers members l old new (sums_of (sums_of (sums_of a b) c) d)
+      → new.counts ≡ old.counts → SeenMore old new → AreSeenNumbers members l old new (sums_of (sums_of (sums_of a b) c) d)
   all-numbers a b c d p q r s few oa ob oc od same later =
       let used : 0 < l.shards = some few in
       let na = numbers-in 0 p a oa used in

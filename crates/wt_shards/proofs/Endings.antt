@@ -6,7 +6,7 @@ use mathlib.Core.List.{IsPrefix}
 use Rattle.wt_core.specs.declared.calls.Call.{Call}
 use Rattle.wt_core.specs.State.{State, stats_of}
 use Rattle.wt_history.proofs.Fronts.{prefix_self, prefix_trans}
-use Rattle.wt_shards.specs.Counts.{Counted, no_steps}
+use Rattle.wt_shards.specs.Counts.{ShardCounts, no_steps}
 use Rattle.wt_shards.specs.Endings.{AddsTo, AreAdded, AreAllBelow, AreNotSums, AreSummed, BeginSeen, Ending, Ends, FallsShort, IsAddedTo, IsAllOf, IsPartOf, IsShort, OneSaw, ending_at}
 use Rattle.wt_shards.specs.History.{state_at}
 use Rattle.wt_shards.specs.Members.{Members}
@@ -25,11 +25,11 @@ module _ {K V : Type 0} where
   begin-more i (q ∷ ps) xs ys p b = (prefix_trans (front_at i q) xs ys b.0 p, begin-more i ps xs ys p b.1)
 
   -- nothing was added
-  pub added_same : (c : Counted) (f : List (Call K V)) → IsAddedTo c no_steps c f [] f
+  pub added_same : (c : ShardCounts) (f : List (Call K V)) → IsAddedTo c no_steps c f [] f
   added_same c f = record { steps = omega arith; hits = omega arith; this = prefix_self f; that = prefix_none f; longer = inl refl }
 
   -- to nothing was added
-  pub added_first : (c : Counted) (f : List (Call K V)) → IsAddedTo no_steps c c [] f f
+  pub added_first : (c : ShardCounts) (f : List (Call K V)) → IsAddedTo no_steps c c [] f f
   added_first c f = record { steps = omega arith; hits = omega arith; this = prefix_none f; that = prefix_self f; longer = inr refl }
 
   -- no pass is there, and a step was made
@@ -40,7 +40,7 @@ module _ {K V : Type 0} where
   added-none = record { steps = refl; hits = refl; this = prefix_self []; that = prefix_self []; longer = inl refl }
 
   -- four shards, at each of which something was added
-  pub four-added : (a b c d e f g h k l m n : Counted) (aa bb cc dd ee ff gg hh kk ll mm nn : List (Call K V))
+  pub four-added : (a b c d e f g h k l m n : ShardCounts) (aa bb cc dd ee ff gg hh kk ll mm nn : List (Call K V))
       → IsAddedTo a e k aa ee kk → IsAddedTo b f l bb ff ll → IsAddedTo c g m cc gg mm → IsAddedTo d h n dd hh nn
       → (i : ℕ) → IsAddedTo (slice_index_or (a ∷ b ∷ c ∷ d ∷ []) i no_steps) (slice_index_or (e ∷ f ∷ g ∷ h ∷ []) i no_steps)
       (slice_index_or (k ∷ l ∷ m ∷ n ∷ []) i no_steps)
@@ -52,7 +52,7 @@ module _ {K V : Type 0} where
   four-added a b c d e f g h k l m n aa bb cc dd ee ff gg hh kk ll mm nn p q r s (suc (suc (suc zero))) = s
   four-added a b c d e f g h k l m n aa bb cc dd ee ff gg hh kk ll mm nn p q r s (suc (suc (suc (suc i)))) = added-none
 
-  none-at : (i : ℕ) → (counts_at i (new_pass {K = K} {V = V} 0).counted ≡ no_steps) × (front_at i (new_pass {K = K} {V = V} 0) ≡ [])
+  none-at : (i : ℕ) → (counts_at i (new_pass {K = K} {V = V} 0).counts ≡ no_steps) × (front_at i (new_pass {K = K} {V = V} 0) ≡ [])
   none-at zero = (refl, refl)
   none-at (suc zero) = (refl, refl)
   none-at (suc (suc zero)) = (refl, refl)
@@ -62,15 +62,15 @@ module _ {K V : Type 0} where
   -- no pass made nor saw anything
   pub summed-none : (i : ℕ) → AreSummed {K = K} {V = V} i [] (new_pass 0)
   summed-none i = record {
-    steps = sym (ap (λ (c : Counted). c.steps) (none-at i).0);
-    hits = sym (ap (λ (c : Counted). c.hits) (none-at i).0);
+    steps = sym (ap (λ (c : ShardCounts). c.steps) (none-at i).0);
+    hits = sym (ap (λ (c : ShardCounts). c.hits) (none-at i).0);
     seen = tt;
     saw = λ n less. absurd (let e = ap length (none-at i).1 in omega (arith, less, e));
   }
 
   -- one pass more
   pub summed-more : (i : ℕ) (p : Seen K V) (ps : List (Seen K V)) (old new : Seen K V) → AreSummed i ps old
-      → IsAddedTo (counts_at i old.counted) (counts_at i p.counted) (counts_at i new.counted) (front_at i old) (front_at i p) (front_at i new)
+      → IsAddedTo (counts_at i old.counts) (counts_at i p.counts) (counts_at i new.counts) (front_at i old) (front_at i p) (front_at i new)
       → AreSummed i (p ∷ ps) new
   summed-more i p ps old new s a = record {
     steps = (let all : sum_by (steps_in i) (p ∷ ps) ≡ steps_in i p + sum_by (steps_in i) ps = sum_by-cons (steps_in i) p ps in
@@ -92,13 +92,13 @@ nothing_before [] done all e none = sym e
 nothing_before (x ∷ xs) done all e none = absurd (omega arith)
 
 module _ {K V : Type 0} (i : ℕ) (passes : List (Seen K V)) (all : Seen K V) where
-  pub all-of : (e : Ending K V) → AreSummed i passes all → AddsTo e (counts_at i all.counted) (front_at i all) → IsAllOf i passes e
+  pub all-of : (e : Ending K V) → AreSummed i passes all → AddsTo e (counts_at i all.counts) (front_at i all) → IsAllOf i passes e
   all-of e s a = record {
     sums = record { steps = s.steps ∙ a.steps; hits = s.hits ∙ a.hits };
     begins = begin-more i passes (front_at i all) e.calls a.begins s.seen;
   }
 
-  pub part-of : (e : Ending K V) → AreSummed i passes all → FallsShort e (counts_at i all.counted) (front_at i all) → IsPartOf i passes e
+  pub part-of : (e : Ending K V) → AreSummed i passes all → FallsShort e (counts_at i all.counts) (front_at i all) → IsPartOf i passes e
   part-of e s f = record {
     steps = (let a = f.steps in let b = s.steps in omega (arith, a, b));
     hits = (let a = f.hits in let b = s.hits in omega (arith, a, b));
@@ -114,18 +114,18 @@ module _ {K V : Type 0} (i : ℕ) (passes : List (Seen K V)) (all : Seen K V) wh
 
   -- the same of a shard that may not be in use
   pub all-at : (o : Option (Ending K V)) → AreSummed i passes all → IsSome o
-      → IfSome o (λ e. AddsTo e (counts_at i all.counted) (front_at i all)) → IsSomeAnd o (IsAllOf i passes)
+      → IfSome o (λ e. AddsTo e (counts_at i all.counts) (front_at i all)) → IsSomeAnd o (IsAllOf i passes)
   all-at None s there a = absurd cc
   all-at (Some e) s there a = all-of e s a
 
   pub part-at : (o : Option (Ending K V)) → AreSummed i passes all → IsSome o
-      → IfSome o (λ e. FallsShort e (counts_at i all.counted) (front_at i all)) → IsSomeAnd o (IsPartOf i passes)
+      → IfSome o (λ e. FallsShort e (counts_at i all.counts) (front_at i all)) → IsSomeAnd o (IsPartOf i passes)
   part-at None s there f = absurd cc
   part-at (Some e) s there f = part-of e s f
 
   pub settled-at : (o : Option (Ending K V)) (c : Option Total) → AreSummed i passes all
       → IsSome c ↔ IsSome o → IfSome o (λ e. IfSome c (λ t. t ≡ e.total))
-      → IfSome o (λ e. AddsTo e (counts_at i all.counted) (front_at i all)) → IsSettled i passes c o
+      → IfSome o (λ e. AddsTo e (counts_at i all.counts) (front_at i all)) → IsSettled i passes c o
   settled-at None None s there same a = (refl, tt)
   settled-at None (Some t) s there same a = absurd (let some = there.0 refl in cc)
   settled-at (Some e) None s there same a = absurd (let some = there.1 refl in cc)
@@ -138,7 +138,7 @@ module _ {K V : Type 0} (members : Members K V) (p : Place) (passes : List (Seen
     whole = n.whole;
     begins = a.begins;
     sums = record {
-      steps = a.sums.steps ∙ ap (λ (t : Total). t.steps) n.total ∙ n.whole.counted;
+      steps = a.sums.steps ∙ ap (λ (t : Total). t.steps) n.total ∙ n.whole.all_made;
       hits = a.sums.hits ∙ ap (λ (t : Total). t.hits) n.total;
     };
   }
@@ -154,7 +154,7 @@ module _ {K V : Type 0} (members : Members K V) (p : Place) (passes : List (Seen
 
   missing-there : (e : Ending K V) → IsEnding members p e → IsPartOf p.index passes e → IsMissing members p passes
   missing-there e n f =
-      let long : e.total.steps ≡ length e.calls = ap (λ (t : Total). t.steps) n.total ∙ n.whole.counted in
+      let long : e.total.steps ≡ length e.calls = ap (λ (t : Total). t.steps) n.total ∙ n.whole.all_made in
       let hit : e.total.hits ≡ (state_at members p e.calls).counts.hits = ap (λ (t : Total). t.hits) n.total in
       record {
         calls = e.calls;

@@ -39,13 +39,13 @@ module _ {K V : Type 0} (eq : K → K → Bool) (word : K → ℕ) (measure : V 
       → IsStateAt (members_by eq word measure answers) p s → IsPrefix front calls → new ≡ calls
       → look_reply found ≡ (step eq word measure s (Look k now)).reply
       → IsPeek (members_by eq word measure answers) p k now front new found
-  peek-behind k now s calls front new found is counted lawful seen shown that =
+  peek-behind k now s calls front new found is all_made lawful seen shown that =
       let at : s ≡ state_after eq word measure p.config new = is ∙ ap (λ w. state_after eq word measure p.config w) (sym shown) in
       record {
         between = seen.0;
         seen = shown ∙ sym seen.1;
         lawful = subst (IsStateAt (members_by eq word measure answers) p) at lawful;
-        counted = ap (λ (x : State K V). x.step) (sym at) ∙ counted ∙ ap length (sym shown);
+        all_made = ap (λ (x : State K V). x.step) (sym at) ∙ all_made ∙ ap length (sym shown);
         replied = subst (λ (x : State K V). look_reply found ≡ (step eq word measure x (Look k now)).reply) at that;
       }
 

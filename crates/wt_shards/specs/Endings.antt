@@ -2,7 +2,7 @@
 use Rattle.std.specs.Prelude.{◌≡◌, ◌≢◌, ◌⊎◌, ℕ, zero, suc, ◌+◌, ◌<◌, ◌≤◌, List, [], ◌∷◌, Option, None, IsSomeAnd, length, slice_index_or, sum_by}
 use mathlib.Core.List.{IsPrefix}
 use Rattle.wt_core.specs.declared.calls.Call.{Call}
-use Rattle.wt_shards.specs.Counts.{Counted}
+use Rattle.wt_shards.specs.Counts.{ShardCounts}
 use Rattle.wt_shards.specs.Passes.{Seen, counts_at, steps_in, hits_in, front_at}
 use Rattle.wt_shards.specs.declared.total.Total.{Total}
 
@@ -31,7 +31,7 @@ module _ {K V : Type 0} where
   OneSaw n i (p ∷ ps) = (n < length (front_at i p)) ⊎ OneSaw n i ps
 
   -- what two callers made and saw at a shard, as one caller's: the sums, and the longer of the two beginnings
-  pub record IsAddedTo (old more new : Counted) (before other after : List (Call K V)) : Type 0 where
+  pub record IsAddedTo (old more new : ShardCounts) (before other after : List (Call K V)) : Type 0 where
     pub steps : new.steps ≡ old.steps + more.steps
     pub hits : new.hits ≡ old.hits + more.hits
     pub this : IsPrefix before after
@@ -40,7 +40,7 @@ module _ {K V : Type 0} where
 
   -- the same at each shard
   abbrev pub AreAdded : Seen K V → Seen K V → Seen K V → Type 0
-  AreAdded old more new = (i : ℕ) → IsAddedTo (counts_at i old.counted) (counts_at i more.counted) (counts_at i new.counted)
+  AreAdded old more new = (i : ℕ) → IsAddedTo (counts_at i old.counts) (counts_at i more.counts) (counts_at i new.counts)
       (front_at i old) (front_at i more) (front_at i new)
 
   -- what all passes made and saw at a shard, as one pass's
@@ -51,13 +51,13 @@ module _ {K V : Type 0} where
     pub saw : (n : ℕ) → n < length (front_at i all) → OneSaw n i passes
 
   -- what was made at a shard is all that its books have, and what was seen begins its history
-  pub record AddsTo (e : Ending K V) (made : Counted) (seen : List (Call K V)) : Type 0 where
+  pub record AddsTo (e : Ending K V) (made : ShardCounts) (seen : List (Call K V)) : Type 0 where
     pub steps : made.steps ≡ e.total.steps
     pub hits : made.hits ≡ e.total.hits
     pub begins : IsPrefix seen e.calls
 
   -- less was made than the books have; or more calls were seen than made
-  pub record FallsShort (e : Ending K V) (made : Counted) (seen : List (Call K V)) : Type 0 where
+  pub record FallsShort (e : Ending K V) (made : ShardCounts) (seen : List (Call K V)) : Type 0 where
     pub steps : made.steps ≤ e.total.steps
     pub hits : made.hits ≤ e.total.hits
     pub less : (IsPrefix seen e.calls × ((made.steps ≢ e.total.steps) ⊎ (made.hits ≢ e.total.hits)))

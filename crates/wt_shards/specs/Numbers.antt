@@ -33,7 +33,7 @@ module _ {K V : Type 0} (members : Members K V) where
   -- what the numbers of all shards promise. `old` and `new` are what the pass shows before and after
   pub record AreSeenNumbers (l : Layout) (old new : Seen K V) (t : Stats) : Type 0 where
     -- no step is counted
-    pub same : new.counted ≡ old.counted
+    pub same : new.counts ≡ old.counts
     -- of each shard at least as much is seen as before
     pub later : SeenMore old new
     -- of each shard in use its history is seen, up to a place

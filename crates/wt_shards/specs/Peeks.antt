@@ -38,7 +38,7 @@ module _ {K V : Type 0} (members : Members K V) (p : Place) where
     pub seen : new ≡ old ++ between
     pub lawful : IsStateAt members p (state_at members p new)
     -- as many steps were made as calls stand there: none of them was refused
-    pub counted : (state_at members p new).step ≡ length new
+    pub all_made : (state_at members p new).step ≡ length new
     -- what a look there would be answered
     pub replied : look_reply found ≡ (step members.eq members.word members.measure (state_at members p new) (Look k now)).reply
 
@@ -60,7 +60,7 @@ module _ {K V : Type 0} (members : Members K V) (p : Place) where
     -- only memory is refused
     pub memory : IfErr result (λ f. f ≡ NoMemory)
     -- whatever is returned: no step is counted
-    pub same : new.counted ≡ old.counted
+    pub same : new.counts ≡ old.counts
     -- whatever is returned: of the other shards nothing more was seen
     pub elsewhere : SeenAt p.index old new
     -- a fault moves nothing

@@ -35,7 +35,7 @@ impl<K, V, B: Books> Model for Pass<K, V, B> {
     ghost Value = { Seen K V };
 
     ghost view = { λ p. record {
-      counted = record {
+      counts = record {
         shards = p.shards;
         counts = counts_of p.zero ∷ counts_of p.one ∷ counts_of p.two ∷ counts_of p.three ∷ [];
       };
@@ -96,7 +96,7 @@ impl<K, V, B: Books> Pass<K, V, B> {
     ///
     /// Takes no memory and no lock. O(shards).
     pub fn learn(&mut self, sight: &Sight<K, V, B>)
-        ensures same { self.new.counted ≡ self.old.counted }
+        ensures same { self.new.counts ≡ self.old.counts }
         ensures this { SeenMore self.old self.new }
         ensures that { AreSeenIn sight.now self.new.fronts }
     {
@@ -111,7 +111,7 @@ impl<K, V, B: Books> Pass<K, V, B> {
     ///
     /// Takes no memory and no lock. O(shards).
     pub fn meet(&mut self, other: &Pass<K, V, B>)
-        ensures same { self.new.counted ≡ self.old.counted }
+        ensures same { self.new.counts ≡ self.old.counts }
         ensures this { SeenMore self.old self.new }
         ensures that { SeenMore other.now self.new }
     {

@@ -16,9 +16,9 @@ pub struct Shares<S: Ledger, H: Ledger> {
 
 impl<S: Ledger, H: Ledger> Model for Shares<S, H> {
     ghost use Rattle.std.specs.Prelude.{◌≡◌, ◌<◌};
-    ghost use Rattle.wt_shards.specs.Counts.{Counted};
+    ghost use Rattle.wt_shards.specs.Counts.{ShardCounts};
 
-    ghost Value = { Counted };
+    ghost Value = { ShardCounts };
 
     ghost view = { λ s. record { steps = s.steps; hits = s.hits } };
 
@@ -27,7 +27,7 @@ impl<S: Ledger, H: Ledger> Model for Shares<S, H> {
 }
 
 impl<S: Ledger, H: Ledger> Shares<S, H> {
-    ghost use Rattle.wt_shards.specs.Counts.{counted, no_steps};
+    ghost use Rattle.wt_shards.specs.Counts.{no_steps, plus_step};
 
     // Shares of nothing.
     pub(crate) fn of(of_steps: Part<S>, of_hits: Part<H>) -> Shares<S, H>
@@ -97,7 +97,7 @@ impl<S: Ledger, H: Ledger> Shares<S, H> {
     // One step more in its book and in the share of it, and a hit if it was one.
     pub(crate) fn count(&mut self, steps: &mut Book<S>, hits: &mut Book<H>, hit: bool)
         requires { (steps.old.total < 2 ^ 62) × (hits.old.total < 2 ^ 62) }
-        ensures moved { self.new ≡ counted hit self.old }
+        ensures moved { self.new ≡ plus_step hit self.old }
         ensures steps { steps.new.total ≡ steps.old.total + 1 }
         ensures hits { hits.new.total ≡ hits.old.total + (if hit then 1 else 0) }
         ensures later { self.old.steps ≤ steps.old.total }

@@ -28,7 +28,7 @@ impl<K, V, B: Books> Model for Sums<K, V, B> {
     ghost Value = { Seen K V };
 
     ghost view = { λ s. record {
-      counted = record {
+      counts = record {
         shards = 0;
         counts = counts_of s.zero ∷ counts_of s.one ∷ counts_of s.two ∷ counts_of s.three ∷ [];
       };

@@ -79,7 +79,7 @@ module _ {K : Type 0} (keys : Keys K) where
       pub before : NoticeList K (Version K)
       pub after : NoticeList K (Version K)
       pub step : IsMade members (place k) call reply number (front_at (home k) old) (front_at (home k) new) before after
-      pub moved : new.counted ≡ with_step (home k) (is_hit reply) old.counted
+      pub moved : new.counts ≡ with_step (home k) (is_hit reply) old.counts
       pub elsewhere : SeenAt (home k) old new
 
     -- the pass made one step at each shard: this call stands in the history of each
@@ -87,7 +87,7 @@ module _ {K : Type 0} (keys : Keys K) where
       pub before : NoticeList K (Version K)
       pub after : NoticeList K (Version K)
       pub steps : AreSwept members c.layout call c.layout.shards old new before after
-      pub moved : new.counted ≡ with_steps c.layout.shards old.counted
+      pub moved : new.counts ≡ with_steps c.layout.shards old.counts
 
     -- a get gave a value
     pub record HasGiven (k : K) (now : ℕ) : Type 0 where
@@ -95,7 +95,7 @@ module _ {K : Type 0} (keys : Keys K) where
       pub before : NoticeList K (Version K)
       pub after : NoticeList K (Version K)
       pub sought : IsSought members returns k now c old new before after got
-      pub moved : HasGotIn keys.word k c old.counted new.counted got
+      pub moved : HasGotIn keys.word k c old.counts new.counts got
 
     -- a get ended by a fault that is passed over
     pub record HasFailed (k : K) (now : ℕ) : Type 0 where
@@ -114,7 +114,7 @@ module _ {K : Type 0} (keys : Keys K) where
 
     -- a value is stored, unless it is too heavy
     abbrev pub HasPut : K → Version K → ℕ → Type 0
-    HasPut k v now = HasMade k (call.Put k v now) ⊎ ((c.layout.config.bound < v.weight) × (new.counted ≡ old.counted) × SeenAt (home k) old new)
+    HasPut k v now = HasMade k (call.Put k v now) ⊎ ((c.layout.config.bound < v.weight) × (new.counts ≡ old.counts) × SeenAt (home k) old new)
 
     -- what line n does, at this moment, with the pass of its thread: its call and no other
     abbrev pub HasDone : ℕ → ℕ → Act K → Type 0

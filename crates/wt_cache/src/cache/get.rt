@@ -89,8 +89,8 @@ impl<K: CacheKey, V: Value<K>, L: Loader<K, V> + Drop, B: Books> LoadingCache<K,
         requires room { 2 * self.now.layout.config.entries ≤ notices.old.room }
 
         ensures answers { IfOk result (λ got. IsTrue (V.answers got.value key)) }
-        ensures moved { IfOk result (HasGotIn K.word key self.now pass.old.counted pass.new.counted) }
-        ensures later { IfOk result (IsLaterIn K.word key self.now pass.old.counted) }
+        ensures moved { IfOk result (HasGotIn K.word key self.now pass.old.counts pass.new.counts) }
+        ensures later { IfOk result (IsLaterIn K.word key self.now pass.old.counts) }
         ensures sought { IfOk result (IsSought (members_of K.CacheKey V.Value)
             (MayReturn L.may_return) key now self.now pass.old pass.new notices.old notices.new) }
 
@@ -144,9 +144,9 @@ impl<K: CacheKey, V: Value<K>, L: Loader<K, V> + Drop, B: Books> LoadingCache<K,
         requires room { 2 * self.now.layout.config.entries ≤ notices.old.room }
 
         ensures answers { IfOk result (λ shared. IsTrue (V.answers shared.got.value key)) }
-        ensures moved { IfOk result (λ shared. HasGotIn K.word key self.now pass.old.counted
-            pass.new.counted shared.got) }
-        ensures later { IfOk result (λ shared. IsLaterIn K.word key self.now pass.old.counted
+        ensures moved { IfOk result (λ shared. HasGotIn K.word key self.now pass.old.counts
+            pass.new.counts shared.got) }
+        ensures later { IfOk result (λ shared. IsLaterIn K.word key self.now pass.old.counts
             shared.got) }
         ensures sought { IfOk result (IsSoughtSharing (members_of K.CacheKey V.Value)
             (MayReturn L.may_return) key now self.now (book_at (home_of K.word key self.now.layout)

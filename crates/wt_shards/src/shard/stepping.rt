@@ -4,7 +4,7 @@ ghost use Rattle.std.specs.Option.{option_to_list};
 ghost use Rattle.wt_keys.specs.declared.fault.Fault.TheVariants as fault;
 ghost use Rattle.wt_regions.specs.Notices.{appended};
 ghost use Rattle.wt_core.specs.declared.calls.Call.TheVariants as call;
-ghost use Rattle.wt_shards.specs.Counts.{counted, is_hit};
+ghost use Rattle.wt_shards.specs.Counts.{is_hit, plus_step};
 ghost use Rattle.wt_shards.specs.Members.{members_by};
 ghost use Rattle.wt_shards.specs.Told.{HasTold};
 ghost use Rattle.wt_core.specs.Faults.{is_fault_of};
@@ -51,7 +51,7 @@ impl<K: CacheKey, V: Share + Weighs + Answers<K>, S: ShardLedger, H: Ledger> Sha
             ≡ (step K.eq K.word V.measure self.old.core call).reply) }
         ensures notices { OnOk result (notices.new
             ≡ appended (step K.eq K.word V.measure self.old.core call).notices notices.old) }
-        ensures moved { IfOk result (λ reply. shares.new ≡ counted (is_hit reply) shares.old) }
+        ensures moved { IfOk result (λ reply. shares.new ≡ plus_step (is_hit reply) shares.old) }
         ensures answers { IfOk result (AnswersAsked V.answers call) }
         ensures later { OnOk result ((shares.old.steps ≤ self.old.core.step)
             × (self.new.core.step ≡ self.old.core.step + 1)) }
@@ -109,7 +109,7 @@ impl<K: CacheKey, V: Share + Weighs + Answers<K>, S: ShardLedger, H: Ledger> Sha
             ≡ (step K.eq K.word V.measure self.old.core call).reply) }
         ensures notices { OnOk result (notices.new
             ≡ appended (step K.eq K.word V.measure self.old.core call).notices notices.old) }
-        ensures moved { IfOk result (λ reply. shares.new ≡ counted (is_hit reply) shares.old) }
+        ensures moved { IfOk result (λ reply. shares.new ≡ plus_step (is_hit reply) shares.old) }
         ensures answers { IfOk result (AnswersAsked V.answers call) }
         ensures later { OnOk result ((shares.old.steps ≤ self.old.core.step)
             × (self.new.core.step ≡ self.old.core.step + 1)) }

@@ -39,7 +39,7 @@ returns-in-HitLead-clause-moved g c =
     let i = c.in-HitLead.is in
     let a = c.in_ok-done.ensures.asked in
     let V = g.row.V.Denot in
-    subst (λ (s : SharedGot V). HasGotIn g.K.CacheKey.word c.args.key c.args.self.now c.args.pass.now.counted c.hand_on-ran.new.pass.counted s.got)
+    subst (λ (s : SharedGot V). HasGotIn g.K.CacheKey.word c.args.key c.args.self.now c.args.pass.now.counts c.hand_on-ran.new.pass.counts s.got)
     (sym c.found-in-HitLead.ensures) (moved_if_any _ _ _ _ _ c.args.self.now c.args.pass.now c.seek_sharing.new.pass c.hand_on-ran.new.pass _ _ _ _ true _
     (ap (λ (s : Cached). s.layout) c.self.view_is) (as_seek _ _ _ _ _ _ _ _ c.in_ok-done.ensures.made)
     (handed_on _ _ c.args.self.now _ _ _ _ _ _ c.hand_on-ran.ensures) (search (rules, i)) (search (rules, i, a)))
@@ -49,7 +49,7 @@ returns-in_ok-value-in-Lead-clause-moved g c =
     let i = c.in-Lead.is in
     let a = c.in_ok-done.ensures.asked in
     let V = g.row.V.Denot in
-    subst (λ (s : SharedGot V). HasGotIn g.K.CacheKey.word c.args.key c.args.self.now c.args.pass.now.counted c.load.new.pass.counted s.got)
+    subst (λ (s : SharedGot V). HasGotIn g.K.CacheKey.word c.args.key c.args.self.now c.args.pass.now.counts c.load.new.pass.counts s.got)
     (sym c.loaded-in-Lead.ensures) (moved_load _ _ _ _ _ c.args.self.now c.args.pass.now c.seek_sharing.new.pass c.load.new.pass _ _ _ _ _ _
     (ap (λ (s : Cached). s.layout) c.self.view_is) (as_seek _ _ _ _ _ _ _ _ c.in_ok-done.ensures.made)
     c.in_ok-value-in-Lead.ensures.made (search (rules, i)) (search (rules, i, a)))

@@ -12,7 +12,7 @@ invariant-loop g l = record {
   notices : l.notices ≡ l.initial.notices;
   failed : l.report.failed ≤ l.report.jobs;
   jobs : l.report.jobs ≤ 2 ^ 40;
-  landed : HasLanded l.report.jobs l.initial.pass.counted l.pass.counted;
+  landed : HasLanded l.report.jobs l.initial.pass.counts l.pass.counts;
   taken : HasTaken l.report.jobs l.initial.line_pass l.line_pass;
   worked : HasWorked (members_by g.K.PartialEq.eq g.K.CacheKey.word g.V.Weighs.measure g.V.Answers.answers)
       (MayReturn g.L.Loader.may_return) l.self.layout l.initial.notices l.report.jobs l.initial.line_pass l.line_pass l.initial.pass l.pass;

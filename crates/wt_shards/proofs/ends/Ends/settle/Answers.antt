@@ -11,7 +11,7 @@ returns-in-Err-clause-missing g c =
     let ends = c.self.inside in
     let passes : List (Seen K V) = c.args.passes.items in
     let all : Seen K V = record {
-      counted = record {
+      counts = record {
         shards = 0;
         counts = counts_of c.all.inside.zero ∷ counts_of c.all.inside.one ∷ counts_of c.all.inside.two ∷ counts_of c.all.inside.three ∷ [];
       };
@@ -34,7 +34,7 @@ returns-in-Err-settle_at-clause-missing g c =
     let ends = c.self.inside in
     let passes : List (Seen K V) = c.args.passes.items in
     let all : Seen K V = record {
-      counted = record {
+      counts = record {
         shards = 0;
         counts = counts_of c.all.inside.zero ∷ counts_of c.all.inside.one ∷ counts_of c.all.inside.two ∷ counts_of c.all.inside.three ∷ [];
       };
@@ -58,7 +58,7 @@ returns-in-Err-settle_at-2-clause-missing g c =
     let ends = c.self.inside in
     let passes : List (Seen K V) = c.args.passes.items in
     let all : Seen K V = record {
-      counted = record {
+      counts = record {
         shards = 0;
         counts = counts_of c.all.inside.zero ∷ counts_of c.all.inside.one ∷ counts_of c.all.inside.two ∷ counts_of c.all.inside.three ∷ [];
       };
@@ -83,7 +83,7 @@ returns-in-Err-settle_at-3-clause-missing g c =
     let ends = c.self.inside in
     let passes : List (Seen K V) = c.args.passes.items in
     let all : Seen K V = record {
-      counted = record {
+      counts = record {
         shards = 0;
         counts = counts_of c.all.inside.zero ∷ counts_of c.all.inside.one ∷ counts_of c.all.inside.two ∷ counts_of c.all.inside.three ∷ [];
       };
@@ -109,7 +109,7 @@ returns-clause-totals g c =
     let ends = c.self.inside in
     let passes : List (Seen K V) = c.args.passes.items in
     let all : Seen K V = record {
-      counted = record {
+      counts = record {
         shards = 0;
         counts = counts_of c.all.inside.zero ∷ counts_of c.all.inside.one ∷ counts_of c.all.inside.two ∷ counts_of c.all.inside.three ∷ [];
       };

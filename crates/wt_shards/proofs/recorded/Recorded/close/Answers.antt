@@ -16,7 +16,7 @@ returns-clause-sound g c =
     record {
       whole = subst (λ (calls : List (Call K V)). IsHistory members place calls) (sym c.seen.ensures) (record {
         lawful = subst (λ (s : State K V). IsStateAt members place s) c.self.invariant.0 c.close.ensures.lawful;
-        counted = ap (λ (s : State K V). s.step) (sym c.self.invariant.0) ∙ c.self.invariant.1;
+        all_made = ap (λ (s : State K V). s.step) (sym c.self.invariant.0) ∙ c.self.invariant.1;
       });
       total = c.close.ensures.total ∙ ap total_of (c.self.invariant.0 ∙ ap (λ (calls : List (Call K V)). state_at members place calls) (sym c.seen.ensures));
       looked = c.close.ensures.sound.0;

@@ -15,14 +15,14 @@ returns g c =
     let l : Layout = record { shards = c.self.inside.shards; config = c.self.inside.config } in
     let alike : c.pass.inside.shards ≡ c.self.inside.shards = sym c.pass.invariant.0 ∙ ap (λ (p : Place). p.shards) c.self.invariant.1 in
     let old : Seen K V = record {
-      counted = record {
+      counts = record {
         shards = c.pass.inside.shards;
         counts = counts_of c.pass.inside.zero ∷ counts_of c.pass.inside.one ∷ counts_of c.pass.inside.two ∷ counts_of c.pass.inside.three ∷ [];
       };
       fronts = front_of c.pass.inside.zero ∷ front_of c.pass.inside.one ∷ front_of c.pass.inside.two ∷ front_of c.pass.inside.three ∷ [];
     } in
     let new : Seen K V = record {
-      counted = record {
+      counts = record {
         shards = c.pass.inside.shards;
         counts = counts_of c.seen_stats_at-zero.new.pass ∷ counts_of c.seen_stats_at-one.new.pass ∷ counts_of c.seen_stats_at-two.new.pass
             ∷ counts_of c.seen_stats_at-three.new.pass ∷ [];
@@ -30,7 +30,7 @@ returns g c =
       fronts = front_of c.seen_stats_at-zero.new.pass ∷ front_of c.seen_stats_at-one.new.pass ∷ front_of c.seen_stats_at-two.new.pass
           ∷ front_of c.seen_stats_at-three.new.pass ∷ [];
     } in
-    let same : new.counted ≡ old.counted =
+    let same : new.counts ≡ old.counts =
     (let z = c.seen_stats_at-zero.ensures.same in let o = c.seen_stats_at-one.ensures.same in let t = c.seen_stats_at-two.ensures.same in
     let h = c.seen_stats_at-three.ensures.same in cc) in
     let later : SeenMore old new = four-grew _ _ _ _ _ _ _ _ c.seen_stats_at-zero.ensures.later c.seen_stats_at-one.ensures.later
