@@ -5,15 +5,20 @@
 //
 // A thread that holds a stripe's lock waits for no other lock. So locks are taken in this order:
 // the main one, then the stripes'.
-use crate::guards::{Main, ReadGuard, Stripe, WriteGuard};
+//
+// All locks lie in one list, so that the type of the value stands in theirs once: what the prover
+// computes with a type grows with each place in which the value's own type stands.
+use crate::guards::{Owner, ReadGuard, WriteGuard};
 use crate::hold::hold;
 use crossbeam_utils::CachePadded;
 use std::alloc::{AllocError, Global};
-use std::array;
 use std::sync::{Arc, Mutex, Wait};
 
 // How many stripes there are. No source sets it.
 const STRIPES: usize = 4;
+
+// The place of the main lock. The stripes' are before it.
+const MAIN: usize = STRIPES;
 
 // After how many reads with no change between them the next read opens the stripes. No source sets
 // it.
@@ -37,8 +42,18 @@ pub struct Striped<T> {
 
 #[derive(Drop)]
 struct Locks<T> {
-    main: CachePadded<Mutex<Main<T>>>,
-    stripes: [CachePadded<Mutex<Stripe<T>>>; STRIPES],
+    all: [Lock<T>; STRIPES + 1],
+}
+
+type Lock<T> = CachePadded<Mutex<Owner<T>>>;
+
+// A lock with this owner.
+fn lock_of<T>(value: Option<Arc<Box<T>>>) -> Lock<T> {
+    CachePadded::new(Mutex::new(Owner {
+        value,
+        open: false,
+        reads: 0,
+    }))
 }
 
 impl<T: Drop> Striped<T> {
@@ -46,14 +61,14 @@ impl<T: Drop> Striped<T> {
     /// count, and for the locks. If it is refused, the value is dropped. O(1).
     pub fn new(alloc: Global, value: T) -> Result<Striped<T>, AllocError> {
         let value = Arc::new(alloc, Box::new(alloc, value)?)?;
-        let main = Main {
-            value,
-            open: false,
-            reads: 0,
-        };
         let locks = Locks {
-            main: CachePadded::new(Mutex::new(main)),
-            stripes: array::from_fn(|_| CachePadded::new(Mutex::new(None))),
+            all: [
+                lock_of(None),
+                lock_of(None),
+                lock_of(None),
+                lock_of(None),
+                lock_of(Some(value)),
+            ],
         };
         Ok(Striped {
             locks: Box::new(alloc, locks)?,
@@ -67,7 +82,7 @@ impl<T: Drop> Striped<T> {
     /// asked.
     #[inline(always)]
     pub fn write<R: Wait>(&self, rt: &R) -> WriteGuard<'_, T> {
-        let mut main = hold(rt, &self.locks.main);
+        let mut main = hold(rt, &self.locks.all[MAIN]);
         main.reads = 0;
         if main.open {
             self.close(rt);
@@ -85,30 +100,45 @@ impl<T: Drop> Striped<T> {
     /// that no two calls wait for each other.
     #[inline(always)]
     pub fn read<R: Wait>(&self, rt: &R, stripe: usize) -> ReadGuard<'_, T> {
-        if let Some(stripe) = self.locks.stripes[stripe % STRIPES].try_lock() {
-            if let Some(guard) = ReadGuard::of_stripe(stripe) {
+        if let Some(lock) = self.locks.all[stripe % STRIPES].try_lock() {
+            if let Some(guard) = ReadGuard::of(lock) {
                 return guard;
             }
         }
-        let mut main = hold(rt, &self.locks.main);
+        self.read_main(rt)
+    }
+
+    // Reads by the main lock, whose owner is always there. The types can't say so: if it weren't,
+    // this would never return.
+    #[inline(always)]
+    fn read_main<R: Wait>(&self, rt: &R) -> ReadGuard<'_, T> {
+        let mut main = hold(rt, &self.locks.all[MAIN]);
         if main.reads < READS {
             main.reads += 1;
         } else if !main.open {
             self.open(rt, &main.value);
             main.open = true;
         }
-        ReadGuard::of_main(main)
+        match ReadGuard::of(main) {
+            Some(guard) => return guard,
+            None => {}
+        }
+        for _ in rt.forever() {}
+        unreachable!()
     }
 
     /// Takes the value out of its lock. Nobody else has it any more, so this waits for nobody. The
     /// types can't say so: if somebody had it, this would never return. O(1).
     pub fn into_inner<R: Wait>(self, rt: &R) -> T {
         let Striped { locks } = self;
-        let Locks { main, stripes } = Box::into_inner(locks);
-        drop(stripes);
-        let Main { value, .. } = main.into_inner().into_inner();
-        match Arc::into_inner(value) {
-            Some(value) => return Box::into_inner(value),
+        let Locks { all } = Box::into_inner(locks);
+        let [zero, one, two, three, main] = all;
+        drop((zero, one, two, three));
+        match main.into_inner().into_inner().value {
+            Some(owner) => match Arc::into_inner(owner) {
+                Some(value) => return Box::into_inner(value),
+                None => {}
+            },
             None => {}
         }
         for _ in rt.forever() {}
@@ -116,16 +146,19 @@ impl<T: Drop> Striped<T> {
     }
 
     // Gives each stripe an owner of the value.
-    fn open<R: Wait>(&self, rt: &R, value: &Arc<Box<T>>) {
-        for stripe in self.locks.stripes.iter() {
-            *hold(rt, stripe) = Arc::try_clone(value).ok();
+    fn open<R: Wait>(&self, rt: &R, value: &Option<Arc<Box<T>>>) {
+        let Some(value) = value else {
+            return;
+        };
+        for stripe in self.locks.all[..STRIPES].iter() {
+            hold(rt, stripe).value = Arc::try_clone(value).ok();
         }
     }
 
     // Takes the stripes' owners away, each when its reader is done.
     fn close<R: Wait>(&self, rt: &R) {
-        for stripe in self.locks.stripes.iter() {
-            *hold(rt, stripe) = None;
+        for stripe in self.locks.all[..STRIPES].iter() {
+            hold(rt, stripe).value = None;
         }
     }
 }

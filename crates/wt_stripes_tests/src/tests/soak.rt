@@ -7,8 +7,8 @@ use wt_stripes::Striped;
 
 const TURNS: u64 = 20_000;
 
-// Each thread changes the value once in so many turns. Between two changes there are mostly enough
-// reads to open the stripes.
+// How many turns a thread takes for each change that it makes. The reads between two changes are
+// mostly enough to open the stripes.
 const GAP: u64 = 40;
 
 // Raises both numbers by one, the second behind the first.
