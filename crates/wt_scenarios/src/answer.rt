@@ -75,7 +75,8 @@ pub fn slide_answer(outcome: Result<Done<bool>, Fault>) -> AnswerAt {
     }
 }
 
-/// Returns the answer of a sweep, which replies this and left so many steps made.
+/// Returns the answer of a sweep: the reply, with the number of steps that were made by then, or the
+/// fault.
 pub fn sweep_answer(outcome: Result<(), Fault>, reply: Reply<Loaded>, steps: u64) -> AnswerAt {
     match outcome {
         Ok(()) => (steps, Answer::Reply(reply)),
