@@ -20,6 +20,10 @@ BY_CALL = re.compile(r"it calls `[^;]*, which (?:is|are) not proved")
 SEARCHED = re.compile(r"`search` did not prove (.*)$")
 GOAL = re.compile(r"^(?:\./)?proofs/(\S+)/(?:Answers|Invariants|Proof)\.antt:\d+:\d+: error: (?:`([^`]*)`)?")
 LIMIT = re.compile(r"^fn (\S+): could not tell", re.M)
+ERROR = re.compile(r"\berror(\[[\w-]+\]|:)")
+# The compiler refuses this function last. So a copy that compiles but for it isn't given to the prover, which takes several times as long.
+MISFIT = "\nfn misfits<T>(misfit: T) -> (T, T) {\n    (misfit, misfit)\n}\n"
+IS_MISFIT = "use of moved value: `misfit`"
 
 
 def own_goals(lines):
@@ -73,31 +77,44 @@ class Trial:
         if not over.exists() and self.kept:
             shutil.copytree(self.kept, over, symlinks=True, copy_function=link_or_copy)
         over.mkdir(exist_ok=True)
+        self.check("--incremental", over, *(word for edit in self.edits for function in edit.functions() for word in ("--only", function.printed())))
+        return self
+
+    def compile(self):
+        """Compiles the copy, and proves nothing. The errors; none if it compiles."""
+        self.check("--only", "", after=MISFIT)
+        errors = [line for line in self.said.split("\n") if ERROR.search(line)]
+        faults = [*self.wrong.values(), *(line for line in errors if IS_MISFIT not in line)]
+        return faults if faults or errors else [self.last_line()]
+
+    def check(self, *words, after=""):
+        """Runs the prover over the copy with these words. The text stands behind the crate's first source."""
         with tempfile.TemporaryDirectory(prefix="edits-") as name:
             room = Path(name)
             self.copy_into(room)
-            words = [self.kit.RATTLE, "check", *self.crate.words(["--jobs", "1"], keeps=False), "--incremental", over]
-            for edit in self.edits:
-                for function in edit.functions():
-                    words += ["--only", function.printed()]
+            roots = [room / "src" / name for name in ("main.rt", "lib.rt")]
+            with next(root for root in roots if root.exists()).open("a") as root:
+                root.write(after)
+            words = [self.kit.RATTLE, "check", *self.crate.words(["--jobs", "1"], keeps=False), *words]
             with open(room / "said", "wb") as said:
                 ran = subprocess.Popen([*self.kit.guarded(), *words], cwd=room, stdin=subprocess.DEVNULL, stdout=said, stderr=subprocess.STDOUT)
                 _, status, used = os.wait4(ran.pid, 0)
             ran.returncode = self.status = os.waitstatus_to_exitcode(status)
             self.seconds, self.said = used.ru_utime + used.ru_stime, (room / "said").read_text(errors="replace")
-        return self
+
+    def last_line(self):
+        return self.said.rstrip("\n").rsplit("\n", 1)[-1]
 
     def has_ended(self, limits):
-        last = self.said.rstrip("\n").rsplit("\n", 1)[-1]
         # Without a function to ask for, the whole crate is checked.
         end = r"only=\d+ proved=\d+" if any(edit.functions() for edit in self.edits) else r"logic="
-        return self.status in (0, 1) and re.match(end, last) or self.status == 3 and limits
+        return self.status in (0, 1) and re.match(end, self.last_line()) or self.status == 3 and limits
 
     def verdicts(self):
         """Of each edit what it came to, and a word on why."""
         lines, limits = self.said.rstrip("\n").split("\n"), {name.split("::", 1)[-1] for name in LIMIT.findall(self.said)}
         if not self.has_ended(limits):
-            first = next((line for line in lines if re.search(r"\berror(\[[\w-]+\]|:)", line)), lines[-1])
+            first = next((line for line in lines if ERROR.search(line)), lines[-1])
             # Another definition may leave a lemma without a proof, which no function names.
             is_lemma = self.status == 1 and first.startswith("./proofs/") and all(edit.is_outside for edit in self.edits)
             return {edit.name: (BY_OTHER if is_lemma else BAD if self.status in (1, 2) else UNCLEAR, first[:200]) for edit in self.edits}

@@ -11,6 +11,9 @@
 There may be several pairs of `call` and `clause`, and several changes. `clause: of its trait` is of a call whose promise is that of a
 trait. Lines that begin with # are comments.
 """
+from pathlib import Path
+
+from functions import Sources
 
 
 def file_of(crate):
@@ -67,12 +70,13 @@ class Edit:
                 self.unread.append(line)
         self.files = sorted({file for file, _, _ in self.changes})
 
-    def applied(self, folder):
-        """The texts of the files that it changes, by path, and the old texts that don't stand exactly once in their file."""
+    def applied(self, folder, changed=None):
+        """The texts of the files that it changes, by path, and the old texts that don't stand exactly once in their file. Texts that other
+        edits have changed stand in place of the folder's."""
         texts, wrong = {}, []
         for file, old, new in self.changes:
             path = folder / file
-            texts.setdefault(file, path.read_text() if path.is_file() else "")
+            texts.setdefault(file, (changed or {}).get(file) or (path.read_text() if path.is_file() else ""))
             if texts[file].count(old) == 1:
                 texts[file] = texts[file].replace(old, new)
             else:
@@ -131,3 +135,37 @@ def batches_of(edits, most=None):
         else:
             batches.append({"open": not edit.goes_alone(), "edits": [edit], "spots": spots})
     return [batch["edits"] for batch in batches]
+
+
+def placed_edits(crate):
+    """A crate's edits with their functions, in the order of its file."""
+    folder = Path(crate)
+    sources = Sources.of(folder)
+    return [PlacedEdit(folder, name, lines, sources) for name, lines in blocks_of(folder)]
+
+
+class Together:
+    """Edits that can stand in one copy: no two change one function, or a text that another one brings or changes."""
+
+    def __init__(self):
+        self.edits, self.texts, self.changed = [], {}, set()
+
+    def take(self, edit):
+        """Whether there is a place for the edit, which it then has. The first one always has."""
+        texts, wrong = edit.applied(edit.crate, self.texts)
+        is_taken = not self.edits or not wrong and not self.changed & set(edit.changed)
+        if is_taken:
+            self.edits.append(edit)
+            self.texts.update(texts)
+            self.changed.update(edit.changed)
+        return is_taken
+
+
+def together(edits):
+    """The edits in as few lists as a greedy pass finds, each of edits that can stand in one copy."""
+    found = []
+    for edit in edits:
+        if not any(one.take(edit) for one in found):
+            found.append(Together())
+            found[-1].take(edit)
+    return [one.edits for one in found]

@@ -34,6 +34,7 @@ def parts_of(library):
     # Libraries with a stamp are a session's own, which `rt ci` put back. `tools/embed` may build them anew, and edits stand on them.
     is_own = any(CRATES.glob("*/out/rlib/stamp"))
     yield Part(EDITS, [gate / "try_edits", "--empty", "--seconds", str(EDIT_SECONDS)], TOP, EDIT_SECONDS, after=(LIBRARY,) if is_own else ())
+    yield Part("each edit compiles", python(gate / "check_edits", "--lanes", "1"), TOP, EDIT_SECONDS, after=(LIBRARY,) if is_own else ())
     yield Part("refused memory, on the proved tests and the program", python(gate / "refuse_memory"), TOP, 60)
     yield Part("the program beside the model", python(gate / "check_program"), TOP, 40)
     yield Part("the scenarios beside the model", python(gate / "check_scenarios"), TOP, 10)
