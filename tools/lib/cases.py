@@ -88,7 +88,7 @@ def random_trace(rng, entries):
 
 def adaptive_case(rng):
     """The case of a window that follows the stream: long enough for several choices, with hot keys that stay, change or come round."""
-    entries = rng.choice((512, 513, 600, 1100))
+    entries = rng.choice((64, 100, 130, 512, 513, 600, 1100))
     options = {"entries": entries, "adaptive": 1, **rng.choice(({}, {"shards": 2}, {"threads": 2}, {"weight": 300, "mod": 3}, {"write": 300}, {"flights": 1}))}
     items = list(options.items())
     rng.shuffle(items)

@@ -15,6 +15,8 @@ TYPE = re.compile(r"^(\s*)pub\s+(?:struct|enum|trait|type|const|static)\s+(\w+)\
 EXPORT = re.compile(r"pub use ([\w:]+)(?:::\{([^}]*)\})?;")
 # What crates of tests share, and what plays scenarios: they have no clauses, on purpose.
 PROMISE_NOTHING = {"wt_tests", "wt_scenarios"}
+# How the names of the library's crates begin.
+LIBRARY = ("rookdresser", "wt_")
 
 
 @dataclass
@@ -190,8 +192,8 @@ def add_fields(crate, call, label, record, crates):
                 crate.field_uses[call, "%s.%s" % (label, of)] = [crates[at].uses[module]]
 
 
-def all_crates(begin="wt_"):
-    """The repository's crates whose names begin so."""
+def all_crates(begin=LIBRARY):
+    """The repository's crates whose names begin so, by default the library's."""
     return crates_in(c for c in sorted(CRATES.iterdir()) if (c / "src").is_dir() and c.name.startswith(begin))
 
 

@@ -1,9 +1,11 @@
 """The numbers of tools/hit_curve as a table and as rows of CSV, and the windows that they speak of."""
 from typing import Dict, NamedTuple, Optional
 
+from facts import FOLLOWS
+
 OURS = "Rookdresser"
 ADAPTIVE = "adaptive"
-LEAST_ADAPTIVE = 512
+LEAST_ADAPTIVE = int(FOLLOWS)
 
 
 class Sweep(NamedTuple):

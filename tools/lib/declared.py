@@ -66,7 +66,8 @@ def of_header(text):
     text = re.sub(r"/\*.*?\*/", "", unchecked(text), flags=re.S)
     structs = {name: [c_field(*row) for row in re.findall(r"^ +(\w+) (\*?)(\w+)(?:\[(\d+)\])?;", body, re.M)]
                for body, name in re.findall(r"^typedef struct rd_\w+ \{\n(.*?)^\} (rd_\w+);", text, re.M | re.S)}
-    functions = {name: [c_parameter(part) for part in of.split(",")] for name, of in re.findall(r"^uint64_t (rd_\w+)\(([^)]*)\);", text, re.M)}
+    functions = {name: [c_parameter(part) for part in of.split(",") if part != "void"]
+                 for name, of in re.findall(r"^uint64_t (rd_\w+)\(([^)]*)\);", text, re.M)}
     return Declared(structs, functions)
 
 

@@ -26,6 +26,8 @@ VERSION, TOOLCHAIN, MINUTES = (FACTS[""][name] for name in ("version", "toolchai
 FAULTS = FACTS["faults of the program"]
 TEXTS = FACTS["faults of the library"]
 TESTED = FACTS["tested, not proved"]
+# From so many entries on a window may follow the stream.
+FOLLOWS, = re.findall(r"\bOnly from (\d+) entries on\b", FACTS["options of the program"]["adaptive"])
 
 
 def rows_of_options():
@@ -36,6 +38,12 @@ def rows_of_options():
 def version_of_package():
     """The version as Python's packages spell it: 0.2.0.dev0 for 0.2.0-dev."""
     return VERSION.replace("-dev", ".dev0")
+
+
+def version_number():
+    """The version as the library for C has it: 2000 for 0.2.0 and for 0.2.0-dev."""
+    first, second, third = map(int, VERSION.partition("-")[0].split("."))
+    return str(first * 1_000_000 + second * 1_000 + third)
 
 
 def faults():

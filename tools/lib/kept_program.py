@@ -1,5 +1,6 @@
 #!/usr/bin/env python3
-"""Prints the path of wt_replay built without any proof, and builds it first if its sources changed since it was built.
+"exec" "python3" "$0" "$@"  # sh hands this file to Python
+__doc__ = """Prints the path of wt_replay built without any proof, and builds it first if its sources changed since it was built.
 
 It is optimised as the proved program is. Nothing of it is proved or checked. It stays in out/try, in a folder named for the sum of
 its sources, by tools/lib/source_sum.py.

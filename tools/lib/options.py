@@ -1,7 +1,7 @@
 """The options of the program, as docs/facts.txt has them, and what their ranges and defaults come to."""
 import re
 
-from facts import rows_of_options
+from facts import FOLLOWS, rows_of_options
 
 BELOW_64 = 2 ** 64 - 1
 
@@ -29,7 +29,7 @@ class Option:
         if self.default_text in ("never", "none fails"):
             return None
         if self.default_text.startswith("entries / 100"):
-            return max(1, given["entries"] * (40 if given.get("adaptive") else 1) // 100)
+            return max(1, given["entries"] * (10 if given.get("adaptive") else 1) // 100)
         if self.default_text.startswith("64, or flights + 1"):
             return max(64, given["flights"] + 1)
         return int(self.default_text)
@@ -81,7 +81,7 @@ def settings(given, options=OPTIONS):
         fits = number is None or option.allows(number, full)
         if option.name == "turn" and full["threads"] or option.name == "workers" and not full["turn"]:
             fits = number == 0
-        if option.name == "adaptive" and (full["entries"] < 512 or fixed):
+        if option.name == "adaptive" and (full["entries"] < int(FOLLOWS) or fixed):
             fits = number == 0
         if not fits:
             return full, option.name

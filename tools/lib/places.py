@@ -15,9 +15,17 @@ def shown(path):
     return str(path.relative_to(TOP)) if path.is_relative_to(TOP) else str(path)
 
 
-def not_built(path=PROGRAM, by="sh tools/replay --build"):
-    """The sentence on a file that isn't built yet, and what builds it."""
-    return "%s isn't built yet; `%s` builds it" % (shown(path), by)
+def not_built(path=PROGRAM, soon="sh tools/try --build", proved="sh tools/replay --build"):
+    """The sentence on a program that isn't built yet: what builds one without any proof, and what proves it first."""
+    return "%s isn't built yet; `%s` builds one without any proof, in a minute or two, and `%s` a proved one, in most of an hour" % (shown(path), soon, proved)
+
+
+def tried_program():
+    """The program that tools/try built of these sources, or None. A release has no sources."""
+    if not CRATES.exists():
+        return None
+    import kept_program
+    return kept_program.found()
 
 
 def files(folder, *patterns):

@@ -4,6 +4,7 @@ import sys
 from pathlib import Path
 
 from archives import Entry
+from page_links import moved, targets_of
 from places import TOOLS, TOP, files
 from trees import in_git
 
@@ -45,8 +46,23 @@ def parts_used(names):
 
 
 def below(folder, names, cut=""):
-    """Files of the checkout in a folder of the archive, without the beginning of their names."""
-    return {folder + name.removeprefix(cut): entry(name) for name in names}
+    """The names that files of the checkout have in a folder of the archive: without the beginning of theirs."""
+    return {name: folder + name.removeprefix(cut) for name in names}
+
+
+def page(name, place, places):
+    """A page of the checkout, whose links lead to what the archive has."""
+    return Entry(moved((TOP / name).read_text(), name, place, places).encode())
+
+
+def laid(places):
+    """The files of the checkout that an archive has, by their names there."""
+    return {place: page(name, place, places) if name.endswith(".md") else entry(name) for name, place in places.items()}
+
+
+def examples_of_c():
+    """The programs that the page on C names."""
+    return ["embed/c/" + target for target in targets_of((TOP / "embed/c/README.md").read_text()) if target.endswith(".c")]
 
 
 def pkg_config(text):
@@ -59,10 +75,11 @@ def for_system(built):
     """The program, the libraries for C, the tools that need Python alone, and the pages."""
     library, soname = built.library, built.soname
     tools = ["tools/" + name for name in PYTHON_TOOLS]
-    pages = tracked("README.md", "CHANGELOG.md", "CONTRIBUTING.md", "docs", "embed/*.md", "traces",
+    pages = tracked("README.md", "CHANGELOG.md", "CONTRIBUTING.md", "docs", "embed/*.md", *examples_of_c(), "traces",
                     "tools/README.md", "bench/README.md")
+    places = below(SHARE, [*tools, *parts_used(PYTHON_TOOLS), *tracked("tools/lib/page", "tools/model"), *pages])
     entries = {
-        "GUIDE.md": Entry(link=SHARE + "docs/GUIDE.md"),
+        "GUIDE.md": page("docs/GUIDE.md", "GUIDE.md", places),
         "bin/wt_replay": Entry(built.program.read_bytes(), runs=True),
         "lib/librookdresser.a": Entry((library / "librookdresser.a").read_bytes()),
         "lib/" + soname: Entry((library / soname).read_bytes(), runs=True),
@@ -74,7 +91,7 @@ def for_system(built):
         "share/zsh/site-functions/_wt_replay": entry("tools/completions/_wt_replay"),
         "share/fish/vendor_completions.d/wt_replay.fish": entry("tools/completions/wt_replay.fish"),
         **{"bin/" + name: Entry(link="../%stools/%s" % (SHARE, name)) for name in PYTHON_TOOLS},
-        **below(SHARE, [*tools, *parts_used(PYTHON_TOOLS), *tracked("tools/lib/page", "tools/model"), *pages]),
+        **laid(places),
     }
     return entries if built.is_proved else {**entries, SHARE + "UNPROVED": Entry(UNPROVED)}
 
@@ -89,11 +106,9 @@ def for_python(built, glibc, version):
 
 
 def for_language(built, language, folder):
-    """A wrapper with the static library and the header in one of its folders, and what callbacks may do."""
-    entries = {**below("", tracked("embed/" + language), "embed/%s/" % language), "CALLBACKS.md": entry("embed/CALLBACKS.md"),
-               **{folder + name: Entry((built.library / name).read_bytes()) for name in ("librookdresser.a", "rookdresser.h")}}
-    readme = entries["README.md"]
-    readme.data = readme.data.replace(b"](../CALLBACKS.md)", b"](CALLBACKS.md)")
+    """A wrapper with the static library and the header in one of its folders, what all wrappers keep to, and what callbacks may do."""
+    places = {**below("", tracked("embed/" + language), "embed/%s/" % language), "embed/CALLBACKS.md": "CALLBACKS.md", "embed/README.md": "WRAPPERS.md"}
+    entries = {**laid(places), **{folder + name: Entry((built.library / name).read_bytes()) for name in ("librookdresser.a", "rookdresser.h")}}
     return entries if built.is_proved else {**entries, "UNPROVED": Entry(UNPROVED)}
 
 

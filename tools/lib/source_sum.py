@@ -1,5 +1,6 @@
 #!/usr/bin/env python3
-"""Prints the sum of all that a crate is made of without a proof: tools/lib/source_sum.py CRATE [FILE..]
+"exec" "python3" "$0" "$@"  # sh hands this file to Python
+__doc__ = """Prints the sum of all that a crate is made of without a proof: tools/lib/source_sum.py CRATE [FILE..]
 
 That is the sources and definitions of the crate and of those below it, their lines of crates.txt, HANDLES, the toolchain's version,
 and the files that are named. While the sum stays, tools/try and tools/embed keep what they built.

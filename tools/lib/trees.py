@@ -69,6 +69,9 @@ def linked(top, changes):
     for child in TOP.iterdir():
         if child.name not in (".git", "out", "tools"):
             (top / child.name).symlink_to(child)
+    own_folder(top / "crates")
+    for crate in [path for path in (top / "crates").iterdir() if path.is_dir()]:
+        own_folder(crate)
     shutil.copytree(TOOLS, top / "tools", ignore=shutil.ignore_patterns("__pycache__"))
     for name, change in changes.items():
         path = top / name

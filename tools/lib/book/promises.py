@@ -2,10 +2,10 @@
 import html
 import re
 
+from page_links import slug
 from rules import PAGE
 
 from .site import quoted_names
-from .tree import slug
 
 # What stands before the links of a kind.
 TITLES = {"definition": "Defined", "code": "Kept", "edit": "Refused", "test": "Tested", "scenario": "Played", "check": "Checked"}

@@ -2,7 +2,7 @@
 import re
 from urllib.parse import quote
 
-from contracts import PROMISE_NOTHING, all_crates
+from contracts import LIBRARY, PROMISE_NOTHING, all_crates
 from crates_txt import stands_on
 from edits import file_of
 from labels import labels_in
@@ -11,15 +11,12 @@ from rules import OTHERS, promises_in, tests_by_call
 from spec_words import Links
 
 RATTLE = TOP / "docs" / "rattle_words.txt"
+# The crate that programs import.
+DOOR = "rookdresser"
 
 
 def anchor(page, name):
     return "%s#%s" % (page, quote(name, safe=":.'"))
-
-
-def slug(head):
-    """The id that pandoc gives a head, as GitHub does."""
-    return re.sub(r"[^\w -]", "", head.lower()).replace(" ", "-")
 
 
 def only_tests(crate):
@@ -27,9 +24,9 @@ def only_tests(crate):
 
 
 def downwards(below):
-    """The crates, from the cache down to what it stands on, and then the others; those that only test last."""
+    """The crates, from the door down to what it stands on, and then the others; those that only test last."""
     def place(name):
-        return only_tests(name), name != "wt_cache" and name not in below["wt_cache"], -len(below[name]), name
+        return only_tests(name), name != DOOR and name not in below[DOOR], -len(below[name]), name
     return sorted((name for name in below if (CRATES / name).is_dir()), key=place)
 
 
@@ -38,7 +35,7 @@ class Tree:
 
     def __init__(self):
         self.every, below = all_crates(""), stands_on()
-        of_cache = [name for name in self.every if name.startswith("wt_")]
+        of_cache = [name for name in self.every if name.startswith(LIBRARY)]
         self.crates = {name: self.every[name] for name in sorted(of_cache, key=lambda name: (len(below.get(name, ())), name))}
         self.downwards = downwards(below)
         shown = {name: self.calls_shown(self.crates[name]) for name in self.downwards if name in self.crates and name not in PROMISE_NOTHING}

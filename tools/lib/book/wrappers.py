@@ -2,12 +2,12 @@
 import html
 from urllib.parse import quote
 
+from page_links import slug
 from places import TOP
 
 from . import markdown
 from .languages import c, go, python, rust
 from .site import plain
-from .tree import slug
 
 # Of each language its name, what reads its calls, and its page.
 LANGUAGES = (("Python", python, "embed/python/README.md"), ("Rust", rust, "embed/rust/README.md"), ("Go", go, "embed/go/README.md"),

@@ -4,12 +4,38 @@ import importlib.machinery
 import importlib.util
 import subprocess
 import sys
+from dataclasses import dataclass
 from pathlib import Path
+
+
+@dataclass(frozen=True)
+class Convenience:
+    """What the `rt` of some kits of one logic offers and that of others doesn't: nothing is proved by it, so without it a tool does less."""
+
+    reader: str
+    # By these words in its bin/rt a kit shows that it has it, and these it has then besides.
+    mark: str
+    inside: tuple
+    lack: str
+
+
+NAMES = Convenience("tools/lib/kit/ahead.py", "rt ci NAME..", (), "this kit's `rt ci` takes no names, so no crate is proved ahead of the others")
+STORE = Convenience("tools/lib/kit/kept_store.py", "/rattle-kept", ('("proof-", "tests-")',),
+                    "this kit's `rt ci` keeps no proofs, so `sh tools/prove` takes no --kept")
+CONVENIENCES = (NAMES, STORE)
 
 
 def folder():
     """Where the kit is."""
-    return Path(subprocess.run(["rt", "doc"], stdout=subprocess.PIPE, text=True, check=True).stdout.strip()).resolve().parent
+    done = subprocess.run(["rt", "doc"], stdout=subprocess.PIPE, text=True)
+    if done.returncode:
+        raise OSError("`rt doc`, which prints where the kit is, ended with status %d" % done.returncode)
+    return Path(done.stdout.strip()).parent.resolve()
+
+
+def has(convenience):
+    """Whether this kit offers it."""
+    return convenience.mark.encode() in (folder() / "bin" / "rt").read_bytes()
 
 
 def store():

@@ -3,13 +3,14 @@
 `rt ci` gives a crate a second job only if a core is free as the crate begins, and these begin while others run. So two runs of
 `rt ci NAME` go ahead and have them proved with two jobs each. One proves wt_regions and what is below it. As soon as that one has
 proved wt_keys, the other begins, and goes on to wt_cache. The gate begins as the first run ends. It takes over what the two have
-proved, and tries again what they haven't. In CI `rt ci` takes no names, so nothing goes ahead.
+proved, and tries again what they haven't. In CI `rt ci` takes no names, and in an older kit it never does, so nothing goes ahead there.
 """
 import contextlib
 import os
 import subprocess
 import tempfile
 
+import kit
 from groups import group
 
 FIRST, SECOND = ["rt", "ci", "wt_regions"], ["rt", "ci", "wt_cache"]
@@ -17,7 +18,13 @@ IS_BEGUN = "rt: wt_keys "
 
 
 def is_wanted():
-    return len(os.sched_getaffinity(0)) >= 4 and os.environ.get("CI") != "true"
+    """Whether two runs ahead would help here, and the kit can do them. If only the kit can't, it says so."""
+    if len(os.sched_getaffinity(0)) < 4 or os.environ.get("CI") == "true":
+        return False
+    if not kit.has(kit.NAMES):
+        print("tools/prove: %s" % kit.NAMES.lack, flush=True)
+        return False
+    return True
 
 
 def follow(child, said, is_met):

@@ -1,5 +1,6 @@
 #!/usr/bin/env python3
-"""Proves and builds crates/wt_ffi as a static library: tools/lib/kit/library.py FILE
+"exec" "python3" "$0" "$@"  # sh hands this file to Python
+__doc__ = """Proves and builds crates/wt_ffi as a static library: tools/lib/kit/library.py FILE
 
 `rt ci` only checks a static library, and keeps nothing of it. So right after the gate wt_ffi alone is proved again, over the libraries
 that the gate left, as it is built: two minutes of processor, where `rt lib` would prove the libraries below anew. Prints the verdict.

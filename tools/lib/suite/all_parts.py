@@ -29,7 +29,7 @@ def of_sources(copy):
     for words, seconds in CHECKS.items():
         name, *flags = words.split()
         yield Part("sources: " + words, python(copy / "tools" / "gate" / name, *flags), copy, seconds,
-                   needs=("rt",) if name in ("check_layout", "check_kit") else ())
+                   needs=("rt",) if name in ("check_layout", "check_kit", "check_checkers") else ())
 
 
 def of_crates(copy):

@@ -1,5 +1,6 @@
 #!/usr/bin/env python3
-"""Runs a crate of the current folder's repository without any proof: its tests, or a program, whose output has to be its file stdout."""
+"exec" "python3" "$0" "$@"  # sh hands this file to Python
+__doc__ = """Runs a crate of the current folder's repository without any proof: its tests, or a program, whose output has to be its file stdout."""
 import re
 import subprocess
 import sys

@@ -1,5 +1,6 @@
 #!/usr/bin/env python3
-"""The gate: every proof from nothing, the tests as they are proved, each program as two compilers build it, the edits that are due,
+"exec" "python3" "$0" "$@"  # sh hands this file to Python
+__doc__ = """The gate: every proof from nothing, the tests as they are proved, each program as two compilers build it, the edits that are due,
 and what has to be seen on what the proofs have built. `sh tools/test` has what needs no proof.
 The last line is the gate's, 'N passed, M failed': of `rt ci`, of the edits, and of the other parts, each of which counts as one.
 """
@@ -12,6 +13,7 @@ from pathlib import Path
 LIB = Path(__file__).resolve().parent.parent
 sys.path.insert(0, str(LIB))
 
+import kit
 from groups import end_at_signals
 from kit import ahead, kept_store
 from places import CRATES, TOP
@@ -103,6 +105,8 @@ def main():
                         "are kept. For whoever trusts the file's maker: such a run is no whole proof, and no release is made of it")
     given = parser.parse_args()
     wants(parser, "rt", "cc")
+    if given.kept and not kit.has(kit.STORE):
+        parser.exit(1, "tools/prove: %s\n" % kit.STORE.lack)
     end_at_signals()
     # `tools/release` reads this line, so that what the gate said isn't taken for that of another commit.
     print("tools/prove: at commit %s" % commit(), flush=True)

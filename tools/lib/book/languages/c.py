@@ -9,7 +9,7 @@ FOLDER = EMBED / "c"
 HEADERS = (TOP / "include" / "rookdresser.h", TOP / "include" / "rookdresser_shared.h",
            *(FOLDER / ("rookdresser_%s.h" % name) for name in ("loading", "waiting", "adaptive", "seeded", "stats", "text")))
 # Programs that the tests run, those for readers first.
-PROGRAMS = ("first_calls.c", "pages.c", "left_pages.c", "seeded_keys.c", "counted_calls.c", "followed.c", "name_calls.c", "adaptive_calls.c", "many_looks.c", "loading_calls.c", "random_calls.c", "refused_memory.c", "shared_squares.c", "shared_calls.c", "shared_loads.c", "texts.c")
+PROGRAMS = ("first_calls.c", "pages.c", "left_pages.c", "seeded_keys.c", "counted_calls.c", "followed.c", "name_calls.c", "adaptive_calls.c", "many_looks.c", "loading_calls.c", "random_calls.c", "refused_memory.c", "shared_squares.c", "shared_calls.c", "shared_loads.c", "waiting_calls.c", "texts.c")
 FUNCTION = re.compile(r"(?:^/\*((?:[^*]|\*(?!/))*)\*/\n)?^((?:static inline )?[a-z]\w*(?: \w+)* \*?)(rd_\w+)(\([^;{]*\))\s*[;{]", re.M)
 TYPE = re.compile(r"(?:^/\*((?:[^*]|\*(?!/))*)\*/\n)?^((?:typedef )?(?:struct|enum) (rd_\w+) \{.*?^\}[^;]*;)", re.M | re.S)
 # What only the header's own functions call.
