@@ -18,7 +18,7 @@ use wt_shards::Books;
 /// it was there, loaded, shared with another caller's load or due for a refresh. Earlier refusals
 /// of memory don't change it.
 fn check_number<B: Books, R: Wait>(
-    caller: &mut Caller<u64, Check, &Checks, B, R>,
+    caller: &mut Caller<u64, Check, Checks, B, R>,
     account: u64,
     now: u64,
 ) -> Result<u64, Fault>
@@ -40,7 +40,7 @@ impl Service<u64, Check> for Checks {
     fn work<B: Books, R: Wait>(
         &self,
         thread: usize,
-        caller: &mut Caller<u64, Check, &Checks, B, R>,
+        caller: &mut Caller<u64, Check, Checks, B, R>,
     ) -> Result<u64, Fault> {
         check_number(caller, thread as u64, 0)
     }
@@ -49,7 +49,7 @@ impl Service<u64, Check> for Checks {
 /// Prints the check numbers that three threads get.
 pub fn show<R: Print + Threads + Wait + Sync>(rt: &R, alloc: Global) -> anyhow::Result<()> {
     let config = Config::of(64).with_refresh(1000);
-    for number in serve(rt, alloc, &config, 4, 3, &Checks {})? {
+    for number in serve(rt, alloc, &config, 4, 3, Checks {})? {
         println!(rt; "check number {}", number?)?;
     }
     Ok(())

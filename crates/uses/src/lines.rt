@@ -74,8 +74,12 @@ pub fn finish<B: Books, R: Wait>(
 
 /// Ends the cache as `finish` does, in two calls: the first shows each shard's history, and the
 /// second compares it with the passes.
-pub fn end<B: Books>(cache: Cached<B>, passes: Vec<Pass<u64, Page, B>>) -> Result<u64, Fault> {
-    let ends = cache.finish().end();
+pub fn end<B: Books, R: Wait>(
+    rt: &R,
+    cache: Cached<B>,
+    passes: Vec<Pass<u64, Page, B>>,
+) -> Result<u64, Fault> {
+    let ends = cache.finish().end(rt);
     let totals = ends.settle(passes)?;
     Ok(totals.of(0).map_or(0, |total| total.steps))
 }

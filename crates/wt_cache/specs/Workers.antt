@@ -19,5 +19,5 @@ pub record HasWorked {K V : Type 0} (members : Members K V) (returns : K → Res
   -- their leads: of these ids and keys
   pub leads : List (Leading K)
   pub named : map name leads ≡ map (λ t. t.1) taken.taken
-  -- each was landed at the moment of its lead, with what its loader may return
+  -- each was landed once, at the moment that its lead has here, with what its loader may return
   pub ran : AreRun members returns l start leads old new

@@ -3,7 +3,9 @@
 //   a look-up ──► its shard's adviser sees the key ──► up to four slides of the shard
 //
 // Each slide is a call of its own at the shard, under the shard's lock, and stands in its history. At
-// most four follow a look-up, so that its cost stays bounded.
+// most four follow a look-up, so that its cost stays bounded. A caller claims its slides under the
+// adviser's lock and makes them behind it, so it never holds two locks. Others count on what it
+// claimed, so no two callers make the same slide.
 ghost use Rattle.std.specs.Prelude.{◌≡◌, ◌≤◌, nat_le, ◌&&◌, if◌then◌else◌, IfErr};
 ghost use Rattle.wt_keys.specs.declared.fault.Fault.TheVariants as fault;
 ghost use Rattle.wt_keys.specs.declared.fault.Field.TheVariants.{Entries};
@@ -33,21 +35,31 @@ pub struct Followers<K: CacheKey> {
     shards: Vec<Mutex<Follower<K>>>,
 }
 
-// The adviser of a shard, and how many entries the shard's window holds by the slides that it made.
+// The adviser of a shard, and how many entries the shard's window holds once all claimed slides are
+// made.
 #[derive(Drop)]
 struct Follower<K: CacheKey> {
     adviser: Adviser<K>,
     window: u32,
 }
 
+// The slides that a caller still has to make, and which way. If the window stood at this end already,
+// the caller makes no more.
+#[derive(Clone, Copy)]
+struct Claim {
+    wider: bool,
+    left: u32,
+    is_at_end: bool,
+}
+
 impl<K: CacheKey> Followers<K> {
     /// Makes the advisers of a cache of `shards` shards of this configuration.
     ///
-    /// `BadConfig` of the entries, if a shard has below 512 of them, comes before `NoMemory`. Takes
+    /// `BadConfig` of the entries, if a shard has below 64 of them, comes before `NoMemory`. Takes
     /// memory for four caches of a sixty-fourth of the entries, 64 at least, for each shard.
     /// O(entries).
     pub fn new(alloc: Global, config: &Config, shards: usize) -> Result<Followers<K>, Fault>
-        ensures refusal { IfErr result (λ f. f ≡ (if nat_le 512 config.now.entries
+        ensures refusal { IfErr result (λ f. f ≡ (if nat_le 64 config.now.entries
             && nat_le config.now.entries 4194304
             then fault.NoMemory else fault.BadConfig Entries)) }
     {
@@ -67,9 +79,9 @@ impl<K: CacheKey> Followers<K> {
     ///
     /// `now` is in milliseconds. A fault is that of a slide, behind those that were made, or
     /// `NoMemory` of the adviser, which has then not seen the key whole; a later look-up goes on from
-    /// there. The look-up stands, so a caller may leave a fault alone. No entry leaves. Takes the
-    /// adviser's lock, and under it the lock of the key's shard for each slide. Expected O(1), and
-    /// O(entries / 64) if the adviser's sketch halves. Not promised: that it returns.
+    /// there. The look-up stands, so a caller may leave a fault alone. No entry leaves. Takes one lock
+    /// at a time: the adviser's, then the lock of the key's shard for each slide, and the adviser's
+    /// again if a slide wasn't made. Amortised O(1). Not promised: that it returns.
     pub fn follow<V: Value<K>, L: Loader<K, V> + Drop, B: Books, R: Wait>(
         &self,
         rt: &R,
@@ -87,46 +99,81 @@ impl<K: CacheKey> Followers<K> {
         let Some(follower) = self.shards.get(shard_of(key.word(), cache.shards())) else {
             return Ok(0);
         };
-        let mut follower = follower.lock(rt);
-        let seen = follower.adviser.saw(key);
-        let slides = follower.slide(rt, cache, pass, key, now, notices)?;
-        match seen {
-            Ok(()) => Ok(slides),
-            Err(NoMemory) => Err(Fault::NoMemory),
+        let (seen, mut claim) = Follower::see(rt, follower, key);
+        let slides = slide(rt, cache, pass, key, &mut claim, now, notices);
+        if claim.left > 0 || claim.is_at_end {
+            follower.lock(rt).take_back(claim, cache.entries());
+        }
+        match (slides, seen) {
+            (Ok(_), Err(NoMemory)) => Err(Fault::NoMemory),
+            (slides, _) => slides,
         }
     }
 }
 
 impl<K: CacheKey> Follower<K> {
-    // Makes up to four slides of the key's shard towards the window that is wanted.
-    fn slide<V: Value<K>, L: Loader<K, V> + Drop, B: Books, R: Wait>(
-        &mut self,
+    // Shows the adviser a key, and claims up to four slides towards the window that it then wants.
+    fn see<R: Wait>(
         rt: &R,
-        cache: &LoadingCache<K, V, L, B>,
-        pass: &mut Pass<K, V, B>,
+        follower: &Mutex<Follower<K>>,
         key: K,
-        now: u64,
-        notices: &mut Notices<K, V>,
-    ) -> Result<u32, Fault>
-        requires room { cache.now.layout.config.entries ≤ notices.old.room }
-        ensures made { IsFollowed (members_of K.CacheKey V.Value)
-            (home_at K.word key cache.now.layout) now pass.old pass.new notices.old notices.new
-            result }
-    {
-        let wanted = self.adviser.wanted();
-        let mut slides = 0;
-        while slides < SLIDES && self.window != wanted {
-            let wider = self.window < wanted;
-            let done = cache.slide(rt, pass, key, wider, now, notices)?;
-            self.window = match (done.reply, wider) {
-                (true, true) => self.window + 1,
-                (true, false) => self.window - 1,
-                // It stood at this end already.
-                (false, true) => cache.entries(),
-                (false, false) => 1,
-            };
-            slides += 1;
-        }
-        Ok(slides)
+    ) -> (Result<(), NoMemory>, Claim) {
+        let mut held = follower.lock(rt);
+        let seen = held.adviser.saw(key);
+        let wanted = held.adviser.wanted();
+        let wider = held.window < wanted;
+        let left = held.window.abs_diff(wanted).min(SLIDES);
+        held.window = if wider {
+            held.window + left
+        } else {
+            held.window - left
+        };
+        let is_at_end = false;
+        (
+            seen,
+            Claim {
+                wider,
+                left,
+                is_at_end,
+            },
+        )
     }
+
+    // Takes back what was claimed and not made.
+    fn take_back(&mut self, claim: Claim, entries: u32) {
+        self.window = match (claim.is_at_end, claim.wider) {
+            (true, true) => entries,
+            (true, false) => 1,
+            (false, true) => self.window.saturating_sub(claim.left),
+            (false, false) => self.window.saturating_add(claim.left),
+        };
+    }
+}
+
+// Makes the claimed slides at the key's shard.
+fn slide<K: CacheKey, V: Value<K>, L: Loader<K, V> + Drop, B: Books, R: Wait>(
+    rt: &R,
+    cache: &LoadingCache<K, V, L, B>,
+    pass: &mut Pass<K, V, B>,
+    key: K,
+    claim: &mut Claim,
+    now: u64,
+    notices: &mut Notices<K, V>,
+) -> Result<u32, Fault>
+    requires room { cache.now.layout.config.entries ≤ notices.old.room }
+    ensures made { IsFollowed (members_of K.CacheKey V.Value)
+        (home_at K.word key cache.now.layout) now pass.old pass.new notices.old notices.new
+        result }
+{
+    let mut slides = 0;
+    while slides < SLIDES && claim.left > 0 {
+        let done = cache.slide(rt, pass, key, claim.wider, now, notices)?;
+        claim.is_at_end = !done.reply;
+        claim.left -= 1;
+        if claim.is_at_end {
+            claim.left = 0;
+        }
+        slides += 1;
+    }
+    Ok(slides)
 }

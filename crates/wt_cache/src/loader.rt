@@ -4,7 +4,9 @@ ghost use Rattle.std.specs.Prelude.{IsTrue, IfOk};
 use wt_keys::Answers;
 
 /// The user's code that loads the value of a key, in the caller's thread or in a worker's.
-pub trait Loader<K, V: Answers<K>>: Sync {
+///
+/// Threads share a cache only if its loader is `Sync`.
+pub trait Loader<K, V: Answers<K>> {
     ghost use Rattle.std.specs.Prelude.{⊤, ℕ, Result};
 
     /// What a load of the key may return: anything that answers the key, unless the loader narrows

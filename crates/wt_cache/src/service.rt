@@ -17,7 +17,7 @@ use wt_keys::{CacheKey, Fault, NoMemory};
 use wt_shards::{Blanks, Books, Names, Of, Shards, Value};
 
 /// A source of values, and the work of each thread with a cache before it.
-pub trait Service<K: CacheKey, V: Value<K>>: Loader<K, V> {
+pub trait Service<K: CacheKey, V: Value<K> + Copy>: Loader<K, V> + Copy {
     ghost use Rattle.std.specs.Prelude.{⊤, ℕ, Result};
     ghost use Rattle.wt_keys.specs.declared.fault.Fault.{Fault};
 
@@ -34,7 +34,7 @@ pub trait Service<K: CacheKey, V: Value<K>>: Loader<K, V> {
     fn work<B: Books, R: Wait>(
         &self,
         thread: usize,
-        caller: &mut Caller<K, V, &Self, B, R>,
+        caller: &mut Caller<K, V, Self, B, R>,
     ) -> Result<Self::Answer, Fault>
         ensures { gives self.now thread result };
 }
@@ -46,15 +46,20 @@ pub trait Service<K: CacheKey, V: Value<K>>: Loader<K, V> {
 /// asked for. If a thread gets no caller, its own result is the fault of `Callers::lend`. If no
 /// thread can be made, the work is done one after another. Takes memory as `Shards::new` does, and
 /// for the results. Not promised: that it returns.
-pub fn serve<K: CacheKey, V: Value<K>, S: Service<K, V>, R: Threads + Wait + Sync>(
+pub fn serve<
+    K: CacheKey,
+    V: Value<K> + Copy,
+    S: Service<K, V> + Copy + Send + Sync,
+    R: Threads + Wait + Sync,
+>(
     rt: &R,
     alloc: Global,
     config: &Config,
     shards: usize,
     threads: usize,
-    service: &S,
+    service: S,
 ) -> Result<Vec<Result<S::Answer, Fault>>, Fault>
-    ensures made { IsServed (S.gives service.now) config.now shards threads result }
+    ensures made { IsServed (S.gives service) config.now shards threads result }
 {
     serve_as::<K, V, S, Brand, R>(rt, alloc, Blanks::new(), config, shards, threads, service)
 }
@@ -62,8 +67,8 @@ pub fn serve<K: CacheKey, V: Value<K>, S: Service<K, V>, R: Threads + Wait + Syn
 // The same, over books of these names.
 fn serve_as<
     K: CacheKey,
-    V: Value<K>,
-    S: Service<K, V>,
+    V: Value<K> + Copy,
+    S: Service<K, V> + Copy + Send + Sync,
     N: Names + Send + Sync,
     R: Threads + Wait + Sync,
 >(
@@ -73,11 +78,11 @@ fn serve_as<
     config: &Config,
     shards: usize,
     threads: usize,
-    service: &S,
+    service: S,
 ) -> Result<Vec<Result<S::Answer, Fault>>, Fault>
     requires layout { N.layout ≡ record { shards = shards; config = config.now } }
     requires blanks { AreBlanksOf N.name N.book blanks }
-    ensures made { IsServed (S.gives service.now) config.now shards threads result }
+    ensures made { IsServed (S.gives service) config.now shards threads result }
 {
     match Shards::<K, V, Of<N>>::new(rt, alloc, blanks, config, shards) {
         Ok(made) => match serve_over(rt, alloc, made, threads, service) {
@@ -91,8 +96,8 @@ fn serve_as<
 // The same, over these shards.
 fn serve_over<
     K: CacheKey,
-    V: Value<K>,
-    S: Service<K, V>,
+    V: Value<K> + Copy,
+    S: Service<K, V> + Copy + Send + Sync,
     N: Names + Send + Sync,
     R: Threads + Wait + Sync,
 >(
@@ -100,12 +105,12 @@ fn serve_over<
     alloc: Global,
     shards: Shards<K, V, Of<N>>,
     threads: usize,
-    service: &S,
+    service: S,
 ) -> Result<Vec<Result<S::Answer, Fault>>, NoMemory>
     ensures len { IfOk result (λ answers. vec_len answers ≡ threads) }
-    ensures each { IfOk result (λ answers. AreBrought (S.gives service.now) threads answers.items) }
+    ensures each { IfOk result (λ answers. AreBrought (S.gives service) threads answers.items) }
 {
-    let cache: LoadingCache<K, V, &S, Of<N>> = LoadingCache::new(shards, service, None);
+    let cache: LoadingCache<K, V, S, Of<N>> = LoadingCache::new(shards, service, None);
     let callers = Callers::new(alloc, cache);
     let shared = &callers;
     let answers = thread::map_indices(
@@ -113,20 +118,21 @@ fn serve_over<
         alloc,
         threads,
         &|thread: usize| -> Result<S::Answer, Fault>
-            ensures { IsBrought (S.gives service.entry.now thread) result }
+            ensures { IsBrought (S.gives service thread) result }
         { work_at(rt, shared, service, thread) },
     )?;
     Ok(answers)
 }
 
 // The work of one thread, through a caller that is lent for it.
-fn work_at<K: CacheKey, V: Value<K>, S: Service<K, V>, B: Books, R: Wait>(
-    rt: &R,
-    callers: &Callers<K, V, &S, B>,
-    service: &S,
-    thread: usize,
-) -> Result<S::Answer, Fault>
-    ensures { IsBrought (S.gives service.now thread) result }
+fn work_at<
+    K: CacheKey,
+    V: Value<K> + Copy,
+    S: Service<K, V> + Copy + Send + Sync,
+    B: Books,
+    R: Wait,
+>(rt: &R, callers: &Callers<K, V, S, B>, service: S, thread: usize) -> Result<S::Answer, Fault>
+    ensures { IsBrought (S.gives service thread) result }
 {
     let mut caller = callers.lend(rt)?;
     let answer = service.work(thread, &mut caller);

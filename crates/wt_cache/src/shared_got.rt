@@ -116,7 +116,7 @@ impl<K: Copy, V: Drop> SharedGot<K, V> {
         got
     }
 
-    /// Returns whether both gets shared a load: then their values are the same.
+    /// Returns whether both gets have a share of one load: then their values are the same.
     ///
     /// Both are gets of one shard, so of one cache, as gets of one key are. Takes no memory and no
     /// lock. O(1).

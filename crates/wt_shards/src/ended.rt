@@ -35,7 +35,7 @@ impl<K, V, S: ShardLedger, H: Ledger> Ended<K, V, S, H> {
         ensures added { IsAddedTo sum.old.counts more.counts sum.new.counts sum.old.front more.front
             sum.new.front }
     {
-        let ShardPass { shares, front } = more;
+        let ShardPass { shares, front, .. } = more;
         self.closed.absorb(&mut sum.shares, shares);
         sum.front.learn(&front);
     }

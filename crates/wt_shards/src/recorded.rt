@@ -64,7 +64,11 @@ impl<K: CacheKey, V: Share + Weighs + Answers<K>, S: ShardLedger, H: Ledger> Rec
     {
         let front = self.history.front();
         match self.shard.shares() {
-            Ok(shares) => Ok(ShardPass { shares, front }),
+            Ok(shares) => Ok(ShardPass {
+                shares,
+                front,
+                stripe: self.shard.given as usize,
+            }),
             Err(fault) => Err(fault),
         }
     }

@@ -30,6 +30,7 @@ mod stepping;
 use crate::closed::Closed;
 use crate::explained::Explained;
 use crate::kept::Kept;
+use crate::ledgers::Ledgers;
 use crate::shade::Shade;
 use crate::shard_ledger::ShardLedger;
 use crate::shares::Shares;
@@ -37,19 +38,17 @@ use crate::total::Total;
 use circular_buffer::HeapCircularBuffer;
 use std::alloc::Global;
 use std::marker::Model;
-use std::sync::ledger::{Blank, Book, Ledger, Share as Part};
+use std::sync::ledger::{Blank, Ledger};
 use wt_core::{Call, Config, Core, Notices, Stats, Weighs};
 use wt_keys::{Answers, CacheKey, Fault, NoMemory, Share};
+use wt_stripes::Exclusive;
 
 /// An audited cache: at all times its outline is that of its lagging copy followed by the recorded
 /// steps.
 #[derive(Drop)]
 pub struct Shard<K: CacheKey, V: Share + Weighs + Answers<K>, S: ShardLedger, H: Ledger> {
     // The fields that each step writes come first, beside the lock.
-    pub(crate) steps: Book<S>,
-    pub(crate) hits: Book<H>,
-    pub(crate) steps_left: Part<S>,
-    pub(crate) hits_left: Part<H>,
+    pub(crate) ledgers: Exclusive<Ledgers<S, H>>,
     // How many shares of the books were given out.
     pub(crate) given: u32,
     pub(crate) ring: HeapCircularBuffer<Call<K, Shade>>,
@@ -92,12 +91,12 @@ impl<K: CacheKey, V: Share + Weighs + Answers<K>, S: ShardLedger, H: Ledger> Mod
         × (s.ring.capacity ≡ s.config.ring)
         × (s.config.flights ≤ vec_capacity s.landings)
         × (s.lagging.regions.caps.entries ≤ s.aside.room + length s.aside.list)
-        × (s.steps.total ≡ s.core.step)
-        × (s.hits.total ≡ s.core.counts.hits)
-        × (s.steps_left.parts + s.given ≡ 65536)
-        × (s.hits_left.parts + s.given ≡ 65536)
-        × (s.steps_left.amount ≡ 0)
-        × (s.hits_left.amount ≡ 0)
+        × (s.ledgers.steps.total ≡ s.core.step)
+        × (s.ledgers.hits.total ≡ s.core.counts.hits)
+        × (s.ledgers.steps_left.parts + s.given ≡ 65536)
+        × (s.ledgers.hits_left.parts + s.given ≡ 65536)
+        × (s.ledgers.steps_left.amount ≡ 0)
+        × (s.ledgers.hits_left.amount ≡ 0)
         × (s.config ≡ S.ShardLedger.place.config) };
 }
 
@@ -150,10 +149,12 @@ impl<K: CacheKey, V: Share + Weighs + Answers<K>, S: ShardLedger, H: Ledger> Sha
             landings,
             aside,
             given: 0,
-            steps,
-            hits,
-            steps_left,
-            hits_left,
+            ledgers: Exclusive::new(Ledgers {
+                steps,
+                hits,
+                steps_left,
+                hits_left,
+            }),
         })
     }
 
@@ -171,8 +172,9 @@ impl<K: CacheKey, V: Share + Weighs + Answers<K>, S: ShardLedger, H: Ledger> Sha
         if self.given >= 65535 {
             return Err(Fault::PassesSpent);
         }
-        let of_steps = self.steps_left.split_off(1, 0);
-        let of_hits = self.hits_left.split_off(1, 0);
+        let ledgers = &mut self.ledgers;
+        let of_steps = ledgers.value.steps_left.split_off(1, 0);
+        let of_hits = ledgers.value.hits_left.split_off(1, 0);
         self.given += 1;
         Ok(Shares::of(of_steps, of_hits))
     }
@@ -241,7 +243,8 @@ impl<K: CacheKey, V: Share + Weighs + Answers<K>, S: ShardLedger, H: Ledger> Sha
     {
         let stats = self.stats();
         let made = self.steps();
-        let Shard { steps, hits, .. } = self;
+        let Shard { ledgers, .. } = self;
+        let Ledgers { steps, hits, .. } = ledgers.into_inner();
         Closed::of(
             Total {
                 steps: made,

@@ -11,9 +11,9 @@ use crate::books::Books;
 use crate::recorded::Recorded;
 use crate::value::Value;
 use std::marker::Model;
-use std::sync::Mutex;
 use wt_core::Config;
 use wt_keys::CacheKey;
+use wt_stripes::Striped;
 
 /// Audited shards of a cache, 1, 2 or 4 of them, each with the history of its calls behind a lock of
 /// its own.
@@ -26,10 +26,10 @@ pub struct Shards<K: CacheKey, V: Value<K>, B: Books> {
     // How many are in use, and the settings of each; never change.
     pub(crate) shards: usize,
     pub(crate) config: Config,
-    pub(crate) zero: Option<Mutex<Recorded<K, V, B::S0, B::H0>>>,
-    pub(crate) one: Option<Mutex<Recorded<K, V, B::S1, B::H1>>>,
-    pub(crate) two: Option<Mutex<Recorded<K, V, B::S2, B::H2>>>,
-    pub(crate) three: Option<Mutex<Recorded<K, V, B::S3, B::H3>>>,
+    pub(crate) zero: Option<Striped<Recorded<K, V, B::S0, B::H0>>>,
+    pub(crate) one: Option<Striped<Recorded<K, V, B::S1, B::H1>>>,
+    pub(crate) two: Option<Striped<Recorded<K, V, B::S2, B::H2>>>,
+    pub(crate) three: Option<Striped<Recorded<K, V, B::S3, B::H3>>>,
 }
 
 impl<K: CacheKey, V: Value<K>, B: Books> Model for Shards<K, V, B> {

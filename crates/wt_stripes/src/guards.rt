@@ -11,9 +11,8 @@ use std::sync::{Arc, MutexGuard, Wait};
 pub(crate) struct Owner<T> {
     // None behind the lock of a stripe that is closed.
     pub(crate) value: Option<Arc<Box<T>>>,
-    // Of the main lock alone: whether the stripes have owners, and how many reads there were behind
-    // it since the last change, counted up to a limit.
-    pub(crate) open: bool,
+    // Of the main lock alone: how many reads there were behind it since the last change, counted up
+    // to a limit.
     pub(crate) reads: u32,
 }
 

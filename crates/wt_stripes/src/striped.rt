@@ -12,6 +12,7 @@ use crate::guards::{Owner, ReadGuard, WriteGuard};
 use crate::hold::hold;
 use crossbeam_utils::CachePadded;
 use std::alloc::{AllocError, Global};
+use std::sync::atomic::{AtomicBool, Ordering};
 use std::sync::{Arc, Mutex, Wait};
 
 // How many stripes there are. No source sets it.
@@ -20,14 +21,15 @@ const STRIPES: usize = 4;
 // The place of the main lock. The stripes' are before it.
 const MAIN: usize = STRIPES;
 
-// After how many reads with no change between them the next read opens the stripes. No source sets
-// it.
-const READS: u32 = 8;
+// After how many reads with no change between them the next read opens the stripes. Ours: to open and
+// close them costs as much as some ten reads, so with 8 a cache that is changed all the time pays for
+// stripes that hardly anybody uses.
+const READS: u32 = 32;
 
 /// A value that threads read beside each other, or that one of them changes.
 ///
 /// It is a lock with a bias for readers. At first readers and those who change the value take turns
-/// at one lock, the main one. After eight reads with no change between them the next read opens
+/// at one lock, the main one. After 32 reads with no change between them the next read opens
 /// four stripes, each with a lock of its own and an owner of the value. From then on a reader takes
 /// the lock of its stripe alone, and readers at different stripes write no memory that they share.
 /// A change takes the main lock and closes the stripes.
@@ -43,17 +45,16 @@ pub struct Striped<T> {
 #[derive(Drop)]
 struct Locks<T> {
     all: [Lock<T>; STRIPES + 1],
+    // Whether the stripes are open. It changes under the main lock alone. To a reader it is a hint:
+    // what counts is whether its stripe has an owner.
+    is_open: AtomicBool,
 }
 
 type Lock<T> = CachePadded<Mutex<Owner<T>>>;
 
 // A lock with this owner.
 fn lock_of<T>(value: Option<Arc<Box<T>>>) -> Lock<T> {
-    CachePadded::new(Mutex::new(Owner {
-        value,
-        open: false,
-        reads: 0,
-    }))
+    CachePadded::new(Mutex::new(Owner { value, reads: 0 }))
 }
 
 impl<T: Drop> Striped<T> {
@@ -69,6 +70,7 @@ impl<T: Drop> Striped<T> {
                 lock_of(None),
                 lock_of(Some(value)),
             ],
+            is_open: AtomicBool::new(false),
         };
         Ok(Striped {
             locks: Box::new(alloc, locks)?,
@@ -84,9 +86,9 @@ impl<T: Drop> Striped<T> {
     pub fn write<R: Wait>(&self, rt: &R) -> WriteGuard<'_, T> {
         let mut main = hold(rt, &self.locks.all[MAIN]);
         main.reads = 0;
-        if main.open {
+        if self.locks.is_open.load(Ordering::SeqCst) {
             self.close(rt);
-            main.open = false;
+            self.locks.is_open.store(false, Ordering::SeqCst);
         }
         WriteGuard { main }
     }
@@ -100,9 +102,11 @@ impl<T: Drop> Striped<T> {
     /// that no two calls wait for each other.
     #[inline(always)]
     pub fn read<R: Wait>(&self, rt: &R, stripe: usize) -> ReadGuard<'_, T> {
-        if let Some(lock) = self.locks.all[stripe % STRIPES].try_lock() {
-            if let Some(guard) = ReadGuard::of(lock) {
-                return guard;
+        if self.locks.is_open.load(Ordering::SeqCst) {
+            if let Some(lock) = self.locks.all[stripe % STRIPES].try_lock() {
+                if let Some(guard) = ReadGuard::of(lock) {
+                    return guard;
+                }
             }
         }
         self.read_main(rt)
@@ -115,9 +119,9 @@ impl<T: Drop> Striped<T> {
         let mut main = hold(rt, &self.locks.all[MAIN]);
         if main.reads < READS {
             main.reads += 1;
-        } else if !main.open {
+        } else if !self.locks.is_open.load(Ordering::SeqCst) {
             self.open(rt, &main.value);
-            main.open = true;
+            self.locks.is_open.store(true, Ordering::SeqCst);
         }
         match ReadGuard::of(main) {
             Some(guard) => return guard,
@@ -131,7 +135,7 @@ impl<T: Drop> Striped<T> {
     /// types can't say so: if somebody had it, this would never return. O(1).
     pub fn into_inner<R: Wait>(self, rt: &R) -> T {
         let Striped { locks } = self;
-        let Locks { all } = Box::into_inner(locks);
+        let Locks { all, is_open: _ } = Box::into_inner(locks);
         let [zero, one, two, three, main] = all;
         drop((zero, one, two, three));
         match main.into_inner().into_inner().value {

@@ -6,8 +6,8 @@ mod turns;
 use std::sync::Wait;
 use wt_stripes::Striped;
 
-// Eight reads behind the main lock come before the one that opens the stripes.
-const OPENING: usize = 9;
+// 32 reads behind the main lock come before the one that opens the stripes.
+const OPENING: usize = 33;
 
 // Reads until the stripes are open.
 fn open<T: Drop, R: Wait>(rt: &R, lock: &Striped<T>) {

@@ -234,7 +234,8 @@ pub faults_of_options : map option_fault
     { threads = 65 } ∷ record four { turn = 1 } ∷ record four { turn = 64; workers = 64 } ∷ record four
     { turn = 65 } ∷ record four { turn = 2; threads = 2 } ∷ record four { turn = 2; workers = 65 }
     ∷ record four { workers = 1 } ∷ record default_options { adaptive = 1 } ∷ record default_options
-    { adaptive = 1; entries = 511 } ∷ record default_options { adaptive = 1; window = Some 10 }
+    { adaptive = 1; entries = 63 } ∷ record default_options { adaptive = 1; entries = 64 }
+    ∷ record default_options { adaptive = 1; window = Some 10 }
     ∷ record default_options { adaptive = 1; turn = 1 } ∷ record default_options { adaptive = 2 } ∷ [])
     ≡ None ∷ None ∷ Some field.Shards ∷ Some field.Shards ∷ Some field.Entries ∷ Some field.Entries ∷ Some
     field.Window ∷ Some field.Window ∷ Some field.Bound
@@ -242,7 +243,7 @@ pub faults_of_options : map option_fault
     field.AfterAccess ∷ Some field.Refresh ∷ Some field.FailMod
     ∷ Some field.Flights ∷ Some field.Flights ∷ Some field.Ring ∷ Some field.Ring ∷ Some field.Ring ∷ Some
     field.Threads ∷ None ∷ None ∷ Some field.Turn ∷ Some field.Turn ∷ Some field.Workers ∷ Some
-    field.Workers ∷ None ∷ Some field.Adaptive ∷ Some field.Adaptive ∷ None ∷ Some field.Adaptive ∷ []
+    field.Workers ∷ None ∷ Some field.Adaptive ∷ None ∷ Some field.Adaptive ∷ None ∷ Some field.Adaptive ∷ []
 faults_of_options = refl
 
 pub fault_lines : map fault_line

@@ -8,7 +8,7 @@ use Rattle.wt_trace.specs.declared.options.Options.{Options}
 
 -- the window that is used if none is given: a hundredth of the entries and at least 1, or where an adviser begins
 abbrev pub default_window : Options → ℕ
-default_window o = if nat_lt 0 o.adaptive then max ((o.entries * 40) / 100) 1 else max (o.entries / 100) 1
+default_window o = if nat_lt 0 o.adaptive then max ((o.entries * 10) / 100) 1 else max (o.entries / 100) 1
 
 -- the window
 abbrev pub window_of : Options → ℕ
@@ -28,7 +28,7 @@ is_shard_count n = n == 1 || (n == 2 || n == 4)
 
 -- whether the window may follow the stream: an adviser has enough entries, and no window is given
 abbrev pub can_adapt : Options → Bool
-can_adapt o = nat_le 512 o.entries && is_none o.window
+can_adapt o = nat_le 64 o.entries && is_none o.window
 
 -- the first of the options from flights on that is out of its range: a run is by shard or by turn, and only turns have workers
 abbrev pub later_fault : Options → Option Field

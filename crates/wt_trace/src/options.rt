@@ -21,7 +21,7 @@ pub struct Options {
     /// How many entries a shard may hold: 1 to 65,536.
     pub entries: u64,
     /// How many of them its window may hold: 1 to `entries`. By default a hundredth of them, and with
-    /// `adaptive` two fifths at first.
+    /// `adaptive` a tenth at first.
     pub window: Option<u64>,
     /// How much the entries of a shard may weigh together: 1 to 2^48.
     pub weight: u64,
@@ -49,7 +49,7 @@ pub struct Options {
     /// The number of threads that run loads beside those of a replay turn by turn: 0 to 64, and 0
     /// where `turn` is.
     pub workers: u64,
-    /// 1 if the window of each shard follows the stream of its look-ups, else 0. 1 only from 512
+    /// 1 if the window of each shard follows the stream of its look-ups, else 0. 1 only from 64
     /// entries on, and not with `window`.
     pub adaptive: u64,
 }
@@ -111,7 +111,7 @@ impl Options {
         ensures { result ≡ default_window self.now }
     {
         if 0 < self.adaptive {
-            (self.entries * 40 / 100).max(1)
+            (self.entries * 10 / 100).max(1)
         } else {
             (self.entries / 100).max(1)
         }
@@ -121,7 +121,7 @@ impl Options {
     fn can_adapt(&self) -> bool
         ensures { result ≡ can_adapt self.now }
     {
-        512 <= self.entries && self.window.is_none()
+        64 <= self.entries && self.window.is_none()
     }
 
     // The ring, its default if none was given.

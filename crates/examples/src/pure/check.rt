@@ -36,7 +36,7 @@ impl Answers<u64> for Check {
 }
 
 /// The source of check numbers.
-#[derive(Drop)]
+#[derive(Clone, Copy)]
 pub struct Checks {}
 
 impl Loader<u64, Check> for Checks {

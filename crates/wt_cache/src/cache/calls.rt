@@ -25,7 +25,7 @@ impl<K: CacheKey, V: Value<K>, L: Loader<K, V> + Drop, B: Books> LoadingCache<K,
     ///
     /// `now` is in milliseconds. `StepsSpent` comes before `NoMemory`, which a hit can meet, and a
     /// miss if the shard's lagging copy finds none. Takes the lock of the key's shard for one step.
-    /// Expected O(1), unless an attacker chooses the keys (see `Seeded`).
+    /// Expected amortised O(1), unless an attacker chooses the keys (see `Seeded`).
     pub fn get_if_present<R: Wait>(
         &self,
         rt: &R,
@@ -74,8 +74,8 @@ impl<K: CacheKey, V: Value<K>, L: Loader<K, V> + Drop, B: Books> LoadingCache<K,
     /// pass. `Tally` counts reads.
     ///
     /// `now` is in milliseconds. `NoMemory` comes only if the share of the value is refused. Takes
-    /// the lock of the key's shard, once or twice. Expected O(1), unless an attacker chooses the
-    /// keys (see `Seeded`).
+    /// the lock of the key's shard, once or twice. Expected amortised O(1), unless an attacker
+    /// chooses the keys (see `Seeded`).
     pub fn read<R: Wait>(
         &self,
         rt: &R,
@@ -98,7 +98,8 @@ impl<K: CacheKey, V: Value<K>, L: Loader<K, V> + Drop, B: Books> LoadingCache<K,
     ///
     /// `now` is in milliseconds. `TooHeavy` comes before `StepsSpent`, and both before memory is
     /// asked for; a refused value is dropped. Takes the lock of the key's shard for one step.
-    /// Expected O(1), unless an attacker chooses the keys (see `Seeded`); O(entries) if many leave.
+    /// Expected amortised O(1), unless an attacker chooses the keys (see `Seeded`); O(entries) if
+    /// many leave.
     pub fn put<R: Wait>(
         &self,
         rt: &R,
@@ -120,7 +121,7 @@ impl<K: CacheKey, V: Value<K>, L: Loader<K, V> + Drop, B: Books> LoadingCache<K,
     /// is no longer joined, and its value not stored.
     ///
     /// `now` is in milliseconds. Takes no memory of its own, and the lock of the key's shard for
-    /// one step. Expected O(1), unless an attacker chooses the keys (see `Seeded`).
+    /// one step. Expected amortised O(1), unless an attacker chooses the keys (see `Seeded`).
     pub fn invalidate<R: Wait>(
         &self,
         rt: &R,
@@ -142,7 +143,7 @@ impl<K: CacheKey, V: Value<K>, L: Loader<K, V> + Drop, B: Books> LoadingCache<K,
     /// expired: then it leaves.
     ///
     /// `now` is in milliseconds. Takes no memory of its own, and the lock of the key's shard for
-    /// one step. Expected O(1), unless an attacker chooses the keys (see `Seeded`).
+    /// one step. Expected amortised O(1), unless an attacker chooses the keys (see `Seeded`).
     pub fn forget<R: Wait>(
         &self,
         rt: &R,

@@ -40,14 +40,14 @@ impl Loader<u64, Number> for Tens {
     }
 }
 
-impl Service<u64, Number> for Tens {
+impl Service<u64, Number> for &Tens {
     type Answer = (u64, How);
 
     // Gets its own number, and once more.
     fn work<B: Books, R: Wait>(
         &self,
         thread: usize,
-        caller: &mut Caller<u64, Number, &Tens, B, R>,
+        caller: &mut Caller<u64, Number, Self, B, R>,
     ) -> Result<(u64, How), Fault> {
         let key = thread as u64;
         caller.get(key, 0)?;
@@ -109,14 +109,14 @@ impl Loader<u64, Number> for Meeting {
     }
 }
 
-impl Service<u64, Number> for Meeting {
+impl Service<u64, Number> for &Meeting {
     type Answer = bool;
 
     // Whether all have come.
     fn work<B: Books, R: Wait>(
         &self,
         _thread: usize,
-        _caller: &mut Caller<u64, Number, &Meeting, B, R>,
+        _caller: &mut Caller<u64, Number, Self, B, R>,
     ) -> Result<bool, Fault> {
         Ok(all_come(&self.come, self.threads))
     }

@@ -14,7 +14,7 @@ use wt_keys::Fault;
 use wt_shards::Books;
 
 // A service that asks for values just before they reach an age, and at that age.
-#[derive(Drop)]
+#[derive(Clone, Copy)]
 struct Ages {
     age: u64,
 }
@@ -36,7 +36,7 @@ impl Service<u64, Number> for Ages {
     fn work<B: Books, R: Wait>(
         &self,
         _thread: usize,
-        caller: &mut Caller<u64, Number, &Ages, B, R>,
+        caller: &mut Caller<u64, Number, Ages, B, R>,
     ) -> Result<Found, Fault> {
         caller.put(1, Keyed { key: 1, value: 0 }, 0)?;
         caller.put(2, Keyed { key: 2, value: 0 }, 0)?;
@@ -56,7 +56,7 @@ fn found<R: Threads + Wait + Sync>(
     age: u64,
 ) -> Result<Option<Result<Found, Fault>>, Fault> {
     let mut found = None;
-    for answer in serve(rt, alloc, config, shards, 1, &Ages { age })? {
+    for answer in serve(rt, alloc, config, shards, 1, Ages { age })? {
         found = Some(answer);
     }
     Ok(found)
@@ -103,14 +103,14 @@ impl Loader<u64, Number> for Crowd {
     }
 }
 
-impl Service<u64, Number> for Crowd {
+impl Service<u64, Number> for &Crowd {
     type Answer = How;
 
     // Gets a key of the one shard.
     fn work<B: Books, R: Wait>(
         &self,
         thread: usize,
-        caller: &mut Caller<u64, Number, &Crowd, B, R>,
+        caller: &mut Caller<u64, Number, Self, B, R>,
     ) -> Result<How, Fault> {
         let Some(key) = KEYS.get(thread) else {
             return Err(Fault::Mixed);

@@ -9,7 +9,7 @@ use wt_keys::Fault;
 use wt_shards::Books;
 
 // A service that reads one key.
-#[derive(Drop)]
+#[derive(Clone, Copy)]
 struct Reads {}
 
 impl Loader<u64, Number> for Reads {
@@ -22,7 +22,7 @@ impl Loader<u64, Number> for Reads {
 // Returns how many steps the caller's reads of key 1 make. A forget before them and one behind them
 // tell the numbers; neither finds a load.
 fn steps_of<B: Books, R: Wait>(
-    caller: &mut Caller<u64, Number, &Reads, B, R>,
+    caller: &mut Caller<u64, Number, Reads, B, R>,
     reads: u64,
 ) -> Result<u64, Fault> {
     let before = caller.forget(1, 0)?.step;
@@ -40,7 +40,7 @@ impl Service<u64, Number> for Reads {
     fn work<B: Books, R: Wait>(
         &self,
         _thread: usize,
-        caller: &mut Caller<u64, Number, &Reads, B, R>,
+        caller: &mut Caller<u64, Number, Reads, B, R>,
     ) -> Result<[u64; 4], Fault> {
         caller.read(1, 0)?;
         caller.put(1, Keyed { key: 1, value: 0 }, 0)?;
@@ -57,7 +57,7 @@ impl Service<u64, Number> for Reads {
 #[test]
 fn while_all_reads_hit_few_are_told(rt: HostRuntime) -> Result<(), Fail> {
     for shards in [1, 2, 4] {
-        for told in serve(&rt, rt.alloc(), &Config::of(4), shards, 1, &Reads {})? {
+        for told in serve(&rt, rt.alloc(), &Config::of(4), shards, 1, Reads {})? {
             same(&rt, "the looks behind reads", told, Ok([8, 71, 75, 8]));
         }
     }

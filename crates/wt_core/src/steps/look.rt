@@ -17,8 +17,8 @@ impl<K: CacheKey, V: Share + Weighs> Core<K, V> {
     ///
     /// The key's own expired entry leaves first. The key is counted last. `StepsSpent` comes before
     /// memory is asked for. Only a hit takes memory: shares, and from probation a place or two. So a
-    /// hit takes none if a share is a copy and the entry isn't in probation. Expected O(1), unless
-    /// an attacker chooses the keys (see `Seeded`).
+    /// hit takes none if a share is a copy and the entry isn't in probation. Expected amortised
+    /// O(1), unless an attacker chooses the keys (see `Seeded`).
     ///
     /// In use: `uses::plain::look`.
     pub fn look(&mut self, key: K, now: u64, notices: &mut Notices<K, V>) -> Result<Reply<V>, Fault>

@@ -17,8 +17,8 @@ impl<K: CacheKey, V: Share + Weighs> Core<K, V> {
     /// `now` is in milliseconds. The old value leaves as `Replaced`, or as `Expired` if it is. An
     /// entry that finds no place leaves as `Size`, and so do entries while the weights are above
     /// the bound. The key is counted last. `TooHeavy` comes before `StepsSpent`, and both before
-    /// memory is asked for; the refused value is dropped. Expected O(1), unless an attacker chooses
-    /// the keys (see `Seeded`); O(entries) if many leave.
+    /// memory is asked for; the refused value is dropped. Expected amortised O(1), unless an
+    /// attacker chooses the keys (see `Seeded`); O(entries) if many leave.
     ///
     /// In use: `uses::plain::put`.
     pub fn put(

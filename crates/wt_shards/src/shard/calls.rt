@@ -46,8 +46,8 @@ impl<K: CacheKey, V: Share + Weighs + Answers<K>, S: ShardLedger, H: Ledger> Sha
     /// value, or `Absent`.
     ///
     /// `StepsSpent` comes before `NoMemory`. Only a hit takes memory, and none if a share is a copy
-    /// and the entry isn't in probation; the lagging copy may. Expected O(1), unless an attacker
-    /// chooses the keys (see `Seeded`), and the cost of the dropped records.
+    /// and the entry isn't in probation; the lagging copy may. Expected amortised O(1), unless an
+    /// attacker chooses the keys (see `Seeded`), and the cost of the dropped records.
     pub fn look(
         &mut self,
         shares: &mut Shares<S, H>,
@@ -99,8 +99,8 @@ impl<K: CacheKey, V: Share + Weighs + Answers<K>, S: ShardLedger, H: Ledger> Sha
     /// Stores the value under the key, in place of one that is there.
     ///
     /// `now` is in milliseconds. `TooHeavy` comes before `StepsSpent`, and both before memory is
-    /// asked for; the refused value is dropped. Expected O(1), unless an attacker chooses the keys
-    /// (see `Seeded`); O(entries) if many leave, and the cost of the dropped records.
+    /// asked for; the refused value is dropped. Expected amortised O(1), unless an attacker chooses
+    /// the keys (see `Seeded`); O(entries) if many leave, and the cost of the dropped records.
     pub fn put(
         &mut self,
         shares: &mut Shares<S, H>,
@@ -124,8 +124,8 @@ impl<K: CacheKey, V: Share + Weighs + Answers<K>, S: ShardLedger, H: Ledger> Sha
     /// longer joined.
     ///
     /// `now` is in milliseconds. `StepsSpent` comes before `NoMemory`; only the lagging copy may
-    /// take memory. Expected O(1), unless an attacker chooses the keys (see `Seeded`), and the cost
-    /// of the dropped records.
+    /// take memory. Expected amortised O(1), unless an attacker chooses the keys (see `Seeded`),
+    /// and the cost of the dropped records.
     pub fn drop_key(
         &mut self,
         shares: &mut Shares<S, H>,
@@ -168,8 +168,8 @@ impl<K: CacheKey, V: Share + Weighs + Answers<K>, S: ShardLedger, H: Ledger> Sha
     /// there was one.
     ///
     /// `now` is in milliseconds. `StepsSpent` comes before `NoMemory`; only the lagging copy may
-    /// take memory. Expected O(1), unless an attacker chooses the keys (see `Seeded`), and the cost
-    /// of the dropped records.
+    /// take memory. Expected amortised O(1), unless an attacker chooses the keys (see `Seeded`),
+    /// and the cost of the dropped records.
     pub fn forget(
         &mut self,
         shares: &mut Shares<S, H>,

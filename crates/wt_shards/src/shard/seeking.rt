@@ -25,9 +25,9 @@ impl<K: CacheKey, V: Share + Weighs + Answers<K>, S: ShardLedger, H: Ledger> Sha
     /// `HitLead`, if the entry is due. Leads and tickets are of the landing that the shard keeps
     /// for the load; the lead's moment is `now`, in milliseconds. `StepsSpent` comes before
     /// `TooManyFlights`, and both before memory is asked for. A load takes memory, a join does for
-    /// its ticket, and a hit as a look's; the lagging copy may. Expected O(1), unless an attacker
-    /// chooses the keys (see `Seeded`); O(log(open loads)) on a join; and the cost of the dropped
-    /// records.
+    /// its ticket, and a hit as a look's; the lagging copy may. Expected amortised O(1), unless an
+    /// attacker chooses the keys (see `Seeded`); O(log(open loads)) on a join; and the cost of the
+    /// dropped records.
     #[tactic(auto, using(crate::proofs::Told::told_none, crate::proofs::Seeks::free_foreseen))]
     pub fn seek(
         &mut self,

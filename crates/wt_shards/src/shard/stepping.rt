@@ -142,7 +142,12 @@ impl<K: CacheKey, V: Share + Weighs + Answers<K>, S: ShardLedger, H: Ledger> Sha
         let _stats = self.core.stats();
         change(&mut self.landings, &noted, opened);
         let _dropped = self.ring.push_back(noted);
-        shares.count(&mut self.steps, &mut self.hits, hits(&reply));
+        let ledgers = &mut self.ledgers;
+        shares.count(
+            &mut ledgers.value.steps,
+            &mut ledgers.value.hits,
+            hits(&reply),
+        );
         Ok(reply)
     }
 

@@ -16,7 +16,6 @@ ghost use Rattle.wt_shards.specs.Sought.{reply_of};
 use crate::at_home::at_home;
 use crate::books::Books;
 use crate::done::Done;
-use crate::hold::hold;
 use crate::landings::Sharing;
 use crate::pass::Pass;
 use crate::recorded::Recorded;
@@ -26,17 +25,18 @@ use crate::shards::Shards;
 use crate::sought::Sought;
 use crate::sweep::Sweep;
 use crate::value::Value;
+use std::sync::Wait;
 use std::sync::ledger::Ledger;
-use std::sync::{Mutex, Wait};
 use wt_core::{Call, Land, Notices, Reply};
 use wt_flights::Lead;
 use wt_keys::{CacheKey, Fault, shard_of};
+use wt_stripes::Striped;
 
 // One call at one shard, which isn't a seek.
 #[inline(always)]
 fn step_at<K: CacheKey, V: Value<K>, S: ShardLedger, H: Ledger, R: Wait>(
     rt: &R,
-    shard: &Mutex<Recorded<K, V, S, H>>,
+    shard: &Striped<Recorded<K, V, S, H>>,
     pass: &mut ShardPass<K, V, S, H>,
     call: Call<K, V>,
     notices: &mut Notices<K, V>,
@@ -47,14 +47,15 @@ fn step_at<K: CacheKey, V: Value<K>, S: ShardLedger, H: Ledger, R: Wait>(
         (λ reply. reply) pass.old pass.new notices.old notices.new result }
     ensures answers { IfOk result (λ done. AnswersAsked V.answers call done.reply) }
 {
-    hold(rt, shard).step(rt, pass, call, notices)
+    let mut held = shard.write(rt);
+    held.value(rt).step(rt, pass, call, notices)
 }
 
 // One seek at one shard.
 #[inline(always)]
 fn seek_at<K: CacheKey, V: Value<K>, S: ShardLedger, H: Ledger, R: Wait>(
     rt: &R,
-    shard: &Mutex<Recorded<K, V, S, H>>,
+    shard: &Striped<Recorded<K, V, S, H>>,
     pass: &mut ShardPass<K, V, S, H>,
     key: K,
     now: u64,
@@ -69,7 +70,8 @@ fn seek_at<K: CacheKey, V: Value<K>, S: ShardLedger, H: Ledger, R: Wait>(
     ensures asked { IfOk result (λ done. IsOfKey key now done.reply.sought) }
     ensures shared { IfOk result (λ done. IsShared S.Naming.book done.reply) }
 {
-    hold(rt, shard).seek(rt, pass, key, now, notices)
+    let mut held = shard.write(rt);
+    held.value(rt).seek(rt, pass, key, now, notices)
 }
 
 impl<K: CacheKey, V: Value<K>, B: Books> Shards<K, V, B> {
@@ -103,9 +105,9 @@ impl<K: CacheKey, V: Value<K>, B: Books> Shards<K, V, B> {
     ///
     /// `now` is in milliseconds. `StepsSpent` comes before `NoMemory`. Only a hit takes memory, and
     /// none if a share is a copy and the entry isn't in probation; the shard's lagging copy may.
-    /// Takes that shard's lock, for one step. Expected O(1), unless an attacker chooses the keys
-    /// (see `Seeded`). Not promised: that the call returns, and that the result still holds when it
-    /// does.
+    /// Takes that shard's lock, for one step. Expected amortised O(1), unless an attacker chooses
+    /// the keys (see `Seeded`). Not promised: that the call returns, and that the result still
+    /// holds when it does.
     pub fn look<R: Wait>(
         &self,
         rt: &R,
@@ -129,8 +131,8 @@ impl<K: CacheKey, V: Value<K>, B: Books> Shards<K, V, B> {
     /// The reply is `Hit`, a `Join` with a ticket, or a `Lead` with the right to load and a ticket;
     /// or `HitLead`, if the entry is due. `now` is in milliseconds. `StepsSpent` comes before
     /// `TooManyFlights`, and both before memory is asked for. Takes that shard's lock, for one
-    /// step. Expected O(1), unless an attacker chooses the keys (see `Seeded`); O(log(open loads))
-    /// on a join. Not promised: that it returns.
+    /// step. Expected amortised O(1), unless an attacker chooses the keys (see `Seeded`);
+    /// O(log(open loads)) on a join. Not promised: that it returns.
     pub fn seek<R: Wait>(
         &self,
         rt: &R,
@@ -222,8 +224,8 @@ impl<K: CacheKey, V: Value<K>, B: Books> Shards<K, V, B> {
     ///
     /// `now` is in milliseconds. `TooHeavy` comes before `StepsSpent`, and both before memory is
     /// asked for; the refused value is dropped. Takes that shard's lock, for one step. Expected
-    /// O(1), unless an attacker chooses the keys (see `Seeded`); O(entries) if many leave. Not
-    /// promised: that it returns.
+    /// amortised O(1), unless an attacker chooses the keys (see `Seeded`); O(entries) if many
+    /// leave. Not promised: that it returns.
     pub fn put<R: Wait>(
         &self,
         rt: &R,
@@ -256,8 +258,8 @@ impl<K: CacheKey, V: Value<K>, B: Books> Shards<K, V, B> {
     /// step at the key's shard. Its current load is no longer joined.
     ///
     /// `now` is in milliseconds. `StepsSpent` comes before `NoMemory`; only the shard's lagging
-    /// copy may take memory. Takes that shard's lock, for one step. Expected O(1), unless an
-    /// attacker chooses the keys (see `Seeded`). Not promised: that it returns.
+    /// copy may take memory. Takes that shard's lock, for one step. Expected amortised O(1), unless
+    /// an attacker chooses the keys (see `Seeded`). Not promised: that it returns.
     pub fn drop_key<R: Wait>(
         &self,
         rt: &R,
@@ -306,8 +308,8 @@ impl<K: CacheKey, V: Value<K>, B: Books> Shards<K, V, B> {
     /// there was one, and the number of the step at the key's shard.
     ///
     /// `now` is in milliseconds. `StepsSpent` comes before `NoMemory`; only the shard's lagging
-    /// copy may take memory. Takes that shard's lock, for one step. Expected O(1), unless an
-    /// attacker chooses the keys (see `Seeded`). Not promised: that it returns.
+    /// copy may take memory. Takes that shard's lock, for one step. Expected amortised O(1), unless
+    /// an attacker chooses the keys (see `Seeded`). Not promised: that it returns.
     pub fn forget<R: Wait>(
         &self,
         rt: &R,

@@ -15,19 +15,21 @@ use crate::shards::Shards;
 use crate::totals::Totals;
 use crate::value::Value;
 use std::alloc::Global;
-use std::sync::Mutex;
+use std::sync::Wait;
 use std::sync::ledger::Ledger;
 use wt_keys::{CacheKey, Fault};
+use wt_stripes::Striped;
 
 // Ends the shard of a number, if there is one.
-fn end_at<K: CacheKey, V: Value<K>, S: ShardLedger, H: Ledger>(
-    shard: Option<Mutex<Recorded<K, V, S, H>>>,
+fn end_at<K: CacheKey, V: Value<K>, S: ShardLedger, H: Ledger, R: Wait>(
+    rt: &R,
+    shard: Option<Striped<Recorded<K, V, S, H>>>,
 ) -> Option<Ended<K, V, S, H>>
     ensures there { IsSome result ↔ IsSome shard }
     ensures sound { IfSome result (IsEnding (members_of K.CacheKey V.Value) S.ShardLedger.place) }
 {
     match shard {
-        Some(shard) => Some(shard.into_inner().close()),
+        Some(shard) => Some(shard.into_inner(rt).close()),
         None => None,
     }
 }
@@ -39,7 +41,7 @@ impl<K: CacheKey, V: Value<K>, B: Books> Shards<K, V, B> {
     /// shards any more, and no memory. O(entries).
     ///
     /// In use: `uses::lines::end`.
-    pub fn end(self) -> Ends<K, V, B>
+    pub fn end<R: Wait>(self, rt: &R) -> Ends<K, V, B>
         ensures shards { result.shards ≡ self.shards }
         ensures sound { AreEndings (members_of K.CacheKey V.Value) self result }
     {
@@ -53,10 +55,10 @@ impl<K: CacheKey, V: Value<K>, B: Books> Shards<K, V, B> {
         } = self;
         Ends {
             shards,
-            zero: end_at(zero),
-            one: end_at(one),
-            two: end_at(two),
-            three: end_at(three),
+            zero: end_at(rt, zero),
+            one: end_at(rt, one),
+            two: end_at(rt, two),
+            three: end_at(rt, three),
         }
     }
 
@@ -64,9 +66,9 @@ impl<K: CacheKey, V: Value<K>, B: Books> Shards<K, V, B> {
     /// `Ends::settle`.
     ///
     /// In use: `uses::lines::finish`.
-    pub fn settle<R>(
+    pub fn settle<R: Wait>(
         self,
-        _rt: &R,
+        rt: &R,
         _alloc: Global,
         passes: Vec<Pass<K, V, B>>,
     ) -> Result<Totals<B>, Fault>
@@ -78,7 +80,7 @@ impl<K: CacheKey, V: Value<K>, B: Books> Shards<K, V, B> {
             × IsMissing (members_of K.CacheKey V.Value) (place_of least self) passes.items
             × AddUpBelow (members_of K.CacheKey V.Value) self passes.items least) }
     {
-        let ends = self.end();
+        let ends = self.end(rt);
         ends.settle(passes)
     }
 }

@@ -7,7 +7,6 @@ ghost use Rattle.wt_shards.specs.Passes.{counts_of, front_of, new_shard_pass, ne
 ghost use Rattle.wt_shards.specs.Place.{place_of};
 
 use crate::books::{Blanks, Books};
-use crate::hold::hold;
 use crate::pass::Pass;
 use crate::recorded::Recorded;
 use crate::sampler::Sampler;
@@ -17,11 +16,12 @@ use crate::shard_pass::ShardPass;
 use crate::shards::Shards;
 use crate::value::Value;
 use std::alloc::Global;
+use std::sync::Wait;
 use std::sync::ledger::{Blank, Ledger};
-use std::sync::{Mutex, Wait};
 use wt_core::{Call, Config};
 use wt_history::Fresh;
 use wt_keys::{CacheKey, Fault, Field, NoMemory};
+use wt_stripes::Striped;
 
 // Checks the number of shards, and then the configuration.
 fn check(config: &Config, shards: usize) -> Result<(), Fault>
@@ -46,7 +46,7 @@ fn locked<K: CacheKey, V: Value<K>, S: ShardLedger, H: Ledger>(
     steps: Blank,
     hits: Blank,
     calls: Fresh<Call<K, V>>,
-) -> Result<Option<Mutex<Recorded<K, V, S, H>>>, NoMemory>
+) -> Result<Option<Striped<Recorded<K, V, S, H>>>, NoMemory>
     requires place { index < shards
         → S.ShardLedger.place ≡ place_of index (record { shards = shards; config = config.now }) }
     requires steps { IsBlankOf steps S.Ledger.name S.Ledger.parts }
@@ -58,10 +58,16 @@ fn locked<K: CacheKey, V: Value<K>, S: ShardLedger, H: Ledger>(
         return Ok(None);
     }
     match Shard::new(alloc, config, index, shards, steps, hits) {
-        Ok(shard) => Ok(Some(Mutex::new(Recorded {
-            shard,
-            history: calls.named::<S>(),
-        }))),
+        Ok(shard) => {
+            let recorded = Recorded {
+                shard,
+                history: calls.named::<S>(),
+            };
+            match Striped::new(alloc, recorded) {
+                Ok(striped) => Ok(Some(striped)),
+                Err(_) => Err(NoMemory),
+            }
+        }
         Err(_) => Err(NoMemory),
     }
 }
@@ -69,18 +75,19 @@ fn locked<K: CacheKey, V: Value<K>, S: ShardLedger, H: Ledger>(
 // Opens a new caller's pass at one shard: no counts, and an empty front.
 fn open_pass_of<K: CacheKey, V: Value<K>, S: ShardLedger, H: Ledger, R: Wait>(
     rt: &R,
-    shard: &Mutex<Recorded<K, V, S, H>>,
+    shard: &Striped<Recorded<K, V, S, H>>,
 ) -> Result<ShardPass<K, V, S, H>, Fault>
     ensures ok { IfOk result (λ pass. pass ≡ new_shard_pass) }
     ensures spent { IfErr result (λ f. f ≡ fault.PassesSpent) }
 {
-    hold(rt, shard).open_pass()
+    let mut held = shard.write(rt);
+    held.value(rt).open_pass()
 }
 
 // Opens a caller's pass at one shard, if there is one.
 fn open_pass_at<K: CacheKey, V: Value<K>, S: ShardLedger, H: Ledger, R: Wait>(
     rt: &R,
-    shard: &Option<Mutex<Recorded<K, V, S, H>>>,
+    shard: &Option<Striped<Recorded<K, V, S, H>>>,
 ) -> Result<Option<ShardPass<K, V, S, H>>, Fault>
     ensures there { IfOk result (λ pass. IsSome pass ↔ IsSome shard.now) }
     ensures counts { IfOk result (λ pass. counts_of pass ≡ no_steps) }
@@ -106,8 +113,8 @@ fn open_passes_at<
     R: Wait,
 >(
     rt: &R,
-    one: &Option<Mutex<Recorded<K, V, S, H>>>,
-    two: &Option<Mutex<Recorded<K, V, T, I>>>,
+    one: &Option<Striped<Recorded<K, V, S, H>>>,
+    two: &Option<Striped<Recorded<K, V, T, I>>>,
 ) -> Result<(Option<ShardPass<K, V, S, H>>, Option<ShardPass<K, V, T, I>>), Fault>
     ensures there { IfOk result (λ pass. (IsSome pass.0 ↔ IsSome one.now)
         × (IsSome pass.1 ↔ IsSome two.now)) }

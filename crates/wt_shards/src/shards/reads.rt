@@ -13,22 +13,22 @@ ghost use Rattle.wt_shards.specs.Tells.{IsHomeRead, IsTold};
 
 use crate::at_home::at_home;
 use crate::books::Books;
-use crate::hold::hold;
 use crate::pass::Pass;
 use crate::recorded::Recorded;
 use crate::shard_ledger::ShardLedger;
 use crate::shard_pass::ShardPass;
 use crate::shards::Shards;
 use crate::value::Value;
+use std::sync::Wait;
 use std::sync::ledger::Ledger;
-use std::sync::{Mutex, Wait};
 use wt_core::{Notices, Stats};
 use wt_keys::{CacheKey, Fault, shard_of};
+use wt_stripes::Striped;
 
 // The numbers of one shard, if there is one.
 fn stats_at<K: CacheKey, V: Value<K>, S: ShardLedger, H: Ledger, R: Wait>(
     rt: &R,
-    shard: &Option<Mutex<Recorded<K, V, S, H>>>,
+    shard: &Option<Striped<Recorded<K, V, S, H>>>,
 ) -> Stats
     ensures none { IsNone shard.now → result ≡ no_numbers }
     ensures looked { result.hits + result.misses ≡ result.lookups }
@@ -39,16 +39,17 @@ fn stats_at<K: CacheKey, V: Value<K>, S: ShardLedger, H: Ledger, R: Wait>(
     let Some(shard) = shard else {
         return Stats::NOTHING;
     };
-    let held = hold(rt, shard);
+    let held = shard.read(rt, 0);
+    let recorded = &*held;
     // For the prover: shows what holds of the shard.
-    let _steps = held.shard.steps();
-    held.shard.stats()
+    let _steps = recorded.shard.steps();
+    recorded.shard.stats()
 }
 
 // The numbers of one shard after a history that the caller then has seen, if there is a shard.
 fn seen_stats_at<K: CacheKey, V: Value<K>, S: ShardLedger, H: Ledger, R: Wait>(
     rt: &R,
-    shard: &Option<Mutex<Recorded<K, V, S, H>>>,
+    shard: &Option<Striped<Recorded<K, V, S, H>>>,
     pass: &mut Option<ShardPass<K, V, S, H>>,
 ) -> Stats
     requires alike { IsSome shard.now ↔ IsSome pass.old }
@@ -62,7 +63,7 @@ fn seen_stats_at<K: CacheKey, V: Value<K>, S: ShardLedger, H: Ledger, R: Wait>(
     ensures small { AreSmall result }
 {
     match (shard, pass) {
-        (Some(shard), Some(part)) => hold(rt, shard).stats(rt, part),
+        (Some(shard), Some(part)) => shard.read(rt, part.stripe).stats(rt, part),
         _ => Stats::NOTHING,
     }
 }
@@ -71,7 +72,7 @@ fn seen_stats_at<K: CacheKey, V: Value<K>, S: ShardLedger, H: Ledger, R: Wait>(
 #[inline(always)]
 fn peek_at<K: CacheKey, V: Value<K>, S: ShardLedger, H: Ledger, R: Wait>(
     rt: &R,
-    shard: &Mutex<Recorded<K, V, S, H>>,
+    shard: &Striped<Recorded<K, V, S, H>>,
     pass: &mut ShardPass<K, V, S, H>,
     key: K,
     now: u64,
@@ -80,7 +81,7 @@ fn peek_at<K: CacheKey, V: Value<K>, S: ShardLedger, H: Ledger, R: Wait>(
         pass.old pass.new result }
     ensures answers { IfOk result (FoundAnswers V.answers key) }
 {
-    hold(rt, shard).peek(rt, pass, key, now)
+    shard.read(rt, pass.stripe).peek(rt, pass, key, now)
 }
 
 impl<K: CacheKey, V: Value<K>, B: Books> Shards<K, V, B> {
@@ -136,10 +137,10 @@ impl<K: CacheKey, V: Value<K>, B: Books> Shards<K, V, B> {
     /// the shard, and by the pass. A read that finds nothing is followed by no look, since a seek or
     /// a put of the key comes next.
     ///
-    /// `now` is in milliseconds. `NoMemory` comes only if the share of the value is refused. Takes
-    /// that shard's lock, and for a look once more. Expected O(1), unless an attacker chooses the
-    /// keys (see `Seeded`). Not promised: that the call returns, and that the result still holds
-    /// when it does.
+    /// `now` is in milliseconds. `NoMemory` is the only fault. Takes memory for the share of the
+    /// value, and for a look what that takes. Takes that shard's lock, and for a look once more.
+    /// Expected amortised O(1), unless an attacker chooses the keys (see `Seeded`). Not promised:
+    /// that the call returns, and that the result still holds when it does.
     pub fn read<R: Wait>(
         &self,
         rt: &R,

@@ -56,7 +56,7 @@ const ROWS: [(Field, u64, bool); 43] = [
 fn a_window_may_follow_a_replay_of_any_kind(rt: HostRuntime) {
     for (threads, turn) in [(0, 0), (2, 0), (0, 2)] {
         let options = Options {
-            entries: 512,
+            entries: 64,
             threads,
             turn,
             adaptive: 1,

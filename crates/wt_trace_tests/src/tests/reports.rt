@@ -137,9 +137,9 @@ fn durations_weights_and_failures_are_the_options(rt: HostRuntime) {
     expect_reports(&rt, rt.alloc(), &rows);
 }
 
-// Until its first choice an adviser wants two fifths of the entries, and a store is no look-up.
+// Until its first choice an adviser wants a tenth of the entries, and a store is no look-up.
 #[test]
-fn an_adaptive_window_begins_with_two_fifths(rt: HostRuntime) -> Result<(), Fail> {
+fn an_adaptive_window_begins_with_a_tenth(rt: HostRuntime) -> Result<(), Fail> {
     let mut input = Vec::new(rt.alloc());
     for n in 0..600u32 {
         let (hundreds, tens, ones) = (n / 100 % 10, n / 10 % 10, n % 10);
@@ -155,20 +155,15 @@ fn an_adaptive_window_begins_with_two_fifths(rt: HostRuntime) -> Result<(), Fail
         adaptive,
         ..Options::default()
     };
-    let (two_fifths, _) = replayed(rt.alloc(), &input, &of_512(Some(204), 0));
+    let (tenth, _) = replayed(rt.alloc(), &input, &of_512(Some(51), 0));
     let (hundredth, _) = replayed(rt.alloc(), &input, &of_512(None, 0));
     let (adaptive, ended) = replayed(rt.alloc(), &input, &of_512(None, 1));
     same(&rt, "how the run ends", ended, Ok(()));
-    same(
-        &rt,
-        "the report",
-        adaptive.as_slice(),
-        two_fifths.as_slice(),
-    );
+    same(&rt, "the report", adaptive.as_slice(), tenth.as_slice());
     holds(
         &rt,
         "another window gives up other keys",
-        hundredth.as_slice() != two_fifths.as_slice(),
+        hundredth.as_slice() != tenth.as_slice(),
     );
     Ok(())
 }

@@ -161,13 +161,13 @@ invariant_of-self-2 g c =
       ap (λ (x : Buffer (Call K Shade)). x.capacity) c.push_back-dropped.ensures.items ∙ inv.1,
       omega (arith, c.change.ensures.capacity, inv.2),
       inv.3,
-      omega (arith, c.count.ensures.steps, ap (λ (x : State K V). x.step) made, to.number, inv.4),
-      c.count.ensures.hits ∙ (λ i. inv.5 i + (if (c.hits.ensures ∙ ap is_hit told) i then 1 else 0))
+      omega (arith, c.count.ensures.steps, ap (λ (x : State K V). x.step) made, to.number, (λ i. (c.ledgers.view_is i).steps.total) ∙ inv.4),
+      c.count.ensures.hits ∙ (λ i. ((λ j. (c.ledgers.view_is j).hits.total) ∙ inv.5) i + (if (c.hits.ensures ∙ ap is_hit told) i then 1 else 0))
           ∙ sym to.hits ∙ sym (ap (λ (x : State K V). x.counts.hits) made),
-      inv.6,
-      inv.7,
-      inv.8,
-      inv.9,
+      (λ i. (c.ledgers.view_is i).steps_left.parts + b.given) ∙ inv.6,
+      (λ i. (c.ledgers.view_is i).hits_left.parts + b.given) ∙ inv.7,
+      (λ i. (c.ledgers.view_is i).steps_left.amount) ∙ inv.8,
+      (λ i. (c.ledgers.view_is i).hits_left.amount) ∙ inv.9,
       inv.10,
     )
 
@@ -346,7 +346,7 @@ returns-clause-later g c =
     let made = c.in-Ok-take_met.ensures.state ∙ ap (λ (m : Made K V). m.state) (taken-made eq word measure s2.core call allowed2) in
     let to = step-to eq word measure s2.core call in
     let core_step : s2.core.step ≡ now.core.step = ap (λ (x : State K V). x.step) core2 in
-    (omega (arith, c.count.ensures.later, inv.4, core_step), omega (arith, ap (λ (x : State K V). x.step) made, to.number, core_step))
+    (omega (arith, c.count.ensures.later, (λ i. (c.ledgers.view_is i).steps.total) ∙ inv.4, core_step), omega (arith, ap (λ (x : State K V). x.step) made, to.number, core_step))
 
 pub returns-clause-told : goal.returns-clause-told
 returns-clause-told g c =

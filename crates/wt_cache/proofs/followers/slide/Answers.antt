@@ -1,16 +1,16 @@
-use Rattle.std.proofs.Common.{arith, ◌∙◌, add-one, nat_lt, subst, Ok}
+use Rattle.std.proofs.Common.{arith, ◌∙◌, add-one, subst, Ok}
 use Rattle.wt_regions.specs.Notices.{NoticeList}
 use Rattle.wt_core.specs.declared.calls.Call.TheVariants.{Slide}
 use Rattle.wt_core.specs.declared.calls.Reply.TheVariants.{Slid}
 use Rattle.wt_shards.specs.Contract.{IsHomeCall}
 use Rattle.wt_shards.specs.Members.{members_by}
 use Rattle.wt_shards.specs.Place.{home_at}
-use Rattle.wt_cache.proofs.followers.Follower.slide.Goals as goal
+use Rattle.wt_cache.proofs.followers.slide.Goals as goal
 
 pub loop-slides-preserved : goal.loop-slides-preserved
 loop-slides-preserved g c =
     let before = c.loop-slides.invariant in
-    let wider = nat_lt c.loop-slides.self.window c.wanted-wanted.result in
+    let wider = c.loop-slides.claim.wider in
     let IsMadeFrom = λ (from to : NoticeList g.row.K.Denot g.row.V.Denot). IsHomeCall
     (members_by g.K.PartialEq.eq g.K.CacheKey.word g.V.Weighs.measure g.V.Answers.answers)
     (home_at g.K.CacheKey.word c.args.key c.args.cache.now.layout) (Slide wider c.args.now) Slid c.loop-slides.pass

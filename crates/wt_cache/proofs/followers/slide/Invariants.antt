@@ -2,7 +2,7 @@ use Rattle.std.proofs.Common.{◌-◌, ◌≡◌, ◌≤◌}
 use Rattle.wt_shards.specs.Members.{members_by}
 use Rattle.wt_shards.specs.Place.{home_at}
 use Rattle.wt_cache.specs.Follows.{AreSlides}
-use Rattle.wt_cache.proofs.followers.Follower.slide.Given as goal
+use Rattle.wt_cache.proofs.followers.slide.Given as goal
 
 abbrev pub invariant-loop-slides : goal.invariant-loop-slides
 invariant-loop-slides g l = record {
