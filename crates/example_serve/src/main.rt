@@ -2,11 +2,7 @@
 #![tactic(auto)]
 
 // README begins
-use std::sync::Wait;
-use wt_cache::{Caller, Keyed, Loader, Service, serve};
-use wt_core::Config;
-use wt_keys::Fault;
-use wt_shards::Books;
+use rookdresser::{Cache, Config, Fault, Keyed, Loader, Monotonic, Service, World, serve};
 
 type Page = Keyed<u64, u64>;
 
@@ -23,19 +19,19 @@ impl Loader<u64, Page> for Source {
 impl Service<u64, Page> for Source {
     type Answer = u64;
 
-    fn work<B: Books, R: Wait>(
+    fn work<W: World<u64, Page>>(
         &self,
         _thread: usize,
-        caller: &mut Caller<u64, Page, &Source, B, R>,
+        cache: &mut Cache<u64, Page, W>,
     ) -> Result<u64, Fault> {
-        let got = caller.get(7, 0)?;
-        Ok(got.value.value)
+        Ok(cache.get(7)?.value)
     }
 }
 
 fn main(rt: HostRuntime) -> Result<(), anyhow::Error> {
     let config = Config::of(64).with_after_write(60_000);
-    for words in serve(&rt, rt.alloc(), &config, 4, 8, &Source {})? {
+    let clock = Monotonic::of(&rt);
+    for words in serve(&rt, rt.alloc(), &config, 4, 8, &Source {}, &clock)?.answers {
         println!(rt; "page 7 has {} words", words?)?;
     }
     Ok(())

@@ -1,0 +1,13 @@
+use Rattle.std.proofs.Common.{inr}
+use Rattle.rookdresser.proofs.Slid.{followed-more}
+use Rattle.rookdresser.proofs.cache.Cache.follow.Goals as goal
+
+pub returns-in-Some : goal.returns-in-Some
+returns-in-Some g c = record {
+  made = inr (record {
+    slides = c.follow.result;
+    made = c.follow.ensures.made;
+    same = c.follow.ensures.same;
+    more = followed-more _ _ _ _ _ _ _ _ c.follow.ensures.made;
+  });
+}
