@@ -100,7 +100,7 @@ enum rd_fault {
     RD_BUSY = 105,             /* another call is at work: nothing has happened, and the same call may succeed later */
     RD_LOST = 106,             /* the cache is lost, and from now on each call is busy. No code leads here, but no clause
                                   says so: report it */
-    /* Of rookdresser_loading.h alone, which makes them itself: */
+    /* Not of the library: rookdresser_loading.h makes both, and rookdresser_waiting.h the second one: */
     RD_TIMED_OUT = 999,        /* the deadline has passed, and the load that the call waited for goes on */
     RD_WAITS_FOR_ITSELF = 1000 /* the load waits for this very call, so it would never end */
 };
@@ -204,6 +204,17 @@ typedef struct rd_numbers {
     uint64_t latest;  /* the latest moment */
     uint64_t flights; /* loads that are open now */
 } rd_numbers;
+
+/* The version of this header: a million times its first number, a thousand times its second, and its third, so 2000 is 0.2.0. A
+ * version that is in work has the number of the release to come. */
+#define RD_VERSION 2000
+
+/* Returns the library's version, in the same form. */
+uint64_t rd_version(void);
+
+/* Whether the library is of this header's version. If it isn't, make no other call: it may lay out the structs in another way. Ask
+ * before your first call, if your program may find another librookdresser.so than it was compiled for. */
+static inline bool rd_is_this_version(void) { return rd_version() == RD_VERSION; }
 
 /* Returns 0, or the first setting that is out of its range, in this order: 1 entries, 2 window, 4 bound, 3 flights. It never
  * returns 5 after_write, 6 after_access or 7 refresh: these take every number. */
@@ -340,12 +351,12 @@ typedef struct rd_adviser {
 } rd_adviser;
 #define RD_ADVISER_INIT {0, false}
 
-/* Opens an adviser for entries entries, 512 to 4,194,304. Faults, in this order: RD_OPEN_ALREADY; RD_BAD_SETUP if entries is
+/* Opens an adviser for entries entries, 64 to 4,194,304. Faults, in this order: RD_OPEN_ALREADY; RD_BAD_SETUP if entries is
  * out of its range; RD_OUT_OF_MEMORY. A fault leaves the adviser as it was. It keeps at most entries / 16 keys, or 256. */
 uint64_t rd_open_adviser(uint32_t entries, rd_adviser *adviser);
 
 /* Shows the adviser the look-ups of n keys, in their order and whether they hit or not, and sets window to how many entries it
- * wants the window to hold: 1 to entries, and 40 hundredths at first. A call of rd_slide then moves the window by one entry.
+ * wants the window to hold: 1 to entries, and 10 hundredths at first. A call of rd_slide then moves the window by one entry.
  * RD_OUT_OF_MEMORY if a small cache was refused memory: it has not seen a key then, but all else is done, so the caller may go
  * on. RD_CLOSED writes nothing. keys isn't null even if n is 0. */
 uint64_t rd_advise(rd_adviser *adviser, const uint64_t *keys, size_t n, uint32_t *window);

@@ -9,9 +9,10 @@
  *     while (rd_shared_look(&theirs, 1, 0, &answer) == RD_BUSY);                     in another one
  *
  * What is proved, of all threads and whatever they do at once: all callers of a cache agree on one list of calls, its
- * history. A call that isn't busy stands in it, behind every call that its caller had made or met, and its answer and its
- * notices are those that rd_look and the others of rookdresser.h give at this place. A call that is refused memory changes
- * nothing, and isn't in the list. No clause says that a call isn't always busy, or is made once and not twice; tests show it.
+ * history. A call that returns an answer stands in it, behind every call that its caller had made or met, and its answer and
+ * its notices are those that rd_look and the others of rookdresser.h give at this place. A call that is busy or refused memory
+ * changes nothing, and isn't in the list. Of one that returns RD_LOST nothing is said. No clause says that the list has no
+ * other calls, or that a call isn't always busy, or is made once and not twice; tests show it.
  *
  * The rules of rookdresser.h hold for an rd_caller as for an rd_cache, but that the callers of one cache may be used at the
  * same time. Nothing checks them, unless you define RD_CHECK before you include this header and in each file that does: then a
@@ -19,6 +20,8 @@
  *
  *  - A caller has one call at a time. Another thread may use it next, if a lock or that thread's start or join orders the calls.
  *  - Two callers that one call takes are different ones.
+ *  - A forked child doesn't use the caches of its parent. If another thread was in a call of one, that call never ends in the
+ *    child, which gets RD_BUSY for ever.
  *
  * A token stands for a value of yours. Once another thread's call has a notice that a token left, that thread may free its
  * value, while this one still uses it. So let the token be the value, or count the users of each value yourself.
@@ -116,7 +119,8 @@ uint64_t rd_shared_get_notice(rd_caller *caller, uint64_t i, rd_notice *notice);
 uint64_t rd_shared_get_notice_name(rd_caller *caller, uint64_t i, rd_name_notice *notice);
 
 /* Writes the place of this caller's latest call in the history, from 1; 0 before its first. A call that the cache refused has a
- * place too; of one that was refused memory, or that was busy, it is an earlier place. */
+ * place too. One that was refused memory has none: then it writes how many calls, of all callers, stand before it. One that was
+ * busy changes nothing here. */
 uint64_t rd_shared_get_place(rd_caller *caller, uint64_t *place);
 
 /* Writes the numbers of the cache right behind all calls up to now, all of this one moment, as rd_get_numbers does, whichever keys

@@ -26,7 +26,7 @@ static rd_follower follower = RD_FOLLOWER_INIT;
 
 static void open_both(uint64_t after_write) {
     rd_setup setup = {.entries = ENTRIES, .flights = 1, .bound = 1 << 20, .after_write = after_write};
-    CHECK(rd_open_follower(&setup, &follower) == RD_OK && setup.window == 204 && follower.window == 204 && follower.wanted == 204);
+    CHECK(rd_open_follower(&setup, &follower) == RD_OK && setup.window == 51 && follower.window == 51 && follower.wanted == 51);
     CHECK(rd_open(&setup, &cache) == RD_OK);
 }
 
@@ -39,23 +39,23 @@ static void test_an_adviser(void) {
     const uint64_t keys[] = {1, 2, 3};
     uint32_t window = 77;
     CHECK(rd_advise(&adviser, keys, 3, &window) == RD_CLOSED && window == 77 && rd_close_adviser(&adviser) == RD_CLOSED);
-    CHECK(rd_open_adviser(511, &adviser) == RD_BAD_SETUP && rd_open_adviser(4194305, &adviser) == RD_BAD_SETUP && !adviser.is_open);
-    CHECK(rd_open_adviser(4194304, &adviser) == RD_OK && rd_advise(&adviser, keys, 0, &window) == RD_OK && window == 1677721);
+    CHECK(rd_open_adviser(63, &adviser) == RD_BAD_SETUP && rd_open_adviser(4194305, &adviser) == RD_BAD_SETUP && !adviser.is_open);
+    CHECK(rd_open_adviser(4194304, &adviser) == RD_OK && rd_advise(&adviser, keys, 0, &window) == RD_OK && window == 419430);
     CHECK(rd_close_adviser(&adviser) == RD_OK && !adviser.is_open);
-    CHECK(rd_open_adviser(512, &adviser) == RD_OK && rd_open_adviser(511, &adviser) == RD_OPEN_ALREADY && adviser.is_open);
-    CHECK(rd_advise(&adviser, keys, 3, &window) == RD_OK && window == 204);
+    CHECK(rd_open_adviser(64, &adviser) == RD_OK && rd_open_adviser(63, &adviser) == RD_OPEN_ALREADY && adviser.is_open);
+    CHECK(rd_advise(&adviser, keys, 3, &window) == RD_OK && window == 6);
     CHECK(rd_close_adviser(&adviser) == RD_OK && rd_close_adviser(&adviser) == RD_CLOSED);
 }
 
 static void test_each_fault(void) {
-    rd_setup setup = {.entries = 511, .window = 77};
+    rd_setup setup = {.entries = 63, .window = 77};
     CHECK(rd_follow(&follower, &cache, 1) == RD_CLOSED && rd_close_follower(&follower) == RD_CLOSED);
     CHECK(rd_open_follower(&setup, &follower) == RD_BAD_SETUP);
     setup.entries = 4194305;
     CHECK(rd_open_follower(&setup, &follower) == RD_BAD_SETUP);
     CHECK(setup.window == 77 && follower.window == 0 && !follower.adviser.is_open);
     open_both(0);
-    CHECK(rd_open_follower(&setup, &follower) == RD_OPEN_ALREADY && setup.window == 77 && follower.window == 204);
+    CHECK(rd_open_follower(&setup, &follower) == RD_OPEN_ALREADY && setup.window == 77 && follower.window == 51);
     CHECK(rd_close(&cache) == RD_OK && rd_follow(&follower, &cache, 1) == RD_OK);
     follower.window = 100;
     CHECK(rd_follow(&follower, &cache, 1) == RD_CLOSED && follower.window == 100);
@@ -116,16 +116,16 @@ static void test_four_slides_for_each_key(void) {
     const uint64_t keys[] = {1, 2, 3};
     rd_numbers n;
     open_both(0);
-    follower.window = 100; /* it really is 204: so the border ends at 308 */
-    CHECK(rd_follow(&follower, &cache, 1) == RD_OK && follower.window == 104);
-    CHECK(rd_follow_many(&follower, &cache, keys, 3) == RD_OK && follower.window == 116);
-    CHECK(rd_follow_many(&follower, &cache, keys, 0) == RD_OK && follower.window == 116);
+    follower.window = 11; /* it really is 51: so the border ends at 91 */
+    CHECK(rd_follow(&follower, &cache, 1) == RD_OK && follower.window == 15);
+    CHECK(rd_follow_many(&follower, &cache, keys, 3) == RD_OK && follower.window == 27);
+    CHECK(rd_follow_many(&follower, &cache, keys, 0) == RD_OK && follower.window == 27);
     for (int i = 0; i < 30; i++) CHECK(rd_follow(&follower, &cache, 1) == RD_OK);
-    CHECK(follower.window == 204 && rd_get_numbers(&cache, &n) == RD_OK && n.step == 104 && n.latest == 0);
+    CHECK(follower.window == 51 && rd_get_numbers(&cache, &n) == RD_OK && n.step == 40 && n.latest == 0);
     /* A follower that takes the border for another one stops where the cache's ends. */
     follower.window = 600;
     for (int i = 0; i < 200; i++) CHECK(rd_follow(&follower, &cache, 1) == RD_OK);
-    CHECK(follower.window == 293);
+    CHECK(follower.window == 510);
     close_both();
 }
 
@@ -148,8 +148,8 @@ static void test_names(void) {
     rd_answer a;
     CHECK(rd_open_follower(&setup, &follower) == RD_OK && rd_open_names(&setup, &cache) == RD_OK);
     CHECK(rd_look_name(&cache, &alice, 0, &a) == RD_OK);
-    follower.window = 203;
-    CHECK(rd_follow(&follower, &cache, rd_seeded(seed, "alice", 5)) == RD_OK && follower.window == 204);
+    follower.window = 50;
+    CHECK(rd_follow(&follower, &cache, rd_seeded(seed, "alice", 5)) == RD_OK && follower.window == 51);
     close_both();
 }
 
@@ -173,23 +173,23 @@ static void test_memory_refused_to_slides(void) {
     open_both(0);
     popular(300);
     for (uint32_t i = 0; i < 40; i++) {
-        follower.window = 204 - 8;
+        follower.window = 51 - 8;
         CHECK(rd_get_numbers(&cache, &before) == RD_OK);
         refuse_in = i % 8;
         uint64_t fault = rd_follow(&follower, &cache, 1); /* 1 isn't of the sample */
         refuse_in = -1;
-        uint32_t moved = follower.window - (204 - 8);
+        uint32_t moved = follower.window - (51 - 8);
         CHECK(fault ? fault == RD_OUT_OF_MEMORY && moved < 4 : moved == 4);
         refused += fault == RD_OUT_OF_MEMORY;
         CHECK(rd_get_numbers(&cache, &after) == RD_OK && after.step == before.step + moved);
         CHECK(after.entries == before.entries && after.weight == before.weight);
-        CHECK(rd_follow(&follower, &cache, 1) == RD_OK && follower.window == 204 - 8 + moved + 4);
+        CHECK(rd_follow(&follower, &cache, 1) == RD_OK && follower.window == 51 - 8 + moved + 4);
         /* Back to where the border was. */
         rd_answer a;
         for (uint32_t j = 0; j < moved + 4; j++) CHECK(rd_slide(&cache, false, 0, &a) == RD_OK && a.number == 1);
     }
     CHECK(refused >= 10);
-    follower.window = 204;
+    follower.window = 51;
     popular(2000);
     CHECK(follower.window == 5);
     close_both();
@@ -202,11 +202,11 @@ static void test_memory_refused_to_an_adviser(void) {
     open_both(0);
     for (uint64_t i = 0; i < 200; i++) {
         rd_answer a;
-        follower.window = 200;
+        follower.window = 47;
         refuse_in = (long)(i % 3);
         uint64_t fault = rd_follow(&follower, &cache, i / 2 - 180 * (i % 2) + 1000);
         refuse_in = -1;
-        CHECK((fault == RD_OK || fault == RD_OUT_OF_MEMORY) && follower.window == 204);
+        CHECK((fault == RD_OK || fault == RD_OUT_OF_MEMORY) && follower.window == 51);
         refused += fault == RD_OUT_OF_MEMORY;
         for (int j = 0; j < 4; j++) CHECK(rd_slide(&cache, false, 0, &a) == RD_OK && a.number == 1);
     }

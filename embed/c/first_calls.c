@@ -61,6 +61,7 @@ int main(void) {
     CHECK(rd_slide(&cache, true, 0, &a) == RD_CLOSED && a.kind == 77);
     CHECK(rd_peek(&cache, 1, 0, &a) == RD_CLOSED && a.kind == 77);
     CHECK(rd_close(&cache) == RD_CLOSED);
+    CHECK(rd_is_this_version() && rd_version() == RD_VERSION);
     CHECK(rd_check(&setup) == 0);
     CHECK(rd_open(&setup, &cache) == 0 && cache.is_open);
     CHECK(rd_open(&setup, &cache) == RD_OPEN_ALREADY);

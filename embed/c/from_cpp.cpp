@@ -39,7 +39,7 @@ int main() {
     ok = ok && rd_loading_close(&loading) == RD_OK && left == 2 * RD_EXPLICIT;
     rd_follower follower = RD_FOLLOWER_INIT;
     setup.entries = 512;
-    ok = ok && rd_open_follower(&setup, &follower) == RD_OK && setup.window == 204 && rd_open(&setup, &cache) == RD_OK;
+    ok = ok && rd_open_follower(&setup, &follower) == RD_OK && setup.window == 51 && rd_open(&setup, &cache) == RD_OK;
     ok = ok && rd_look(&cache, 1, 0, &a) == RD_OK && rd_follow(&follower, &cache, 1) == RD_OK;
     ok = ok && rd_close_follower(&follower) == RD_OK && rd_close(&cache) == RD_OK;
     rd_gate gate = RD_GATE_INIT;

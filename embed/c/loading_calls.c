@@ -225,7 +225,7 @@ static void test_a_window_that_follows(void) {
     rd_setup setup = {.entries = 512, .window = 77, .flights = 0, .bound = 1000};
     CHECK(rd_loading_open_adaptive(&l, &setup, destroy) == RD_BAD_SETUP && !l.cache.is_open && rd_loading_window(&l) == 0);
     setup.flights = 4;
-    setup.entries = 511;
+    setup.entries = 63;
     CHECK(rd_loading_open_adaptive(&l, &setup, destroy) == RD_BAD_SETUP && !l.cache.is_open && rd_loading_window(&l) == 0);
     setup.entries = 512;
     for (long i = 0;; i++) {
@@ -235,7 +235,7 @@ static void test_a_window_that_follows(void) {
         if (!fault) break;
         CHECK(fault == RD_OUT_OF_MEMORY && !l.cache.is_open && !l.follower.adviser.is_open);
     }
-    CHECK(rd_loading_window(&l) == 204 && rd_loading_open_adaptive(&l, &setup, destroy) == RD_OPEN_ALREADY);
+    CHECK(rd_loading_window(&l) == 51 && rd_loading_open_adaptive(&l, &setup, destroy) == RD_OPEN_ALREADY);
     for (uint64_t i = 0; i < 20000; i++) {
         request r = {.key = i % 2 ? 1000000 + i / 2 : i / 2 % 512, .number = 1};
         get(&r);
@@ -262,11 +262,11 @@ static void test_a_window_that_follows(void) {
     setup.after_write = 100;
     CHECK(rd_loading_open_adaptive(&l, &setup, destroy) == RD_OK);
     CHECK(rd_loading_put(&l, 1, new_value(1), 1, 0) == RD_OK && rd_loading_put(&l, 2, new_value(2), 1, 0) == RD_OK);
-    l.follower.window = 100;
+    l.follower.window = 20;
     request again = {.key = 2, .now = 200, .number = 3};
-    CHECK(looked(1, 200) == 0 && l.follower.window == 104 && live == 1);
+    CHECK(looked(1, 200) == 0 && l.follower.window == 24 && live == 1);
     get(&again);
-    CHECK(again.got == 3 && l.follower.window == 108 && live == 1);
+    CHECK(again.got == 3 && l.follower.window == 28 && live == 1);
     whole();
     CHECK(rd_loading_close(&l) == RD_OK && live == 0);
 }

@@ -2,6 +2,7 @@
  * kind 0 and changes nothing: the numbers are the same, and the call made again succeeds and answers what the
  * twin answers. */
 #include "keys.h"
+#include "rookdresser_shared.h"
 #include <string.h>
 #define CHECK(x)                                                                                             \
     do {                                                                                                     \
@@ -53,7 +54,27 @@ static uint64_t op_with_notice(rd_cache *c, unsigned what, uint64_t k, uint64_t 
     if (95 <= what && what < 98) return DROP_WITH_NOTICE(c, GIVEN(k), now, a, first);
     return op(c, what, k, id, v, now, a);
 }
+/* A caller whose put is refused memory has no place for it: it is told how many calls stand before, all of them another caller's. */
+static int a_refused_call_has_no_place(void) {
+    const rd_setup setup = {.entries = 64, .window = 4, .flights = 4, .bound = 900};
+    rd_caller mine = RD_CALLER_INIT, theirs = RD_CALLER_INIT;
+    const rd_token one = {1, 1};
+    rd_answer answer;
+    uint64_t place = 77;
+    long i = 0;
+    CHECK(CALL(rd_shared_open, rd_shared_open_names)(&setup, &mine) == RD_OK && rd_shared_another(&mine, &theirs) == RD_OK);
+    for (; i < 40; i++) CHECK(CALL(rd_shared_put, rd_shared_put_name)(&mine, GIVEN((uint64_t)i), one, 0, &answer) == RD_OK);
+    CHECK(rd_shared_get_place(&theirs, &place) == RD_OK && place == 0);
+    fail_in = 0;
+    CHECK(CALL(rd_shared_put, rd_shared_put_name)(&theirs, GIVEN(99), one, 0, &answer) == RD_OUT_OF_MEMORY && fail_in == -1);
+    CHECK(rd_shared_get_place(&theirs, &place) == RD_OK && place == 40);
+    CHECK(CALL(rd_shared_look, rd_shared_look_name)(&theirs, GIVEN(99), 0, &answer) == RD_OK && answer.kind == RD_ABSENT);
+    CHECK(rd_shared_get_place(&theirs, &place) == RD_OK && place == 41);
+    return rd_shared_close(&mine) || rd_shared_close(&theirs);
+}
 int main(void) {
+    if (a_refused_call_has_no_place()) return 1;
+    failed = 0;
     rd_setup setup = {
         .entries = 32, .window = 4, .flights = 8, .bound = 300, .after_write = 2000, .refresh = 500};
     rd_cache c = RD_CACHE_INIT, twin = RD_CACHE_INIT;

@@ -28,8 +28,8 @@ typedef struct rd_follower {
 } rd_follower;
 #define RD_FOLLOWER_INIT {RD_ADVISER_INIT, 0, 0}
 
-/* Opens a follower for a cache of setup's entries, and sets setup's window to what it wants at first: 40 hundredths of them. Open the
- * cache with this setup then. Faults, in this order: RD_OPEN_ALREADY; RD_BAD_SETUP if the entries are fewer than 512 or more than
+/* Opens a follower for a cache of setup's entries, and sets setup's window to what it wants at first: 10 hundredths of them. Open the
+ * cache with this setup then. Faults, in this order: RD_OPEN_ALREADY; RD_BAD_SETUP if the entries are fewer than 64 or more than
  * 4,194,304, though rd_open takes at most 65,536; RD_OUT_OF_MEMORY. A fault leaves both as they were. O(entries). */
 static inline uint64_t rd_open_follower(rd_setup *setup, rd_follower *follower) {
     const uint64_t none = 0;

@@ -91,7 +91,7 @@ static inline uint64_t rd_loading_open(rd_loading *l, const rd_setup *setup, voi
 }
 
 /* Opens an empty cache whose window follows the look-ups; the setup's window doesn't count. Faults, in this order: RD_OPEN_ALREADY;
- * RD_BAD_SETUP, also for fewer than 512 entries; RD_OUT_OF_MEMORY. A fault leaves the cache as it was. If memory is refused later to
+ * RD_BAD_SETUP, also for fewer than 64 entries; RD_OUT_OF_MEMORY. A fault leaves the cache as it was. If memory is refused later to
  * the adviser or to a slide, no call fails, and a later one goes on. */
 static inline uint64_t rd_loading_open_adaptive(rd_loading *l, const rd_setup *setup, void (*destroy)(rd_shared *value)) {
     rd_setup adapted = *setup;
@@ -130,6 +130,9 @@ static inline uint32_t rd_loading_window(rd_loading *l) {
     return window;
 }
 
+static inline uint64_t rd_loading_token(rd_shared *value) { return (uint64_t)(uintptr_t)value; }
+static inline rd_shared *rd_loading_value(uint64_t token) { return (rd_shared *)(uintptr_t)token; }
+
 /* Takes another share of a value of which the caller has one, and returns the value. Without a value it does nothing. */
 static inline rd_shared *rd_loading_share(rd_shared *value) {
     if (value) __atomic_add_fetch(&value->shares, 1, __ATOMIC_RELAXED);
@@ -153,7 +156,7 @@ static inline uint64_t rd_loading_made(rd_loading *l, uint64_t fault, const rd_a
         else
             RD_LOADING_NOTICE(&l->cache, i, &notice);
         rd_count_left(&l->stats, notice.cause);
-        rd_shared *value = (rd_shared *)(uintptr_t)notice.token;
+        rd_shared *value = rd_loading_value(notice.token);
         value->key = notice.key;
         value->cause = notice.cause;
         value->next = *left;
@@ -188,11 +191,6 @@ static inline void rd_loading_leave(rd_loading *l, rd_shared *left) {
         pthread_mutex_unlock(&l->lock);
 }
 
-static inline rd_token rd_loading_token(rd_shared *value, uint32_t weight) {
-    rd_token token = {(uint64_t)(uintptr_t)value, weight};
-    return token;
-}
-
 /* Returns the life, for the calls below, of an entry that is to expire in so many milliseconds: 0 counts as 1, and more than 2^32 - 1,
  * which are 49 days, count as no life. */
 static inline uint32_t rd_loading_life(uint64_t ms) { return ms > UINT32_MAX ? 0 : ms ? (uint32_t)ms : 1; }
@@ -201,12 +199,13 @@ static inline uint32_t rd_loading_life(uint64_t ms) { return ms > UINT32_MAX ? 0
  * durations; a life of 0 is none. No use lengthens it, and the next store of the key gives its entry another life, or none. A value that
  * is refused is destroyed. */
 static inline uint64_t rd_loading_put_for(rd_loading *l, rd_loading_key key, rd_shared *value, uint32_t weight, uint32_t life, uint64_t now) {
+    const rd_token token = {rd_loading_token(value), weight};
     rd_answer answer;
     rd_loading_notice first;
     rd_shared *left = 0;
     value->shares = 1;
     pthread_mutex_lock(&l->lock);
-    uint64_t fault = RD_LOADING_PUT(&l->cache, RD_LOADING_KEY(key), rd_loading_token(value, weight), life, now, &answer, &first);
+    uint64_t fault = RD_LOADING_PUT(&l->cache, RD_LOADING_KEY(key), token, life, now, &answer, &first);
     fault = rd_loading_made(l, fault, &answer, &first, &left);
     rd_loading_leave(l, left);
     if (fault) rd_loading_release(l, value);
@@ -226,7 +225,7 @@ static inline uint64_t rd_loading_look(rd_loading *l, rd_loading_key key, uint64
     pthread_mutex_lock(&l->lock);
     uint64_t fault = RD_LOADING_CALL(rd_look, &l->cache, RD_LOADING_KEY(key), now, &answer);
     if (!rd_loading_made(l, fault, &answer, 0, &left) && answer.kind == RD_HIT)
-        *value = rd_loading_share((rd_shared *)(uintptr_t)answer.token);
+        *value = rd_loading_share(rd_loading_value(answer.token));
     rd_loading_follow(l, fault, key);
     rd_loading_leave(l, left);
     return fault;
@@ -236,25 +235,19 @@ static inline uint64_t rd_loading_look(rd_loading *l, rd_loading_key key, uint64
  * is looked at as the thread is about to sleep: a listener or a destroy may make loads before. */
 static inline uint64_t rd_loading_join(rd_loading *l, rd_flight *of, const struct timespec *deadline, rd_shared *left, rd_shared **value) {
     rd_wait wait;
-    uint64_t fault = RD_OK;
     rd_wait_begin(&wait, of, deadline != 0);
     if (left) {
         rd_loading_leave(l, left);
         pthread_mutex_lock(&l->lock);
     }
-    if (!wait.is_over && rd_flight_waits_for(l->loads, of, wait.thread))
-        fault = RD_WAITS_FOR_ITSELF;
-    else if (!rd_wait_sleep(&wait, &l->lock, deadline))
-        fault = RD_TIMED_OUT;
-    rd_wait_end(&wait);
+    uint64_t fault = rd_wait_sleep(&wait, l->loads, &l->lock, deadline);
     pthread_mutex_unlock(&l->lock);
-    *value = wait.value;
-    return fault ? fault : wait.error;
+    if (!fault) *value = rd_loading_value(wait.value.token);
+    return fault;
 }
 
 /* Closes a load. A value of which memory is refused isn't stored. The lock is held. */
-static inline void rd_loading_land(rd_loading *l, const rd_flight *of, rd_loading_key key, uint32_t weight, uint32_t life, uint64_t now,
-                                   rd_shared **left) {
+static inline void rd_loading_land(rd_loading *l, const rd_flight *of, rd_loading_key key, uint32_t life, uint64_t now, rd_shared **left) {
     rd_answer answer;
     rd_loading_notice first;
     uint64_t fault;
@@ -263,13 +256,13 @@ static inline void rd_loading_land(rd_loading *l, const rd_flight *of, rd_loadin
         rd_loading_made(l, fault, &answer, 0, left);
         return;
     }
-    rd_loading_share(of->value);
-    fault = RD_LOADING_LAND(&l->cache, of->id, RD_LOADING_KEY(key), rd_loading_token(of->value, weight), life, now, &answer, &first);
+    rd_shared *value = rd_loading_share(rd_loading_value(of->value.token));
+    fault = RD_LOADING_LAND(&l->cache, of->id, RD_LOADING_KEY(key), of->value, life, now, &answer, &first);
     if (rd_loading_made(l, fault, &answer, &first, left) == RD_OUT_OF_MEMORY) {
         fault = RD_LOADING_CALL(rd_land_loose, &l->cache, of->id, RD_LOADING_KEY(key), now, &answer);
         rd_loading_made(l, fault, &answer, 0, left);
     }
-    if (fault || answer.kind != RD_KEPT) rd_loading_release(l, of->value);
+    if (fault || answer.kind != RD_KEPT) rd_loading_release(l, value);
 }
 
 /* A load that a thread has to make. */
@@ -283,27 +276,34 @@ typedef struct rd_loading_task {
     rd_shared *old; /* the value of an entry that was due, with a share, or none */
 } rd_loading_task;
 
+/* Runs the load. Writes its value, of which the caller then has the only share, or its error. */
+static inline void rd_loading_run(const rd_loading_task *task, rd_flight *of, uint32_t *life) {
+    rd_shared *value = 0;
+    of->value.weight = 1;
+    of->error = task->load ? task->load(task->context, task->key, &value, &of->value.weight)
+                           : task->load_for(task->context, task->key, &value, &of->value.weight, life);
+    if (of->error) return;
+    value->shares = 1;
+    of->value.token = rd_loading_token(value);
+}
+
 /* Makes a load. The lock is held, and given back. */
 static inline uint64_t rd_loading_lead(rd_loading *l, const rd_loading_task *task, rd_shared *left, rd_shared **value) {
-    rd_flight of = {task->id, pthread_self(), 0, RD_OK, 0, l->loads};
-    uint32_t weight = 1, life = 0;
+    rd_flight of;
+    uint32_t life = 0;
     rd_shared *landed = 0, **end = &left; /* what left by the landing comes behind what left by the look-up */
-    l->loads = &of;
+    rd_flight_begin(&l->loads, &of, task->id);
     pthread_mutex_unlock(&l->lock);
-    of.error = task->load ? task->load(task->context, task->key, &of.value, &weight)
-                          : task->load_for(task->context, task->key, &of.value, &weight, &life);
-    if (of.error)
-        of.value = 0;
-    else
-        of.value->shares = 1;
+    rd_loading_run(task, &of, &life);
     pthread_mutex_lock(&l->lock);
-    rd_loading_land(l, &of, task->key, weight, life, task->now, &landed);
+    rd_loading_land(l, &of, task->key, life, task->now, &landed);
     while (*end) end = &(*end)->next;
     *end = landed;
-    long waits = rd_flight_end(&l->loads, &of);
-    if (of.value) __atomic_add_fetch(&of.value->shares, waits, __ATOMIC_RELAXED);
+    long waits = rd_flight_tell(&of);
+    rd_flight_remove(&l->loads, &of);
+    if (!of.error) __atomic_add_fetch(&rd_loading_value(of.value.token)->shares, waits, __ATOMIC_RELAXED);
     rd_loading_leave(l, left);
-    *value = of.error ? task->old : of.value;
+    *value = of.error ? task->old : rd_loading_value(of.value.token);
     if (of.error) return task->old ? (uint64_t)RD_OK : of.error;
     rd_loading_release(l, task->old);
     return RD_OK;
@@ -324,7 +324,7 @@ static inline uint64_t rd_loading_ask(rd_loading *l, rd_loading_key key, uint64_
         return fault;
     }
     if (answer.kind == RD_JOIN) return rd_loading_join(l, rd_flight_of(l->loads, answer.number), deadline, left, value);
-    if (answer.kind != RD_LEAD) held = rd_loading_share((rd_shared *)(uintptr_t)answer.token);
+    if (answer.kind != RD_LEAD) held = rd_loading_share(rd_loading_value(answer.token));
     if (answer.kind != RD_HIT) {
         const rd_loading_task task = {answer.number, key, now, load, load_for, context, held};
         return rd_loading_lead(l, &task, left, value);

@@ -7,35 +7,32 @@
  *
  * A call that is busy asks again a few times, and then sleeps until another call of the gate ends, a millisecond at most. None of
  * this is in the proof: it decides only when to call again. That a call gets its turn is tested, and not promised. On Linux threads
- * sleep at a futex, elsewhere at a condition of pthreads. It needs the __atomic functions of gcc or clang, and pthreads.
+ * sleep at a futex, elsewhere at a condition of pthreads. It needs the __atomic functions of gcc or clang, and pthreads; strict C,
+ * as by -std=c11, is enough.
  */
 #ifndef ROOKDRESSER_WAITING_H
 #define ROOKDRESSER_WAITING_H
+#include "rookdresser_flights.h"
 #include "rookdresser_shared.h"
-#include <pthread.h>
-#include <time.h>
 #ifdef __linux__
 #include <linux/futex.h>
 #include <sys/syscall.h>
 #include <unistd.h>
+#ifndef __cplusplus
+long syscall(long number, ...); /* <unistd.h> hides it in strict C */
 #endif
-
-/* How a load ended, on the stack of the thread that made it, until each thread that joined it has read it. */
-typedef struct rd_ended {
-    uint64_t id, fault, readers; /* how many haven't read it */
-    rd_token value;
-    struct rd_ended *next;
-} rd_ended;
+#endif
 
 /* What the threads of a cache wait at. */
 typedef struct rd_gate {
     uint32_t turn;     /* moves when a call ends while others sleep */
     uint32_t sleepers; /* how many calls sleep, or are about to */
     pthread_mutex_t lock; /* of all that follows */
-    pthread_cond_t moved; /* a load has ended, or the last thread has read how; not on Linux: or a call has ended */
-    rd_ended *ended;
+    pthread_cond_t moved; /* a load has begun or was abandoned, or a thread has joined one that is over; not on Linux: or a call has ended */
+    rd_flight *loads;
+    uint64_t abandoned; /* the largest id of a load that its thread couldn't land; 0 if there is none */
 } rd_gate;
-#define RD_GATE_INIT {0, 0, PTHREAD_MUTEX_INITIALIZER, PTHREAD_COND_INITIALIZER, 0}
+#define RD_GATE_INIT {0, 0, PTHREAD_MUTEX_INITIALIZER, PTHREAD_COND_INITIALIZER, 0, 0}
 
 enum { RD_TRIES = 64, RD_PAUSES = 16, RD_NAP_NS = 1000000 };
 
@@ -108,68 +105,101 @@ static inline void rd_wake(rd_gate *gate) {
         if (__atomic_load_n(&(gate)->sleepers, __ATOMIC_SEQ_CST)) rd_wake(gate);                  \
     } while (0)
 
-/* Loads a key: writes the value and returns RD_OK, or returns an error of yours above 1000. It has to return, and must not get a
- * key of the same cache for which its own thread loads. */
+/* Loads a key: writes the value and returns RD_OK, or returns an error of yours above 1000. It may get other keys of the cache, and has
+ * to return: it must neither longjmp out nor be cancelled. If it closes its own caller, its value isn't stored: see rd_shared_get. */
 typedef uint64_t rd_load_token(void *context, uint64_t key, rd_token *value);
 
-/* Inside rd_shared_get: lets the threads that joined the load know how it ended, and waits until each has read it. */
-static inline void rd_tell_ended(rd_gate *gate, rd_ended *ended) {
-    if (!ended->readers) return;
+/* Inside rd_shared_get: begins a load that the library has opened for this thread. */
+static inline void rd_gate_begin(rd_gate *gate, rd_flight *of, uint64_t id) {
     pthread_mutex_lock(&gate->lock);
-    ended->next = gate->ended;
-    gate->ended = ended;
+    rd_flight_begin(&gate->loads, of, id);
     pthread_cond_broadcast(&gate->moved);
-    while (ended->readers) pthread_cond_wait(&gate->moved, &gate->lock);
-    rd_ended **at = &gate->ended;
-    while (*at != ended) at = &(*at)->next;
-    *at = ended->next;
     pthread_mutex_unlock(&gate->lock);
 }
 
-/* Inside rd_shared_get: waits until the load has ended, and reads how. */
-static inline uint64_t rd_read_ended(rd_gate *gate, uint64_t id, rd_token *value) {
+/* Inside rd_shared_get: ends a load. If it was landed, so many threads joined it, and the last of them may still be on its way here. Else
+ * nobody knows how many did: one that comes later finds the load abandoned. */
+static inline void rd_gate_end(rd_gate *gate, rd_flight *of, bool is_landed, uint64_t joins) {
     pthread_mutex_lock(&gate->lock);
-    rd_ended *ended;
-    for (;;) {
-        for (ended = gate->ended; ended && ended->id != id; ended = ended->next) {}
-        if (ended) break;
-        pthread_cond_wait(&gate->moved, &gate->lock);
+    rd_flight_tell(of);
+    while (is_landed && of->joined < joins) pthread_cond_wait(&gate->moved, &gate->lock);
+    rd_flight_remove(&gate->loads, of);
+    if (!is_landed && gate->abandoned < of->id) {
+        gate->abandoned = of->id;
+        pthread_cond_broadcast(&gate->moved);
     }
-    uint64_t fault = ended->fault;
-    if (!fault) *value = ended->value;
-    if (!--ended->readers) pthread_cond_broadcast(&gate->moved);
     pthread_mutex_unlock(&gate->lock);
-    return fault;
+}
+
+/* Inside rd_shared_get: waits for a load that the library has joined this thread to, and sets fault to RD_OK, with its value, to its
+ * error or to RD_WAITS_FOR_ITSELF. Returns false if the load was abandoned, or perhaps isn't here yet. */
+static inline bool rd_gate_join(rd_gate *gate, uint64_t id, rd_token *value, uint64_t *fault) {
+    rd_flight *of;
+    rd_wait wait;
+    pthread_mutex_lock(&gate->lock);
+    while (!(of = rd_flight_of(gate->loads, id)) && id > gate->abandoned) pthread_cond_wait(&gate->moved, &gate->lock);
+    const bool is_there = of != 0;
+    if (is_there) {
+        rd_wait_begin(&wait, of, false);
+        if (wait.is_over) pthread_cond_broadcast(&gate->moved);
+        *fault = rd_wait_sleep(&wait, gate->loads, &gate->lock, 0);
+        if (!*fault) *value = wait.value;
+    }
+    pthread_mutex_unlock(&gate->lock);
+    return is_there;
 }
 
 /* Inside rd_shared_get: loads a value under an id, lands it, and hands it to the threads that joined. If there is no memory to store
  * it, it lands as loose, which takes none. */
 static inline uint64_t rd_make_load(rd_gate *gate, rd_caller *caller, uint64_t id, uint64_t key, uint64_t now, rd_load_token *load,
                                     void *context, rd_token *value, rd_answer *answer) {
-    uint64_t fault = load(context, key, value), landed;
-    if (fault) {
+    rd_flight of;
+    uint64_t landed;
+    rd_gate_begin(gate, &of, id);
+    of.error = load(context, key, value);
+    if (of.error) {
         RD_WAITING(gate, landed, rd_shared_land_failed(caller, id, key, now, answer));
     } else {
+        of.value = *value;
         RD_WAITING(gate, landed, rd_shared_land_keep(caller, id, key, *value, now, answer));
         if (landed == RD_OUT_OF_MEMORY) RD_WAITING(gate, landed, rd_shared_land_loose(caller, id, key, now, answer));
     }
     /* The answer's number is how many shared the load, this thread among them. */
-    rd_ended ended = {id, fault, landed || answer->kind == RD_GONE ? 0 : answer->number - 1, *value, 0};
-    rd_tell_ended(gate, &ended);
-    return fault ? fault : landed;
+    rd_gate_end(gate, &of, landed == RD_OK && answer->kind != RD_GONE, answer->number - 1);
+    return of.error ? of.error : landed;
+}
+
+/* Inside rd_shared_get: waits for the load, or closes it as failed if it was abandoned. If its thread turns out to land it first, or
+ * another one to have closed it, this thread looks for it once more. Returns false if the key has to be sought again. */
+static inline bool rd_join_or_close(rd_gate *gate, rd_caller *caller, uint64_t id, uint64_t key, uint64_t now, rd_token *value,
+                                    uint64_t *fault) {
+    rd_answer closed;
+    if (rd_gate_join(gate, id, value, fault)) return true;
+    RD_WAITING(gate, *fault, rd_shared_land_failed(caller, id, key, now, &closed));
+    return *fault || (closed.kind == RD_GONE && rd_gate_join(gate, id, value, fault));
 }
 
 /* Writes the value of the key: one that is held, or one that this thread loads, or one that another thread is loading, for which it
  * waits. Returns RD_OK, a fault, or the error of the load, which all that share it get; an entry that is due keeps its old value if
  * its load fails. Afterwards the answer and the notices are those of the latest call: the landing if this thread loaded. All seeks of
- * a cache have to be made by this function, since a load waits until each thread that joined it has its outcome. */
+ * a cache have to be made by this function, with one gate, since a load waits until each thread that joined it has come for its outcome.
+ *
+ * RD_WAITS_FOR_ITSELF if a load asks for its own key, or for a key of this cache whose load waits for this thread, over however many
+ * other threads. Not promised: that a load ends, nor that a circle is found that leads through another cache or through threads that a
+ * load starts.
+ *
+ * If a load's caller was closed meanwhile, its value can't be landed. The thread that made it returns RD_CLOSED, those that had joined
+ * get the value, which isn't stored, and the next that would join closes the load as failed and loads again. Until then it counts as open. */
 static inline uint64_t rd_shared_get(rd_gate *gate, rd_caller *caller, uint64_t key, uint64_t now, rd_load_token *load, void *context,
                                      rd_token *value, rd_answer *answer) {
-    uint64_t fault;
-    RD_WAITING(gate, fault, rd_shared_seek(caller, key, now, answer));
-    if (fault) return fault;
-    uint64_t id = answer->number;
-    if (answer->kind == RD_JOIN) return rd_read_ended(gate, id, value);
+    uint64_t fault, id;
+    for (;;) {
+        RD_WAITING(gate, fault, rd_shared_seek(caller, key, now, answer));
+        if (fault) return fault;
+        id = answer->number;
+        if (answer->kind != RD_JOIN) break;
+        if (rd_join_or_close(gate, caller, id, key, now, value, &fault)) return fault;
+    }
     if (answer->kind == RD_LEAD) return rd_make_load(gate, caller, id, key, now, load, context, value, answer);
     value->token = answer->token;
     value->weight = answer->weight;

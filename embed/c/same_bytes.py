@@ -1,5 +1,6 @@
 #!/usr/bin/env python3
-"""Replays random traces with random options by the proved program and through the header: both have to write the same bytes and
+"exec" "python3" "$0" "$@"  # sh hands this file to Python
+__doc__ = """Replays random traces with random options by the proved program and through the header: both have to write the same bytes and
 end with the same status. Keys are numbers, or names that spell one."""
 import random
 import subprocess

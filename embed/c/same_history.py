@@ -1,5 +1,6 @@
 #!/usr/bin/env python3
-"""Plays the calls that shared_calls lists, in the order of their places, on the model: it has to give the same replies."""
+"exec" "python3" "$0" "$@"  # sh hands this file to Python
+__doc__ = """Plays the calls that shared_calls lists, in the order of their places, on the model: it has to give the same replies."""
 import subprocess
 import sys
 from pathlib import Path

@@ -1,5 +1,6 @@
 #!/usr/bin/env python3
-"""Plays random streams through rookdresser_adaptive.h and by tools/model/adviser.py, which is written from the rule alone: the hits, the
+"exec" "python3" "$0" "$@"  # sh hands this file to Python
+__doc__ = """Plays random streams through rookdresser_adaptive.h and by tools/model/adviser.py, which is written from the rule alone: the hits, the
 windows at each look-up and how often another was chosen have to be the same."""
 import random
 import subprocess
@@ -40,7 +41,7 @@ def main():
     total = choices = 0
     for seed in range(words.streams):
         r = random.Random(seed)
-        entries = r.choice([512, 513, 700, 1024])
+        entries = r.choice([64, 100, 200, 512, 513, 700, 1024])
         keys = stream_of(r, entries, 20 * entries)
         hits, mean, chosen = play(keys, entries)
         said = subprocess.run([words.tried, str(entries)], input="\n".join(map(str, keys)), capture_output=True, text=True, check=True).stdout

@@ -63,7 +63,7 @@ int main(void) {
     }
     /* Each get is a seek, each load a landing, and there are no other calls. */
     CHECK(most == (uint64_t)THREADS * EACH + loads);
-    CHECK(errors >= failures / 2 && hits > 0 && !gate.ended && !gate.sleepers);
+    CHECK(errors >= failures / 2 && hits > 0 && !gate.loads && !gate.abandoned && !gate.sleepers);
     printf("shared_loads: %d gets of %d threads, never two loads of a key at once\n", THREADS * EACH, THREADS);
     return 0;
 }

@@ -10,8 +10,8 @@ SAMPLE_FACTOR = 0xA0761D6478BD642F
 HIT = 65_536
 # In hundredths of the entries.
 SHARES = (1, 10, 40, 100)
-FIRST_SHARE = 40
-LEAST_ENTRIES, MOST_ENTRIES = 512, 64 * 65_536
+FIRST_SHARE = 10
+LEAST_ENTRIES, MOST_ENTRIES = 64, 64 * 65_536
 SLIDES = 4
 
 
@@ -85,8 +85,8 @@ class Adviser:
             self.choices += 1
 
     def fade(self):
-        self.hits = {share: 7 * hits // 8 for share, hits in self.hits.items()}
-        self.sampled = 7 * self.sampled // 8
+        self.hits = {share: 15 * hits // 16 for share, hits in self.hits.items()}
+        self.sampled = 15 * self.sampled // 16
 
 
 def window_after(keys, entries):

@@ -1,3 +1,4 @@
+pub mod Examples
 pub mod Looks
 pub mod Shown
 pub mod SlidBy

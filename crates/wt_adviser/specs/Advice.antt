@@ -113,7 +113,7 @@ module _ {K : Type 0} where
 
 -- what holds of an adviser at all times: `below` is its limit for a key's product, `room` is for notices
 pub record IsAdvising {K : Type 0} (a : Advice K) (below room : ℕ) : Type 0 where
-  pub least : 512 ≤ a.entries
+  pub least : 64 ≤ a.entries
   pub most : a.entries ≤ 4194304
   pub sampled : below ≡ sampled_below a.entries
   pub since : a.tally.since < epoch a.entries
@@ -121,9 +121,9 @@ pub record IsAdvising {K : Type 0} (a : Advice K) (below room : ℕ) : Type 0 wh
   pub tenth : a.tenth.caps.entries ≤ room
   pub two_fifths : a.two_fifths.caps.entries ≤ room
   pub whole : a.whole.caps.entries ≤ room
-  -- no count can wrap: each is below that of seven epochs and the look-ups since
-  pub few_hundredth : a.tally.hundredth ≤ 65536 * (7 * epoch a.entries + a.tally.since)
-  pub few_tenth : a.tally.tenth ≤ 65536 * (7 * epoch a.entries + a.tally.since)
-  pub few_two_fifths : a.tally.two_fifths ≤ 65536 * (7 * epoch a.entries + a.tally.since)
-  pub few_whole : a.tally.whole ≤ 65536 * (7 * epoch a.entries + a.tally.since)
-  pub few : a.tally.sampled ≤ 65536 * (7 * epoch a.entries + a.tally.since)
+  -- no count can wrap: each is below that of fifteen epochs and the look-ups since
+  pub few_hundredth : a.tally.hundredth ≤ 65536 * (15 * epoch a.entries + a.tally.since)
+  pub few_tenth : a.tally.tenth ≤ 65536 * (15 * epoch a.entries + a.tally.since)
+  pub few_two_fifths : a.tally.two_fifths ≤ 65536 * (15 * epoch a.entries + a.tally.since)
+  pub few_whole : a.tally.whole ≤ 65536 * (15 * epoch a.entries + a.tally.since)
+  pub few : a.tally.sampled ≤ 65536 * (15 * epoch a.entries + a.tally.since)

@@ -11,11 +11,11 @@ count_of hit = if hit then 2 ^ 16 else 0
 
 -- a count that weighs less once a share is chosen
 abbrev pub faded : ℕ → ℕ
-faded n = (7 * n) / 8
+faded n = (15 * n) / 16
 
--- nothing was counted, and a window of two fifths is in use
+-- nothing was counted, and a window of a tenth is in use
 abbrev pub nothing_counted : Tally
-nothing_counted = record { hundredth = 0; tenth = 0; two_fifths = 0; whole = 0; sampled = 0; since = 0; chosen = TwoFifths }
+nothing_counted = record { hundredth = 0; tenth = 0; two_fifths = 0; whole = 0; sampled = 0; since = 0; chosen = Tenth }
 
 -- the hits with a window of this share
 abbrev pub hits_of : Share → Tally → ℕ

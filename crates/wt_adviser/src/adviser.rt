@@ -3,7 +3,7 @@
 //   look-up ──► of the sample? ──► counted, and looked up in four small caches, whose windows are
 //          │                       1, 10, 40 and 100 hundredths: a hit counts for that window
 //          └──► after entries / 2 look-ups the window with the most hits is chosen, if it leads the
-//               one in use by more than a hundredth of the sample; all counts are taken times 7/8
+//               one in use by more than a hundredth of the sample; all counts are taken times 15/16
 //
 // The small caches obey the rules of the whole one. They share one sketch, since it counts keys and
 // not hits.
@@ -24,8 +24,8 @@ use wt_keys::{CacheKey, Fault, Field, NoMemory};
 use wt_regions::Notices;
 use wt_sketch::Sketch;
 
-// Below this a small cache would be too large a part of the whole one.
-const LEAST_ENTRIES: u32 = 512;
+// Below this the whole cache has fewer entries than a small one.
+const LEAST_ENTRIES: u32 = 64;
 // So that a small cache has at most as many entries as a cache may have.
 const MOST_ENTRIES: u32 = 64 * 65_536;
 // A small cache has one entry for 64 of the cache, and looks up one key of 64.
@@ -120,13 +120,13 @@ fn product(word: u64) -> u64
 impl<K: CacheKey> Adviser<K> {
     /// Makes an adviser for a cache, or several with one policy, of `entries` entries in all.
     ///
-    /// `BadConfig` of the entries, if they are below 512 or above 4,194,304, comes before `NoMemory`.
+    /// `BadConfig` of the entries, if they are below 64 or above 4,194,304, comes before `NoMemory`.
     /// Takes memory for the tables of four caches of a sixty-fourth of the entries, 64 at least.
     /// O(entries).
     pub fn new(alloc: Global, entries: u32) -> Result<Adviser<K>, Fault>
         ensures ok { IfOk result (λ adviser. adviser ≡ opening entries) }
-        ensures within { IsOk result → (nat_le 512 entries && nat_le entries 4194304) ≡ true }
-        ensures refusal { IfErr result (λ f. f ≡ (if nat_le 512 entries && nat_le entries 4194304
+        ensures within { IsOk result → (nat_le 64 entries && nat_le entries 4194304) ≡ true }
+        ensures refusal { IfErr result (λ f. f ≡ (if nat_le 64 entries && nat_le entries 4194304
             then fault.NoMemory else fault.BadConfig Entries)) }
     {
         if entries < LEAST_ENTRIES || entries > MOST_ENTRIES {
@@ -142,7 +142,7 @@ impl<K: CacheKey> Adviser<K> {
 
     // The same, with small caches of `small` entries.
     fn with_small(alloc: Global, entries: u32, small: u32) -> Result<Adviser<K>, Fault>
-        requires within { (512 ≤ entries) × (entries ≤ 4194304) }
+        requires within { (64 ≤ entries) × (entries ≤ 4194304) }
         requires made_for { small ≡ small_entries entries }
         ensures { IfOk result (λ adviser. adviser ≡ opening entries) }
     {

@@ -8,9 +8,9 @@ ghost use Rattle.wt_adviser.specs.Small.{hundredths, window_of};
 pub enum Share {
     /// One in a hundred: best if a few keys stay popular.
     Hundredth,
-    /// One in ten.
+    /// One in ten: where an adviser begins.
     Tenth,
-    /// Two in five: where an adviser begins.
+    /// Two in five.
     TwoFifths,
     /// All of them, which is LRU: best if the popular keys change all the time.
     Whole,

@@ -42,12 +42,12 @@ fn count_of(hit: bool) -> u64
     if hit { HIT } else { 0 }
 }
 
-// Seven eighths.
+// Fifteen sixteenths.
 fn faded(count: u64) -> u64
     requires { count < 2 ^ 60 }
     ensures { result ≡ faded count }
 {
-    7 * count / 8
+    15 * count / 16
 }
 
 impl Tally {
@@ -59,7 +59,7 @@ impl Tally {
         whole: 0,
         sampled: 0,
         since: 0,
-        chosen: Share::TwoFifths,
+        chosen: Share::Tenth,
     };
 
     // The hits with a window of this share.

@@ -47,9 +47,9 @@ fn window_after_pairs(alloc: Global, lookups: u64) -> Result<u32, Fail> {
     Ok(window_after(alloc, 512, &keys)?)
 }
 
-fn window_after_scan(alloc: Global, lookups: u64, popular: u64) -> Result<u32, Fail> {
+fn window_after_scan(alloc: Global, entries: u32, lookups: u64, popular: u64) -> Result<u32, Fail> {
     let keys = popular_in_a_scan(alloc, lookups, popular)?;
-    Ok(window_after(alloc, 512, &keys)?)
+    Ok(window_after(alloc, entries, &keys)?)
 }
 
 // None of the look-ups is of a key that was looked up before.
@@ -59,12 +59,13 @@ fn first_window(alloc: Global, entries: u32) -> Result<u32, Fault> {
 }
 
 #[test]
-fn an_adviser_begins_with_two_fifths(rt: HostRuntime) {
+fn an_adviser_begins_with_a_tenth(rt: HostRuntime) {
     let rows = [
-        (512, 204),
-        (1000, 400),
-        (4096, 1638),
-        (4_194_304, 1_677_721),
+        (64, 6),
+        (512, 51),
+        (1000, 100),
+        (4096, 409),
+        (4_194_304, 419_430),
     ];
     for (entries, window) in rows {
         let advised = first_window(rt.alloc(), entries);
@@ -78,11 +79,11 @@ fn an_adviser_begins_with_two_fifths(rt: HostRuntime) {
 }
 
 #[test]
-fn entries_are_512_to_4194304(rt: HostRuntime) {
+fn entries_are_64_to_4194304(rt: HostRuntime) {
     let refused = Err(Fault::BadConfig {
         field: Field::Entries,
     });
-    for entries in [0, 1, 511, 4_194_305, u32::MAX] {
+    for entries in [0, 1, 63, 4_194_305, u32::MAX] {
         let advised = first_window(rt.alloc(), entries);
         same(
             &rt,
@@ -95,7 +96,7 @@ fn entries_are_512_to_4194304(rt: HostRuntime) {
 
 #[test]
 fn keys_that_come_twice_want_all_as_window(rt: HostRuntime) -> Result<(), Fail> {
-    for (lookups, window) in [(1023, 204), (1024, 512), (4096, 512)] {
+    for (lookups, window) in [(1023, 51), (1024, 512), (4096, 512)] {
         let advised = window_after_pairs(rt.alloc(), lookups)?;
         same(
             &rt,
@@ -110,22 +111,27 @@ fn keys_that_come_twice_want_all_as_window(rt: HostRuntime) -> Result<(), Fail> 
 #[test]
 fn popular_keys_in_a_scan_want_a_narrow_window(rt: HostRuntime) -> Result<(), Fail> {
     let rows = [
-        (200, 1279, 204),
-        (200, 1280, 5),
-        (200, 8192, 5),
-        (250, 4351, 204),
-        (250, 4352, 5),
-        (300, 1023, 204),
-        (300, 1024, 51),
-        (300, 8192, 51),
+        (64, 30, 159, 6),
+        (64, 30, 160, 25),
+        (64, 30, 2271, 25),
+        (64, 30, 2272, 1),
+        (64, 30, 8192, 1),
+        (512, 200, 4863, 51),
+        (512, 200, 4864, 5),
+        (512, 200, 8192, 5),
+        (512, 250, 1535, 51),
+        (512, 250, 1536, 204),
+        (512, 250, 6655, 204),
+        (512, 250, 6656, 51),
+        (512, 300, 8192, 51),
     ];
-    for (popular, lookups, window) in rows {
-        let advised = window_after_scan(rt.alloc(), lookups, popular)?;
+    for (entries, popular, lookups, window) in rows {
+        let advised = window_after_scan(rt.alloc(), entries, lookups, popular)?;
         same(
             &rt,
-            "popular keys, look-ups and the window",
-            (popular, lookups, advised),
-            (popular, lookups, window),
+            "entries, popular keys, look-ups and the window",
+            (entries, popular, lookups, advised),
+            (entries, popular, lookups, window),
         );
     }
     Ok(())

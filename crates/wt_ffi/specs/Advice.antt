@@ -10,7 +10,7 @@ adviser_of h = option_map (λ a. a.adviser) h.pointer.advising
 
 -- how many entries an adviser may be for
 abbrev pub can_advise : ℕ → Bool
-can_advise entries = nat_le 512 entries && nat_le entries 4194304
+can_advise entries = nat_le 64 entries && nat_le entries 4194304
 
 -- what an opening of a closed handle returns, by whether the entries are in their range: 2 if not, else 0, or 1 for want of memory
 abbrev pub Opens : Bool → ℕ → Type 0

@@ -19,7 +19,7 @@ pub struct Advising {
 /// Opens an adviser for a cache, or for several with one policy, of `entries` entries in all, and
 /// returns 0.
 ///
-/// Returns 101 if the handle is open already, 2 if the entries are below 512 or above 4,194,304, 1
+/// Returns 101 if the handle is open already, 2 if the entries are below 64 or above 4,194,304, 1
 /// if an allocation fails, in this order. The handle is then as it was. Takes memory for the tables
 /// of four caches of a sixty-fourth of the entries, 64 at least. O(entries).
 #[unsafe(no_mangle)]

@@ -18,6 +18,7 @@ mod shows;
 mod steps;
 mod text;
 mod token;
+mod version;
 
 pub use adviser::{AdviserHandle, Advising};
 pub use answer::Answer;

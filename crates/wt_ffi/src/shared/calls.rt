@@ -14,7 +14,7 @@ use wt_core::{Call, Land};
 /// Looks the key up: `RD_HIT` or `RD_ABSENT`.
 ///
 /// If another call is at work it returns 105, and nothing happens. Only a hit of an entry in
-/// probation takes memory. Expected O(1), unless an attacker chooses the keys.
+/// probation takes memory. Expected amortised O(1), unless an attacker chooses the keys.
 #[unsafe(no_mangle)]
 pub extern "C" fn rd_shared_look(
     alloc: Global,
@@ -31,7 +31,8 @@ pub extern "C" fn rd_shared_look(
 /// Looks the key up, and if it isn't there, joins its current load or opens one, as `rd_seek` does.
 ///
 /// If another call is at work it returns 105, and nothing happens. Takes memory only for a load
-/// that it opens and for a hit in probation. Expected O(1), unless an attacker chooses the keys.
+/// that it opens and for a hit in probation. Expected amortised O(1), unless an attacker chooses
+/// the keys.
 #[unsafe(no_mangle)]
 pub extern "C" fn rd_shared_seek(
     alloc: Global,
@@ -113,7 +114,8 @@ pub extern "C" fn rd_shared_land_failed(
 /// Stores the value under the key, in place of one that is there: `RD_STORED`.
 ///
 /// If another call is at work it returns 105, and nothing happens. A value that is too heavy is
-/// refused before memory is asked for. Expected O(1), unless an attacker chooses the keys.
+/// refused before memory is asked for. Expected amortised O(1), unless an attacker chooses the
+/// keys.
 #[unsafe(no_mangle)]
 pub extern "C" fn rd_shared_put(
     alloc: Global,

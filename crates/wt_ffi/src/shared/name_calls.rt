@@ -18,7 +18,7 @@ use wt_core::{Call, Land};
 /// Like the other seven calls by name, it does nothing in three cases, checked in this order: it
 /// returns 104 if the name is too long, 100 if the handle is closed, and 103 if its keys are numbers.
 /// If another call is at work it returns 105, and nothing happens. Only a hit of an entry in
-/// probation takes memory. Expected O(1), unless an attacker chooses the names.
+/// probation takes memory. Expected amortised O(1), unless an attacker chooses the names.
 #[unsafe(no_mangle)]
 pub extern "C" fn rd_shared_look_name(
     alloc: Global,
@@ -39,7 +39,8 @@ pub extern "C" fn rd_shared_look_name(
 /// Looks the name up, and if it isn't there, joins its current load or opens one, as `rd_seek` does.
 ///
 /// If another call is at work it returns 105, and nothing happens. Takes memory only for a load
-/// that it opens and for a hit in probation. Expected O(1), unless an attacker chooses the names.
+/// that it opens and for a hit in probation. Expected amortised O(1), unless an attacker chooses
+/// the names.
 #[unsafe(no_mangle)]
 pub extern "C" fn rd_shared_seek_name(
     alloc: Global,
@@ -142,7 +143,8 @@ pub extern "C" fn rd_shared_land_failed_name(
 /// Stores the value under the name, in place of one that is there: `RD_STORED`.
 ///
 /// If another call is at work it returns 105, and nothing happens. A value that is too heavy is
-/// refused before memory is asked for. Expected O(1), unless an attacker chooses the names.
+/// refused before memory is asked for. Expected amortised O(1), unless an attacker chooses the
+/// names.
 #[unsafe(no_mangle)]
 pub extern "C" fn rd_shared_put_name(
     alloc: Global,

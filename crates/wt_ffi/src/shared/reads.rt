@@ -35,7 +35,8 @@ pub extern "C" fn rd_shared_get_notice(
 /// Writes the number of this caller's latest call in the history, from 1, and returns 0; 0 is
 /// written before its first call.
 ///
-/// 100 if the handle is closed. Takes no memory. O(1).
+/// A call that was refused memory has no number: it is then how many calls, of all callers, stand
+/// before it. 100 if the handle is closed. Takes no memory. O(1).
 #[unsafe(no_mangle)]
 pub extern "C" fn rd_shared_get_place(
     alloc: Global,

@@ -24,7 +24,8 @@ impl<K: CacheKey> Cached<K> {
 
 /// Looks the key up at the moment `now`: `RD_HIT` with its token, which is a use, or `RD_ABSENT`.
 ///
-/// Takes memory only for a hit in probation. Expected O(1), unless an attacker chooses the keys.
+/// Takes memory only for a hit in probation. Expected amortised O(1), unless an attacker chooses
+/// the keys.
 #[unsafe(no_mangle)]
 pub extern "C" fn rd_look(
     alloc: Global,
@@ -42,8 +43,8 @@ pub extern "C" fn rd_look(
 ///
 /// Like the other seven calls by name, it does nothing in three cases, checked in this order. It
 /// returns 104 if the name is too long, 100 if the cache is closed, and 103 if its keys are
-/// numbers. Takes memory only for a hit in probation. Expected O(1), unless an attacker chooses the
-/// names.
+/// numbers. Takes memory only for a hit in probation. Expected amortised O(1), unless an attacker
+/// chooses the names.
 #[unsafe(no_mangle)]
 pub extern "C" fn rd_look_name(
     alloc: Global,

@@ -28,7 +28,7 @@ impl<K: CacheKey> Cached<K> {
 ///
 /// The notices have the entries that left, which may include the new value itself. The key's
 /// current load stores nothing. A value that is too heavy is refused before memory is asked for.
-/// Expected O(1), unless an attacker chooses the keys; O(entries) in a trim.
+/// Expected amortised O(1), unless an attacker chooses the keys; O(entries) in a trim.
 #[unsafe(no_mangle)]
 pub extern "C" fn rd_put(
     alloc: Global,
@@ -45,7 +45,7 @@ pub extern "C" fn rd_put(
 
 /// Stores the value under the name, in place of one that is there, as `rd_put` does: `RD_STORED`.
 ///
-/// Expected O(1), O(entries) in a trim.
+/// Expected amortised O(1), O(entries) in a trim.
 #[unsafe(no_mangle)]
 pub extern "C" fn rd_put_name(
     alloc: Global,

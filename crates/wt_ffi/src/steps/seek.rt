@@ -33,8 +33,8 @@ impl<K: CacheKey> Cached<K> {
 ///
 /// `RD_HIT`, `RD_JOIN` or `RD_LEAD`, or `RD_HIT_LEAD` if the entry is due for a further load, the
 /// last three with the load's id. After `RD_LEAD` or `RD_HIT_LEAD` the caller loads the value and
-/// lands it. Takes memory only for a load that it opens and for a hit in probation. Expected O(1),
-/// unless an attacker chooses the keys.
+/// lands it. Takes memory only for a load that it opens and for a hit in probation. Expected
+/// amortised O(1), unless an attacker chooses the keys.
 #[unsafe(no_mangle)]
 pub extern "C" fn rd_seek(
     alloc: Global,
@@ -50,7 +50,7 @@ pub extern "C" fn rd_seek(
 
 /// Looks the name up, and if it isn't there, joins its current load or opens one.
 ///
-/// It returns as `rd_seek` does. Expected O(1), unless an attacker chooses the names.
+/// It returns as `rd_seek` does. Expected amortised O(1), unless an attacker chooses the names.
 #[unsafe(no_mangle)]
 pub extern "C" fn rd_seek_name(
     alloc: Global,

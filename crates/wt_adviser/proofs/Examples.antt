@@ -1,0 +1,41 @@
+-- Worked examples of the advice, computed by the definitions alone.
+use Rattle.std.proofs.Common.{◌≡◌, ℕ, List, [], ◌∷◌, map, refl}
+use Rattle.wt_adviser.specs.declared.share.Share.{Share}
+use Rattle.wt_adviser.specs.declared.share.Share.TheVariants.{Hundredth, Tenth, TwoFifths, Whole}
+use Rattle.wt_adviser.specs.declared.tally.Tally.{Tally}
+use Rattle.wt_adviser.specs.Advice.{opening, sampled_of, small_entries, wanted}
+use Rattle.wt_adviser.specs.Tally.{choice, decided, faded}
+
+-- the window that is advised before any look-up
+abbrev first_window : ℕ → ℕ
+first_window entries = wanted (opening {K = ℕ} entries)
+
+-- a tenth of the entries, rounded down
+pub an_adviser_begins_with_a_tenth : map first_window (64 ∷ 512 ∷ 1000 ∷ 4194304 ∷ []) ≡ 6 ∷ 51 ∷ 100 ∷ 419430 ∷ []
+an_adviser_begins_with_a_tenth = refl
+
+-- below 128 entries the sample has every key, and a small cache may have as many entries as the whole one
+pub few_entries_are_sampled_whole : map sampled_of (64 ∷ 127 ∷ 128 ∷ 512 ∷ 4095 ∷ 4096 ∷ 4194304 ∷ [])
+    ≡ 1 ∷ 1 ∷ 2 ∷ 8 ∷ 63 ∷ 64 ∷ 64 ∷ []
+few_entries_are_sampled_whole = refl
+
+pub a_small_cache_has_64_entries_or_more : map small_entries (64 ∷ 127 ∷ 4159 ∷ 4160 ∷ 4194304 ∷ [])
+    ≡ 64 ∷ 64 ∷ 64 ∷ 65 ∷ 65536 ∷ []
+a_small_cache_has_64_entries_or_more = refl
+
+-- a hit counts 61,440 after one choice and 57,600 after two
+pub counts_fade_by_a_sixteenth : map faded (65536 ∷ 61440 ∷ 17 ∷ 16 ∷ 1 ∷ 0 ∷ []) ≡ 61440 ∷ 57600 ∷ 15 ∷ 15 ∷ 0 ∷ 0 ∷ []
+counts_fade_by_a_sixteenth = refl
+
+-- of 200 sampled look-ups a tenth, which is in use, had 100 hits, and the whole so many
+abbrev against : ℕ → Tally
+against hits = record { hundredth = 98; tenth = 100; two_fifths = 101; whole = hits; sampled = 200; since = 31; chosen = Tenth }
+
+-- a lead of two is a hundredth of 200, and not more
+pub a_lead_is_more_than_a_hundredth : map (λ hits. choice (against hits)) (99 ∷ 102 ∷ 103 ∷ []) ≡ Tenth ∷ Tenth ∷ Whole ∷ []
+a_lead_is_more_than_a_hundredth = refl
+
+-- the choice is made by the counts before they fade
+pub a_choice_fades_the_counts : decided (against 103)
+    ≡ record { hundredth = 91; tenth = 93; two_fifths = 94; whole = 96; sampled = 187; since = 0; chosen = Whole }
+a_choice_fades_the_counts = refl
