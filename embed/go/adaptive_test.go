@@ -12,20 +12,21 @@ import (
 	"rookdresser/internal/refusing"
 )
 
-// At first it holds 40 hundredths of the entries, or for good what the setup says, or one in a hundred; each shard's at least one.
+// At first it holds 10 hundredths of the entries, or for good what the setup says, or one in a hundred; each shard's at least one.
 func TestTheWindowFollowsIfTheSetupLetsIt(t *testing.T) {
 	for _, row := range []struct {
 		s       Setup
 		follows bool
 		window  uint32
 	}{
-		{Setup{Entries: 511}, false, 5},
-		{Setup{Entries: 512}, true, 204},
-		{Setup{Entries: 512, Adaptive: On}, true, 204},
+		{Setup{Entries: 63}, false, 1},
+		{Setup{Entries: 64}, true, 6},
+		{Setup{Entries: 512}, true, 51},
+		{Setup{Entries: 512, Adaptive: On}, true, 51},
 		{Setup{Entries: 512, Adaptive: Off}, false, 5},
 		{Setup{Entries: 512, Window: 7}, false, 7},
 		{Setup{Entries: 512, Window: 7, Adaptive: Off}, false, 7},
-		{Setup{Entries: 1001, Shards: 3}, true, 400},
+		{Setup{Entries: 1001, Shards: 3}, true, 100},
 		{Setup{Entries: 1001, Shards: 3, Adaptive: Off}, false, 9},
 		{Setup{Entries: 1000, Shards: 1000}, true, 1000},
 	} {
@@ -159,8 +160,8 @@ func pendingOf(s *shard[uint64, string]) (keys []uint64) {
 
 func TestTheAdviserIsShownEachLookUpOnceAndInItsOrder(t *testing.T) {
 	for _, s := range []Setup{
-		{Entries: 512}, {Entries: 512, Shards: 3, AfterWrite: 900 * time.Millisecond, Refresh: 300 * time.Millisecond},
-		{Entries: 512, AfterAccess: 500 * time.Millisecond},
+		{Entries: 512, Shards: 1}, {Entries: 512, Shards: 3, AfterWrite: 900 * time.Millisecond, Refresh: 300 * time.Millisecond},
+		{Entries: 512, Shards: 1, AfterAccess: 500 * time.Millisecond},
 	} {
 		random := rand.New(rand.NewSource(3))
 		s, clock := timed(exactly(s))
@@ -231,7 +232,7 @@ func wants(c *Cache[uint64, string], entries uint32) {
 }
 
 func TestCallsThatLookUpSeekPutOrLandMakeUpToFourSlides(t *testing.T) {
-	c := open(t, exactly(Setup{Entries: 512}))
+	c := open(t, exactly(Setup{Entries: 512, Shards: 1}))
 	n := counter{t, c}
 	hits := func(hits int) func() {
 		return func() {
@@ -242,14 +243,14 @@ func TestCallsThatLookUpSeekPutOrLandMakeUpToFourSlides(t *testing.T) {
 	}
 	put := func() { _ = c.Put(1, "one", 1) }
 	n.moves("a put where nothing is to do", 0, 1, put)
-	wants(c, 230)
+	wants(c, 77)
 	n.moves("a put", 4, 5, put)
 	n.moves("a look that misses", 4, 5, func() { _, _, _ = c.Look(2) })
 	n.moves("a get, which seeks and lands,", 8, 10, func() { _, _ = c.Get(ctx, 3, got("three")) })
 	n.moves("a get that fails", 8, 10, func() { _, _ = c.Get(ctx, 4, fails) })
 	n.moves("60 hits, which are kept,", 0, 60, hits(60))
 	n.moves("64 hits", 2, 66, hits(64))
-	// It is shown these look-ups, and wants what it wanted at first, 204.
+	// It is shown these look-ups, and wants what it wanted at first, 51.
 	n.moves("the next put", -4, 5, put)
 	wants(c, 1)
 	n.moves("a drop", 0, 1, func() { _, _ = c.Drop(3) })
@@ -258,7 +259,7 @@ func TestCallsThatLookUpSeekPutOrLandMakeUpToFourSlides(t *testing.T) {
 	n.moves("what counts no look-up", 0, 0, func() { _, _, _ = c.Contains(1), c.Keys(), c.Stats() })
 	n.moves("a clear", 0, 1, func() { _ = c.Clear() })
 	n.moves("a put, narrower,", -4, 5, put)
-	n.moves("many puts", -221, 321, func() {
+	n.moves("many puts", -68, 168, func() {
 		for i := 0; i < 100; i++ {
 			put()
 		}
@@ -315,8 +316,8 @@ func TestAnAdviserThatIsRefusedMemoryIsOpenedLater(t *testing.T) {
 	for n := 0; ; n++ {
 		var c *Cache[uint64, string]
 		var err error
-		if !refusing.After(n, func() { c, err = Open[uint64, string](Setup{Entries: 512}) }) {
-			if err != nil || c.Window() != 204 {
+		if !refusing.After(n, func() { c, err = Open[uint64, string](Setup{Entries: 512, Shards: 1}) }) {
+			if err != nil || c.Window() != 51 {
 				t.Fatal(err, c.Window())
 			}
 			c.Close()
@@ -338,7 +339,7 @@ func TestAnAdviserThatIsRefusedMemoryIsOpenedLater(t *testing.T) {
 		for key := uint64(63); key < 90; key++ {
 			look(t, c, key)
 		}
-		if c.Window() != 204 {
+		if c.Window() != 51 {
 			t.Fatal(n, c.Window())
 		}
 		c.Close()
@@ -349,7 +350,7 @@ func TestAnAdviserThatIsRefusedMemoryIsOpenedLater(t *testing.T) {
 }
 
 func TestNoCallFailsForASlideThatIsRefusedMemory(t *testing.T) {
-	c := open(t, Setup{Entries: 512})
+	c := open(t, Setup{Entries: 512, Shards: 1})
 	for key := uint64(0); key < 512; key++ {
 		look(t, c, key)
 	}
@@ -375,7 +376,7 @@ func TestNoCallFailsForASlideThatIsRefusedMemory(t *testing.T) {
 // As it is closed, it has 90 look-ups that the adviser wasn't shown, or none.
 func TestAClosedCacheHasNoAdviser(t *testing.T) {
 	for _, looked := range []uint64{90, 0} {
-		c := open(t, Setup{Entries: 512})
+		c := open(t, Setup{Entries: 512, Shards: 1})
 		for i := uint64(0); i < looked; i++ {
 			look(t, c, i%60) // at last 30 hits, of which the library isn't told yet
 		}

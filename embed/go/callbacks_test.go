@@ -308,7 +308,7 @@ func TestALoadThatIsOverIsNoPartOfACircle(t *testing.T) {
 	c := open(t, setup)
 	var ended *load[uint64, string]
 	_, _ = c.Get(ctx, 1, func(context.Context) (string, uint32, error) {
-		ended = c.shards[0].table.rows[0].load
+		ended = c.shards[0].table.walk(1, 1).load
 		return "one", 1, nil
 	})
 	const me, other = 1, 2

@@ -204,7 +204,7 @@ func ExampleCache_Window() {
 	defer fixed.Close()
 	// The one follows the look-ups, of which there are none yet.
 	fmt.Println(c.Window(), fixed.Window())
-	// Output: 400 10
+	// Output: 100 10
 }
 
 func ExampleCache_Kept() {

@@ -1,3 +1,5 @@
+//go:build cgo && linux && amd64
+
 package rookdresser
 
 import (
@@ -18,16 +20,25 @@ type Key interface {
 type hasher[K comparable] struct {
 	kind    reflect.Kind
 	isPlain bool // whether it is the key itself
+	isWord  bool // whether that is one of 64 bits
 	seed    maphash.Seed
 	own     func(maphash.Seed, K) uint64
 }
 
 func hasherOfKind[K Key](seeded bool) hasher[K] {
 	kind := reflect.TypeOf(*new(K)).Kind()
-	return hasher[K]{kind: kind, seed: maphash.MakeSeed(), isPlain: !seeded && kind != reflect.String}
+	isPlain := !seeded && kind != reflect.String
+	return hasher[K]{kind: kind, seed: maphash.MakeSeed(), isPlain: isPlain, isWord: isPlain && unsafe.Sizeof(*new(K)) == 8}
 }
 
 func (h *hasher[K]) of(key K) uint64 {
+	if h.isWord {
+		return *(*uint64)(unsafe.Pointer(&key))
+	}
+	return h.ofOther(key)
+}
+
+func (h *hasher[K]) ofOther(key K) uint64 {
 	if h.isPlain {
 		return h.whole(key)
 	}

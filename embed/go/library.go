@@ -1,3 +1,5 @@
+//go:build cgo && linux && amd64
+
 package rookdresser
 
 /*
@@ -121,11 +123,25 @@ static uint64_t land(side *s, uint64_t id, uint64_t key, uint64_t token, uint32_
 */
 import "C"
 
+import "fmt"
+
 // A library is one of its caches, whose calls are made one at a time. Each leaves its answer and its notices until the next one. Its
 // window follows an adviser, or is fixed if by is nil.
 type library struct {
 	side *C.side
 	by   *follower
+}
+
+// rightLibrary returns an error if the library is of another version than the header by which this module was compiled.
+func rightLibrary() error {
+	if C.rd_is_this_version() {
+		return nil
+	}
+	return fmt.Errorf("rookdresser: librookdresser is of version %s, and this module is of %s", version(uint64(C.rd_version())), version(C.RD_VERSION))
+}
+
+func version(of uint64) string {
+	return fmt.Sprintf("%d.%d.%d", of/1_000_000, of/1_000%1_000, of%1_000)
 }
 
 func openLibrary(s Setup, by *follower) (library, Fault) {
@@ -140,8 +156,8 @@ func openLibrary(s Setup, by *follower) (library, Fault) {
 func setupOf(s Setup) C.rd_setup {
 	return C.rd_setup{
 		entries: C.uint32_t(s.Entries), window: C.uint32_t(s.Window), flights: C.uint32_t(s.Flights), bound: C.uint64_t(s.Bound),
-		after_write: C.uint64_t(s.AfterWrite.Milliseconds()), after_access: C.uint64_t(s.AfterAccess.Milliseconds()),
-		refresh: C.uint64_t(s.Refresh.Milliseconds()),
+		after_write: C.uint64_t(wholeMilliseconds(s.AfterWrite)), after_access: C.uint64_t(wholeMilliseconds(s.AfterAccess)),
+		refresh: C.uint64_t(wholeMilliseconds(s.Refresh)),
 	}
 }
 
@@ -161,8 +177,8 @@ func (l library) ready() *C.side {
 // window returns how many entries the window may hold now; none in a closed cache.
 func (l library) window() uint32 { return uint32(l.side.window) }
 
-// hit keeps a look-up of which the caller knows that it hits. There is no answer of it.
-func (l library) hit(key, now uint64) {
+// queue keeps a look-up of which the caller knows what it finds. There is no answer of it.
+func (l library) queue(key, now uint64) {
 	at := &l.side.hit[l.side.hits]
 	at.key, at.now = C.uint64_t(key), C.uint64_t(now)
 	if l.side.hits++; l.side.hits == C.HITS {

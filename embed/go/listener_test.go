@@ -141,7 +141,7 @@ func framed(end func()) byte {
 func TestAListenerThatPanicsForEachOfManyEntriesEndsInOnePanic(t *testing.T) {
 	const entries = 65_536
 	for _, end := range []func(n int){func(n int) { panic(n) }, func(int) { panic(nil) }, func(int) { runtime.Goexit() }} {
-		c, told := open(t, Setup{Entries: entries}), 0
+		c, told := open(t, Setup{Entries: entries, Shards: 1}), 0
 		c.Listen(func(Left[uint64, string]) { told++; framed(func() { end(told) }) })
 		for key := uint64(0); key < entries; key++ {
 			if err := c.Put(key, "held", 1); err != nil {

@@ -1,3 +1,5 @@
+//go:build cgo && linux && amd64
+
 package rookdresser
 
 import (
@@ -25,21 +27,20 @@ func (c *Cache[K, V]) lifeOf(key K, v V) uint32 {
 
 // milliseconds returns a life as the library has it, 0 being none.
 func milliseconds(life time.Duration) uint32 {
-	switch whole := life / time.Millisecond; {
-	case whole < 1:
+	if life <= 0 {
 		return 1
-	case whole > math.MaxUint32:
-		return 0
-	default:
+	}
+	if whole := wholeMilliseconds(life); whole <= math.MaxUint32 {
 		return uint32(whole)
 	}
+	return 0
 }
 
 // PutFor is Put, and gives the entry a life: it expires as its life ends, which begins with this call, or earlier by AfterWrite or
 // AfterAccess. No use lengthens it. The next store of the key gives its entry another life, or none.
 //
-// A life counts in whole milliseconds. Less than one, as 0 and what is negative, counts as one; more than 2^32 - 1, which are 49 days,
-// as none, so Forever is none.
+// A life counts in whole milliseconds, rounded up. 0 and what is negative count as one; more than 2^32 - 1, which are 49 days, as none,
+// so Forever is none.
 func (c *Cache[K, V]) PutFor(key K, v V, weight uint32, life time.Duration) error {
 	c.clock.start()
 	return c.put(key, v, weight, milliseconds(life))

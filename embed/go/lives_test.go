@@ -59,11 +59,11 @@ func TestAnEntryWithAShortLifeLeavesBesideOneWithout(t *testing.T) {
 	holds(t, c)
 }
 
-func TestALifeCountsInWholeMillisecondsFromOneTo49Days(t *testing.T) {
+func TestALifeCountsInWholeMillisecondsRoundedUpFromOneTo49Days(t *testing.T) {
 	const most = math.MaxUint32 * ms
 	for life, whole := range map[time.Duration]int64{
-		1: 1, 0: 1, -1: 1, -time.Hour: 1, math.MinInt64: 1, ms - 1: 1, ms: 1, 2*ms - 1: 1, 2 * ms: 2, most: math.MaxUint32, most + ms - 1: math.MaxUint32,
-		most + ms: 0, Forever: 0, 49 * 24 * time.Hour: 4_233_600_000, 50 * 24 * time.Hour: 0,
+		1: 1, 0: 1, -1: 1, -time.Hour: 1, math.MinInt64: 1, ms - 1: 1, ms: 1, ms + 1: 2, 3 * ms / 2: 2, 2*ms - 1: 2, 2 * ms: 2,
+		most - ms + 1: math.MaxUint32, most: math.MaxUint32, most + 1: 0, most + ms: 0, Forever: 0, 49 * 24 * time.Hour: 4_233_600_000, 50 * 24 * time.Hour: 0,
 	} {
 		for _, store := range []func(c *Cache[uint64, string]) error{
 			func(c *Cache[uint64, string]) error { return c.PutFor(1, "", 1, life) },
@@ -327,9 +327,9 @@ func TestWithNoDurationTheClockIsReadFromTheFirstLifeOn(t *testing.T) {
 	}
 }
 
-// An open shard, in which hits don't reach the library, serves nothing beyond its life.
-func TestAnOpenShardServesNothingBeyondItsLife(t *testing.T) {
-	defer openSoon()()
+// A hit beside the lock, which doesn't reach the library, serves nothing beyond its life.
+func TestAHitBesideTheLockServesNothingBeyondItsLife(t *testing.T) {
+	defer tellMore()()
 	s, clock := timed(Setup{Entries: 10})
 	c := open(t, s)
 	mustPut(t, c.Put(1, "one", 1))
@@ -341,16 +341,13 @@ func TestAnOpenShardServesNothingBeyondItsLife(t *testing.T) {
 			}
 		}
 	}
-	if openShards(c) != 1 {
-		t.Fatal("the shard is closed")
-	}
 	clock.at.Store(49)
-	if v, err := c.Get(ctx, 2, fails); v != "two" || err != nil || openShards(c) != 1 {
+	if v, err := c.Get(ctx, 2, fails); v != "two" || err != nil {
 		t.Fatal(v, err)
 	}
 	clock.at.Store(50)
-	if _, found, _ := c.Look(1); !found || openShards(c) != 1 {
-		t.Fatal("the other entry", openShards(c))
+	if _, found, _ := c.Look(1); !found {
+		t.Fatal("the other entry")
 	}
 	if v, err := c.Get(ctx, 2, fails); err != errDown {
 		t.Fatal(v, err)

@@ -1,3 +1,5 @@
+//go:build cgo && linux && amd64
+
 package rookdresser
 
 import (
@@ -13,7 +15,7 @@ type load[K comparable, V any] struct {
 	shard           *shard[K, V]
 	ctx             lasting
 	id, number, now uint64
-	row             int32
+	node            *node[K, V]
 	done            chan struct{} // there is one once another goroutine has joined
 	value           V
 	weight, life    uint32
@@ -65,39 +67,38 @@ func (c *Cache[K, V]) get(ctx context.Context, key K, fetch fetcher[V]) (V, erro
 func (c *Cache[K, V]) seek(key K) (found sought[K, V], err error) {
 	now := c.clock.now()
 	s, hash := c.of(key)
-	v, at, number, now, isHit := s.hit(key, hash, now)
+	v, n, number, now, isHit := s.hit(key, hash, now)
 	if isHit {
 		return sought[K, V]{value: v, isHit: true}, nil
 	}
-	defer s.mu.Unlock()
+	defer s.release()
 	if err = s.made(s.lib.seek(number, now), now); err != nil {
 		return found, err
 	}
-	found.value, found.isHit = s.looked()
+	found.value, found.isHit = s.looked(now)
 	if s.lib.leads() {
-		found.lead = s.begin(at, key, hash, number, found.isHit)
+		found.lead = s.begin(s.table.hold(n, key, hash, number), now, found.isHit)
 	} else if !found.isHit {
-		found.join = s.join(at)
+		found.join = s.join(n)
 	}
 	found.left = s.left(c.listener != nil)
 	return found, nil
 }
 
-// begin opens the load that the latest answer told to make.
-func (s *shard[K, V]) begin(at int32, key K, hash, number uint64, isRefresh bool) *load[K, V] {
-	at = s.table.hold(at, key, hash, number)
-	of := &load[K, V]{shard: s, id: s.lib.number(), number: number, now: s.latest.Load(), row: at, err: ErrPanicked}
+// begin opens the load that the latest answer told to make. It has one of the node's uses.
+func (s *shard[K, V]) begin(n *node[K, V], now uint64, isRefresh bool) *load[K, V] {
+	of := &load[K, V]{shard: s, id: s.lib.number(), number: n.number, now: now, node: n, err: ErrPanicked}
 	of.goroutine = goroutine.Current()
-	s.table.rows[at].load = of
+	n.load = of
 	if isRefresh {
 		s.stats.Refreshes++
 	}
 	return of
 }
 
-// join returns the load of the row's key that another goroutine makes.
-func (s *shard[K, V]) join(at int32) *load[K, V] {
-	of := s.table.rows[at].load
+// join returns the load of the node's key that another goroutine makes.
+func (s *shard[K, V]) join(n *node[K, V]) *load[K, V] {
+	of := n.load
 	if of.done == nil {
 		of.done = make(chan struct{})
 	}
@@ -121,15 +122,15 @@ func (c *Cache[K, V]) lead(ctx context.Context, found sought[K, V], fetch fetche
 func (l *load[K, V]) land(took time.Duration, listens bool) []Left[K, V] {
 	s := l.shard
 	s.take()
-	defer s.mu.Unlock()
-	if at := &s.table.rows[l.row]; at.load == l {
-		at.load = nil
+	defer s.release()
+	if l.node.load == l {
+		l.node.load = nil
 	}
 	s.stats.LoadTime += took
 	if l.err != nil {
 		s.stats.Failed++
 		_ = s.lib.landFailed(l.id, l.number, s.moment(l.now))
-		s.table.letGo(l.row)
+		s.table.letGo(l.node)
 	} else {
 		s.stats.Loads++
 		s.store(l)
@@ -141,14 +142,15 @@ func (l *load[K, V]) land(took time.Duration, listens bool) []Left[K, V] {
 	return s.left(listens)
 }
 
-// store lands a value. If it is stored, the load's use of the row becomes the entry's. In a closed cache there is no load to close.
+// store lands a value. If it is stored, the load's use of the node becomes the entry's. In a closed cache there is no load to close.
 func (s *shard[K, V]) store(of *load[K, V]) {
-	token := s.table.keep(of.value)
-	if s.lib.land(of.id, of.number, token, of.weight, of.life, s.moment(of.now)) == 0 && s.lib.isStored() {
-		s.table.store(token, of.row, of.life, s.latest.Load())
+	now := s.moment(of.now)
+	token := s.table.keep(s.newEntry(of.value, of.weight, of.life, now), of.life, now)
+	if s.lib.land(of.id, of.number, token, of.weight, of.life, now) == 0 && s.lib.isStored() {
+		s.table.store(token, of.node)
 		return
 	}
 	s.stats.Loose++
 	s.table.drop(token)
-	s.table.letGo(of.row)
+	s.table.letGo(of.node)
 }

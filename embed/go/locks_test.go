@@ -31,39 +31,49 @@ func (l *lock) Unlock() {
 	l.of.Unlock()
 }
 
-type flag struct{ of atomic.Bool }
+type word struct{ of atomic.Uint64 }
 
-func (f *flag) Load() bool {
-	loseTurn(step{of: f})
-	return f.of.Load()
+func (w *word) Load() uint64 {
+	loseTurn(step{of: w})
+	return w.of.Load()
 }
 
-func (f *flag) Store(to bool) {
-	loseTurn(step{of: f})
-	f.of.Store(to)
+func (w *word) Store(to uint64) {
+	loseTurn(step{of: w})
+	w.of.Store(to)
 }
 
-type moment struct{ of atomic.Uint64 }
-
-func (m *moment) Load() uint64 {
-	loseTurn(step{of: m})
-	return m.of.Load()
+func (w *word) CompareAndSwap(from, to uint64) bool {
+	loseTurn(step{of: w})
+	return w.of.CompareAndSwap(from, to)
 }
 
-func (m *moment) Store(to uint64) {
-	loseTurn(step{of: m})
-	m.of.Store(to)
+type pointer[T any] struct{ of atomic.Pointer[T] }
+
+func (p *pointer[T]) Load() *T {
+	loseTurn(step{of: p})
+	return p.of.Load()
 }
 
-func (m *moment) CompareAndSwap(from, to uint64) bool {
-	loseTurn(step{of: m})
-	return m.of.CompareAndSwap(from, to)
+func (p *pointer[T]) Store(to *T) {
+	loseTurn(step{of: p})
+	p.of.Store(to)
 }
 
-// processor gives each of the two a stripe of its own.
-func processor() int {
+func (p *pointer[T]) Swap(to *T) *T {
+	loseTurn(step{of: p})
+	return p.of.Swap(to)
+}
+
+func (p *pointer[T]) CompareAndSwap(from, to *T) bool {
+	loseTurn(step{of: p})
+	return p.of.CompareAndSwap(from, to)
+}
+
+// hashOfGoroutine gives each of the two a stripe of its own.
+func hashOfGoroutine() uint8 {
 	if _, own := mine(); own >= 0 {
-		return own
+		return uint8(own)
 	}
 	return 0
 }

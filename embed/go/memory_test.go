@@ -9,7 +9,7 @@ import (
 // Of each call the first, the second or the third allocation is refused, if there are so many. Then the call is refused, or a value
 // that was loaded is returned and not stored, or a hit is no use; and the cache is whole.
 func TestRefusedMemoryKeepsTheCacheWhole(t *testing.T) {
-	keepsWholeWithoutMemory(t, open(t, Setup{Entries: 200, Flights: 16}))
+	keepsWholeWithoutMemory(t, open(t, Setup{Entries: 200, Adaptive: Off, Flights: 16}))
 	keepsWholeWithoutMemory(t, open(t, Setup{Entries: 512, Bound: 200, Flights: 16}))
 }
 

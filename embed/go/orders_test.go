@@ -108,13 +108,13 @@ func haveAnOrder(t *testing.T, s Setup, looks int, calls [2][]call, most int) in
 	})
 }
 
-// The looks that leave a shard about to open, and open.
-var aboutToOpen, isOpen = 8, 13
+// The library hears of none, or of some, before the calls are made.
+var looksBefore = []int{0, 13}
 
 func TestThreeCallsOfTwoGoroutinesHaveAnOrderIfFourTurnsAreLost(t *testing.T) {
-	defer openSoon()()
+	defer tellMore()()
 	firsts, orders := []call{{"look", 1, 9}, {"look", 2, 17}, {"put", 1, 5}}, 0
-	for _, looks := range []int{aboutToOpen, isOpen} {
+	for _, looks := range looksBefore {
 		for _, first := range firsts {
 			for _, second := range firsts {
 				for _, other := range []call{{"look", 2, 17}, {"drop", 2, 9}, {what: "count"}} {
@@ -129,15 +129,49 @@ func TestThreeCallsOfTwoGoroutinesHaveAnOrderIfFourTurnsAreLost(t *testing.T) {
 }
 
 func TestSixCallsOfTwoGoroutinesHaveAnOrderIfTwoTurnsAreLost(t *testing.T) {
-	defer openSoon()()
+	defer tellMore()()
 	orders := 0
 	for _, calls := range [][2][]call{
 		{{{"look", 2, 9}, {"put", 1, 5}, {"look", 1, 9}}, {{"look", 1, 9}, {"look", 2, 9}, {"drop", 1, 9}}},
 		{{{"look", 2, 9}, {"look", 1, 9}, {"look", 2, 17}}, {{"look", 1, 16}, {"put", 2, 9}, {"look", 2, 9}}},
 		{{{"look", 2, 9}, {"look", 2, 9}, {"look", 1, 9}}, {{"look", 2, 9}, {what: "count"}, {"look", 2, 9}}},
 	} {
-		for _, looks := range []int{aboutToOpen, isOpen} {
+		for _, looks := range looksBefore {
 			orders += haveAnOrder(t, aged, looks, calls, 2)
+		}
+	}
+	if t.Log(orders, "orders"); orders < 500 {
+		t.Fatal(orders)
+	}
+}
+
+// What stores or removes counts as at one moment for all: at that of each hit which came before, be it of the same key, of one that leaves
+// by it, or of any other.
+func TestAStoreBesideAHitOfALaterMomentHasAnOrder(t *testing.T) {
+	defer tellMore()()
+	orders, one := 0, Setup{Entries: 1, AfterWrite: aged.AfterWrite}
+	for _, at := range []int64{5, 9, 12} {
+		for _, what := range []string{"put", "drop"} {
+			for _, looks := range [][]call{{{"look", 1, 9}, {"look", 1, 18}}, {{"look", 2, 17}, {"look", 2, 26}}} {
+				orders += haveAnOrder(t, aged, 13, [2][]call{looks, {{what, looks[0].key, at}}}, 3)
+			}
+		}
+		orders += haveAnOrder(t, aged, 13, [2][]call{{{"look", 2, 8}, {"look", 1, 8}}, {{"put", 2, at}}}, 3)
+		orders += haveAnOrder(t, one, 0, [2][]call{{{"look", 2, 17}, {"look", 3, 10 + at}}, {{"put", 3, at}}}, 3)
+		orders += haveAnOrder(t, aged, 13, [2][]call{{{"look", 2, 17}}, {{"put", 2, at}, {"look", 5, 17}, {"look", 2, 10 + at}}}, 3)
+	}
+	if t.Log(orders, "orders"); orders < 500 {
+		t.Fatal(orders)
+	}
+}
+
+// Nothing expires here, so that puts are in place.
+func TestAPutInPlaceBesideOtherCallsHasAnOrder(t *testing.T) {
+	defer tellMore()()
+	orders := 0
+	for _, other := range []call{{"look", 2, 17}, {"put", 2, 9}, {"drop", 2, 9}, {"get", 2, 20}, {what: "count"}} {
+		for _, second := range []call{{"look", 2, 9}, {"put", 2, 9}, {"put", 3, 9}} {
+			orders += haveAnOrder(t, Setup{Entries: 64}, 13, [2][]call{{{"put", 2, 9}, second}, {other, {"look", 2, 9}}}, 3)
 		}
 	}
 	if t.Log(orders, "orders"); orders < 500 {

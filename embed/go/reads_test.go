@@ -1,6 +1,6 @@
 package rookdresser
 
-// Shards that open give the answers of shards that never do.
+// Hits and puts beside the lock give the answers of those that take it.
 
 import (
 	"context"
@@ -18,33 +18,33 @@ import (
 	"rookdresser/internal/goroutine"
 )
 
-// All tests run in three forms: as the package is, with shards that open soon, and with shards that never do.
+// All tests run in three forms: as the package is, with the library told of more, and with each hit under the lock.
 func init() {
 	switch form := os.Getenv("ROOKDRESSER_TEST_READS"); form {
 	case "soon":
-		openSoon()
+		tellMore()
 	case "exact":
-		opensAfter = never
+		alwaysExact = true
 	case "":
 	default:
 		panic("ROOKDRESSER_TEST_READS is " + form + ", and has to be soon or exact")
 	}
 }
 
-// openSoon has shards open after eight hits, and the library told of every other one, two together.
-func openSoon() (asBefore func()) {
-	after, in, told := opensAfter, oneIn, toldTogether
-	opensAfter, oneIn, toldTogether = 8, 2, 2
-	return func() { opensAfter, oneIn, toldTogether = after, in, told }
+// tellMore has the library told of every other use beside the lock, two together.
+func tellMore() (asBefore func()) {
+	in, rarely, after, told, exact := oneIn, rarelyIn, afterMiss, toldTogether, alwaysExact
+	oneIn, rarelyIn, afterMiss, toldTogether, alwaysExact = 2, 2, 0, 2, false
+	return func() { oneIn, rarelyIn, afterMiss, toldTogether, alwaysExact = in, rarely, after, told, exact }
 }
 
-func openShards[K comparable, V any](c *Cache[K, V]) (n int) {
+// beside returns how many hits and puts were made beside the lock.
+func beside[K comparable, V any](c *Cache[K, V]) (hits, puts uint64) {
 	for _, s := range c.shards {
-		if s.isOpen.Load() {
-			n++
-		}
+		h, p := s.stripes.made()
+		hits, puts = hits+h, puts+p
 	}
-	return n
+	return hits, puts
 }
 
 // A call of a key at a moment.
@@ -84,6 +84,8 @@ func (c momentary) answer(of call, value string) string {
 		return line(c.Get(ctx, of.key, got(value)))
 	case "put":
 		return line(c.Put(of.key, value, 1))
+	case "put for 10 ms":
+		return line(c.PutFor(of.key, value, 1, 10*ms))
 	case "drop":
 		return line(c.Drop(of.key))
 	case "contains":
@@ -121,13 +123,13 @@ var aged = Setup{Entries: 64, AfterWrite: 10 * time.Millisecond}
 
 func exactly(s Setup) Setup { s.Reads = Exact; return s }
 
-func TestAShardThatOpensAnswersAsOneThatNeverDoes(t *testing.T) {
-	defer openSoon()()
+func TestSharedReadsAnswerAsExactOnes(t *testing.T) {
+	defer tellMore()()
 	for round, ages := range [][2]time.Duration{{0, 0}, {40, 0}, {0, 15}, {60, 25}} {
 		// No entry is evicted: hits that are told late, or never, change no answer.
 		s := Setup{Entries: 128, Shards: 2, AfterWrite: ages[0] * time.Millisecond, Refresh: ages[1] * time.Millisecond}
 		c, exact := openMomentary(s), openMomentary(exactly(s))
-		random, latest, opened := rand.New(rand.NewSource(int64(round))), int64(10), 0
+		random, latest := rand.New(rand.NewSource(int64(round))), int64(10)
 		for turn := 0; turn < 100_000; turn++ {
 			latest += int64(random.Intn(300) / 299)
 			// At times a moment is before the latest one.
@@ -141,119 +143,159 @@ func TestAShardThatOpensAnswersAsOneThatNeverDoes(t *testing.T) {
 			if mine, theirs := c.answer(made, fmt.Sprint(turn)), exact.answer(made, fmt.Sprint(turn)); mine != theirs {
 				t.Fatal(s, turn, made, mine, theirs)
 			}
-			opened += openShards(c.Cache)
 		}
 		if mine, theirs := c.seen(), exact.seen(); mine != theirs {
 			t.Fatal(s, mine, theirs)
 		}
-		if opened < 300 || openShards(exact.Cache) != 0 {
-			t.Fatal(s, opened)
+		if hits, puts := beside(c.Cache); !alwaysExact && (hits < 50_000 || (puts > 0) != (ages == [2]time.Duration{})) {
+			t.Fatal(s, hits, puts)
 		}
 		c.Close()
 		exact.Close()
 	}
 }
 
-func TestAHitOfAnOpenShardMakesItsMomentTheLatest(t *testing.T) {
-	defer openSoon()()
+func TestAHitBesideTheLockMakesItsMomentTheLatest(t *testing.T) {
+	defer tellMore()()
 	c := lookedAt(aged, 100)
 	defer c.Close()
 	for i, made := range []call{{"look", 1, 9}, {"look", 2, 17}} {
-		if said := c.answer(made, ""); said != []string{"one", "two"}[i]+" true <nil>" || openShards(c.Cache) != 1 {
-			t.Fatal(made, said, openShards(c.Cache))
+		if said := c.answer(made, ""); said != []string{"one", "two"}[i]+" true <nil>" {
+			t.Fatal(made, said)
 		}
 	}
 	// 17 was the latest moment.
-	if said := c.answer(call{"look", 1, 9}, ""); said != "false <nil>" || openShards(c.Cache) != 0 {
-		t.Fatal(said, openShards(c.Cache))
+	if said := c.answer(call{"look", 1, 9}, ""); said != "false <nil>" {
+		t.Fatal(said)
 	}
 }
 
-func TestAHitThatIsToldAfterLaterOnesTakesNoEntryOut(t *testing.T) {
-	defer openSoon()()
-	oneIn, toldTogether = 1, mostNotes
-	c := lookedAt(Setup{Entries: 64, AfterWrite: 15 * time.Millisecond}, 13)
-	defer c.Close()
-	look := func(of call, wanted string) {
-		t.Helper()
-		if said := c.answer(of, ""); said != wanted || openShards(c.Cache) != 1 {
-			t.Fatal(of, said, openShards(c.Cache))
+// Notes of an entry that has expired by the latest moment, that has left, and of one stored again with a shorter life.
+func TestAHitThatIsToldLateTakesNoEntryOut(t *testing.T) {
+	defer tellMore()()
+	oneIn, rarelyIn, toldTogether = 1, 1, mostNotes
+	for _, between := range []func(momentary){
+		func(c momentary) { c.answer(call{"look", 2, 20}, "") },
+		func(c momentary) { c.answer(call{"drop", 1, 10}, "") },
+		func(c momentary) { _ = c.PutFor(1, "again", 1, ms); c.answer(call{"look", 2, 20}, "") },
+		func(c momentary) { c.answer(call{"drop", 1, 10}, ""); c.answer(call{"put", 3, 10}, "three") },
+	} {
+		c := lookedAt(Setup{Entries: 64, AfterWrite: 15 * ms}, 13)
+		c.answer(call{"look", 1, 10}, "")
+		between(c)
+		before := holds(t, c.Cache)
+		s := c.shards[0]
+		s.mu.Lock()
+		for i := range s.stripes {
+			s.tellAll(&s.stripes[i], 0)
 		}
-	}
-	look(call{"look", 1, 10}, "one true <nil>")
-	late := c.takeNoteAt(10)
-	for i := 0; i < 4; i++ {
-		look(call{"look", 2, 20}, "two true <nil>") // the first entry has expired by then
-	}
-	// It is the last to be told as the shard closes.
-	last := &c.shards[0].stripes[len(c.shards[0].stripes)-1].hits
-	last.notes[last.kept] = late
-	last.kept++
-	n, s := holds(t, c.Cache), c.Stats()
-	if s.Expired != 0 || n.Entries != 2 || n.Hits != s.Hits || s.Hits != 13+1+4 || late.now != 10 {
-		t.Fatal(n, s, late)
-	}
-	if said := c.answer(call{"look", 1, 20}, ""); said != "false <nil>" || c.Stats().Expired != 1 {
-		t.Fatal(said, c.Stats())
-	}
-}
-
-// takeNoteAt takes the note of a hit that was made last, at a moment.
-func (c momentary) takeNoteAt(now uint64) (late note) {
-	for i := range c.shards[0].stripes {
-		if of := &c.shards[0].stripes[i].hits; of.kept > 0 && of.notes[of.kept-1].now == now {
-			of.kept--
-			late = of.notes[of.kept]
-		}
-	}
-	return late
-}
-
-func TestNoShardOpensIfEntriesExpireUnusedOrEachHitIsTold(t *testing.T) {
-	defer openSoon()()
-	for _, s := range []Setup{{Entries: 64, AfterAccess: 10 * time.Millisecond}, exactly(aged)} {
-		c := lookedAt(s, 100)
-		if said := c.answer(call{"look", 1, 9}, ""); said != "one true <nil>" || openShards(c.Cache) != 0 {
-			t.Fatal(s, said, openShards(c.Cache))
+		s.release()
+		after, stats := holds(t, c.Cache), c.Stats()
+		if after != before || stats.Expired != 0 || stats.Hits != after.Hits {
+			t.Fatal(before, after, stats)
 		}
 		c.Close()
 	}
 }
 
-// A shard opens after 256 hits in a row, and hits of an open shard are one step each in the numbers, told or not.
-func TestAShardOpensAfterManyHitsInARow(t *testing.T) {
-	if opensAfter != 256 {
-		t.Skip("another form")
+func TestNoHitIsBesideTheLockIfEntriesExpireUnusedOrEachHitIsTold(t *testing.T) {
+	for _, s := range []Setup{{Entries: 64, AfterAccess: 10 * time.Millisecond}, exactly(aged), exactly(Setup{Entries: 64})} {
+		c := lookedAt(s, 100)
+		c.answer(call{"put", 1, 9}, "new")
+		if hits, puts := beside(c.Cache); hits+puts != 0 {
+			t.Fatal(s, hits, puts)
+		}
+		c.Close()
 	}
-	c := open(t, Setup{Entries: 100})
-	n := uint64(0)
-	hits := func(hits int) {
-		for i := 0; i < hits; i++ {
-			if _, found, err := c.Look(1); !found || err != nil {
-				t.Fatal(found, err)
+}
+
+// A put of the same weight over a value that never expires is beside the lock, counted and told at once.
+func TestAPutInPlaceIsTheSameAsOneByTheLibrary(t *testing.T) {
+	for _, s := range []Setup{{Entries: 4}, exactly(Setup{Entries: 4})} {
+		var left []Left[uint64, string]
+		c, err := Open(s, OnLeave(func(l Left[uint64, string]) { left = append(left, l) }))
+		if err != nil {
+			t.Fatal(err)
+		}
+		mustPut(t, c.Put(1, "a", 1))
+		mustPut(t, c.Put(1, "b", 1))
+		mustPut(t, c.Put(1, "c", 2))
+		mustPut(t, c.PutFor(1, "d", 2, time.Hour))
+		mustPut(t, c.Put(1, "e", 2))
+		mustPut(t, c.Put(1, "f", 2))
+		if there, err := c.Drop(1); !there || err != nil {
+			t.Fatal(there, err)
+		}
+		want := "[{1 a Replaced} {1 b Replaced} {1 c Replaced} {1 d Replaced} {1 e Replaced} {1 f Explicit}]"
+		if fmt.Sprint(left) != want {
+			t.Fatal(left)
+		}
+		n, stats := holds(t, c), c.Stats()
+		if _, puts := beside(c); stats.Replaced != 5 || stats.Explicit != 1 || n.Step != 7 || n.Lookups != 0 || !alwaysExact && s.Reads == Shared && puts != 2 {
+			t.Fatal(n, stats, puts)
+		}
+		c.Close()
+	}
+}
+
+func TestAPutInPlaceMakesItsMomentTheLatest(t *testing.T) {
+	c := openMomentary(Setup{Entries: 64})
+	defer c.Close()
+	for _, made := range []call{{"put", 1, 0}, {"put for 10 ms", 2, 0}, {"put", 1, 20}} {
+		c.answer(made, "")
+	}
+	if said := c.answer(call{"look", 2, 3}, ""); said != "false <nil>" {
+		t.Fatal(said)
+	}
+}
+
+// Each value that was put leaves once, as the listener is told.
+func TestEachValueLeavesOnceWhoeverReplacesIt(t *testing.T) {
+	const goroutines, puts, keys = 6, 20_000, 3
+	left := make([]atomic.Uint32, goroutines*puts)
+	c, err := Open(Setup{Entries: 64}, OnLeave(func(l Left[uint64, int]) { left[l.Value].Add(1) }))
+	if err != nil {
+		t.Fatal(err)
+	}
+	together(goroutines, func(own int) {
+		random := rand.New(rand.NewSource(int64(own)))
+		for i := 0; i < puts; i++ {
+			mustPut(t, c.Put(uint64(random.Intn(keys)), own*puts+i, 1))
+			switch random.Intn(50) {
+			case 0:
+				_, _ = c.Drop(uint64(random.Intn(keys)))
+			case 1:
+				_ = c.Clear()
 			}
-			n++
+		}
+	})
+	s, n := c.Stats(), holds(t, c)
+	if s.Explicit+s.Replaced+n.Entries != goroutines*puts {
+		t.Fatal(s, n)
+	}
+	c.Close()
+	for value := range left {
+		if times := left[value].Load(); times != 1 {
+			t.Fatal(value, times)
 		}
 	}
-	_ = c.Put(1, "one", 1)
-	for _, other := range []func(){func() { _ = c.Contains(1) }, func() { _, _, _ = c.Look(2) }, func() { _ = c.Put(3, "", 1) }, func() { _ = c.Stats() }} {
-		if hits(256); openShards(c) != 0 {
-			t.Fatal(n)
-		}
-		other()
-		if hits(256); openShards(c) != 0 {
-			t.Fatal(n)
-		}
-		if hits(1000); openShards(c) != 1 {
-			t.Fatal(n)
-		}
-		if other(); openShards(c) != 0 {
-			t.Fatal(n)
+}
+
+func TestATableGrowsAndLosesNoKey(t *testing.T) {
+	c := open(t, Setup{Entries: 5000, Shards: 1})
+	for key := uint64(0); key < 5000; key++ {
+		mustPut(t, c.Put(key*1024, fmt.Sprint(key), 1))
+	}
+	held := 0
+	for key := uint64(0); key < 5000; key++ {
+		if v, found, _ := c.Look(key * 1024); found && v != fmt.Sprint(key) {
+			t.Fatal(key, v)
+		} else if found {
+			held++
 		}
 	}
-	told, fault := c.shards[0].lib.numbers()
-	if numbers := holds(t, c); fault != 0 || numbers.Hits != n || c.Stats().Hits != n || numbers.Step != n+2+3 || told.Hits >= n || told.Hits < 4*(512+1000/32) {
-		t.Fatal(numbers, told, n)
+	if holds(t, c); held != 5000 {
+		t.Fatal(held)
 	}
 }
 
@@ -274,7 +316,7 @@ func TestNoValueIsReturnedAfterTheCallThatRemovedIt(t *testing.T) {
 		}
 		row.with(c)
 		var least [keys]atomic.Uint64
-		var next, opened, looks atomic.Uint64
+		var next, looks atomic.Uint64
 		together(goroutines, func(own int) {
 			random, made := rand.New(rand.NewSource(int64(own))), uint64(0)
 			look := func(key uint64) (uint64, bool) {
@@ -290,9 +332,6 @@ func TestNoValueIsReturnedAfterTheCallThatRemovedIt(t *testing.T) {
 				if int(key)%goroutines != own || random.Intn(200) != 0 {
 					if v, found := look(key); found && v < before {
 						t.Error(key, v, before)
-					}
-					if turn%64 == 0 {
-						opened.Add(uint64(openShards(c)))
 					}
 					continue
 				}
@@ -316,17 +355,17 @@ func TestNoValueIsReturnedAfterTheCallThatRemovedIt(t *testing.T) {
 		if s.Hits+s.Misses != looks.Load() || s.Hits != n.Hits || s.Misses != n.Misses || n.Lookups != looks.Load() {
 			t.Fatal(s, n, looks.Load())
 		}
-		if t.Log(opened.Load(), "of", looks.Load()/64, "looks saw a shard open"); opened.Load() < 10 && opensAfter != never {
-			t.Fatal(opened.Load())
+		hits, puts := beside(c)
+		if t.Log(hits, puts, "beside the lock of", looks.Load(), "looks"); !alwaysExact && (hits < looks.Load()/2 || puts == 0) {
+			t.Fatal(hits, puts)
 		}
 		c.Close()
 	}
 }
 
-func TestOneLoadForAllWhoMissInAShardThatWasOpen(t *testing.T) {
-	defer openSoon()()
+func TestOneLoadForAllWhoMissBesideHits(t *testing.T) {
+	defer tellMore()()
 	c := open(t, Setup{Entries: 64})
-	opened := 0
 	for round := 0; round < 300; round++ {
 		var loads atomic.Int32
 		together(6, func(int) {
@@ -341,19 +380,18 @@ func TestOneLoadForAllWhoMissInAShardThatWasOpen(t *testing.T) {
 				}
 			}
 		})
-		opened += openShards(c)
 		if _, err := c.Drop(1); err != nil || loads.Load() != 1 {
 			t.Fatal(err, loads.Load())
 		}
 	}
-	if s := c.Stats(); s.Loads != 300 || s.Hits+s.Misses != 300*6*20 || opened < 200 {
-		t.Fatal(s, opened)
+	if s := c.Stats(); s.Loads != 300 || s.Hits+s.Misses != 300*6*20 {
+		t.Fatal(s)
 	}
 }
 
-// Of the hits of open shards the adviser is shown those that the library is told, each once.
+// Of the hits beside the lock the adviser is shown those that the library is told, each once.
 func TestTheAdviserIsShownWhatTheLibraryIsTold(t *testing.T) {
-	defer openSoon()()
+	defer tellMore()()
 	c := open(t, Setup{Entries: 1024, Shards: 2})
 	random, shown := rand.New(rand.NewSource(5)), uint64(0)
 	for turn := 0; turn < 50_000; turn++ {
@@ -367,7 +405,6 @@ func TestTheAdviserIsShownWhatTheLibraryIsTold(t *testing.T) {
 			shown += uint64(len(before))
 		}
 	}
-	_ = c.Stats() // closes both
 	told, _ := c.shards[0].lib.numbers()
 	if pending := uint64(len(pendingOf(c.shards[0]))); shown+pending < told.Lookups-64 || told.Lookups*3 > 50_000 {
 		t.Fatal(shown, pending, told)

@@ -1,3 +1,5 @@
+//go:build cgo && linux && amd64
+
 // Package rookdresser is a loading cache for many goroutines: the proved sequential cache of librookdresser behind locks, for Go
 // values under Go keys. The package itself is tested, not proved. CGO_CFLAGS and CGO_LDFLAGS name the header's folder and the
 // library.
@@ -11,9 +13,9 @@ import (
 
 // A Cache holds values of type V by keys of type K, for many goroutines.
 //
-// A call with a key locks the key's shard for one step, expected O(1), and up to four slides of its window's border. A hit of a shard
-// that is open takes a lock of its processor instead: see Reads. Each 64 look-ups of which the library of a shard hears are shown to
-// the cache's adviser, under a lock of its own. The other calls lock all shards, one after another, so with several shards they
+// A call with a key locks the key's shard for one step, expected O(1), and up to four slides of its window's border. Most hits, and
+// puts in place of a value, take no lock: see Reads. Each 64 look-ups of which the library of a shard hears are shown to the cache's
+// adviser, under a lock of its own. The other calls lock all shards, one after another, so with several shards they
 // aren't one step. No code of yours runs while a lock is held. A call that returns a Fault has changed nothing in the shard that
 // refused it, but for the slides.
 type Cache[K comparable, V any] struct {
@@ -44,6 +46,9 @@ func OpenHashed[K comparable, V any](s Setup, hash func(maphash.Seed, K) uint64,
 }
 
 func newCache[K comparable, V any](s Setup, hash hasher[K], options []Option[K, V]) (*Cache[K, V], error) {
+	if err := rightLibrary(); err != nil {
+		return nil, err
+	}
 	parts, err := s.parts()
 	if err != nil {
 		return nil, err
@@ -104,7 +109,7 @@ func (c *Cache[K, V]) Look(key K) (v V, found bool, err error) {
 		return v, true, nil
 	}
 	if err = s.made(s.lib.look(number, now), now); err == nil {
-		v, found = s.looked()
+		v, found = s.looked(now)
 	}
 	return v, found, c.leave(s, err)
 }
@@ -113,9 +118,8 @@ func (c *Cache[K, V]) Look(key K) (v V, found bool, err error) {
 // closed cache.
 func (c *Cache[K, V]) Contains(key K) bool {
 	s, hash, now := c.enter(key)
-	defer s.mu.Unlock()
-	at, _ := s.table.find(key, hash)
-	return s.isThere(at, now)
+	defer s.release()
+	return s.isThere(s.table.walk(key, hash), now)
 }
 
 // Keys returns the keys that Look would find, in no particular order. It counts neither look-ups nor uses. O(entries).
@@ -132,14 +136,24 @@ func (c *Cache[K, V]) Keys() (keys []K) {
 func (c *Cache[K, V]) Put(key K, v V, weight uint32) error { return c.put(key, v, weight, 0) }
 
 func (c *Cache[K, V]) put(key K, v V, weight, life uint32) error {
-	s, hash, now := c.enter(key)
-	return c.leave(s, s.put(key, hash, v, weight, life, now))
+	now := c.clock.now()
+	s, hash := c.of(key)
+	if life == 0 && s.stripes != nil {
+		if replaced := s.putInPlace(key, hash, v, weight, now); replaced != nil {
+			if c.listener != nil {
+				c.tell([]Left[K, V]{{key, replaced.value, Replaced}})
+			}
+			return nil
+		}
+	}
+	s.take()
+	return c.leave(s, s.put(key, hash, v, weight, life, s.moment(now)))
 }
 
 // Drop removes the key's entry, and returns whether there was one. An open load of the key will store nothing. The error is ErrClosed.
 func (c *Cache[K, V]) Drop(key K) (bool, error) {
 	s, hash, now := c.enter(key)
-	_, number := s.table.find(key, hash)
+	_, number := s.find(key, hash)
 	err := s.made(s.lib.drop(number, now), now)
 	there := err == nil && s.lib.number() == 1
 	return there, c.leave(s, err)
@@ -149,7 +163,7 @@ func (c *Cache[K, V]) Drop(key K) (bool, error) {
 // error is ErrClosed.
 func (c *Cache[K, V]) Forget(key K) (bool, error) {
 	s, hash, now := c.enter(key)
-	_, number := s.table.find(key, hash)
+	_, number := s.find(key, hash)
 	err := s.made(s.lib.forget(number, now), now)
 	there := err == nil && s.lib.number() == 1
 	return there, c.leave(s, err)
@@ -171,7 +185,7 @@ func (c *Cache[K, V]) sweep(call func(library, uint64) Fault) (err error) {
 			err = fault
 		}
 		left = append(left, s.left(c.listener != nil)...)
-		s.mu.Unlock()
+		s.release()
 	}
 	c.tell(left)
 	return err
@@ -188,7 +202,7 @@ func (c *Cache[K, V]) enter(key K) (s *shard[K, V], hash, now uint64) {
 // leave gives the lock back, and then tells the listener what the call told to have left.
 func (c *Cache[K, V]) leave(s *shard[K, V], err error) error {
 	left := s.left(c.listener != nil)
-	s.mu.Unlock()
+	s.release()
 	c.tell(left)
 	return err
 }

@@ -133,12 +133,13 @@ func TestKeysOfOneHashAreToldApart(t *testing.T) {
 		func(key int) uint64 { return uint64(key) / 3 },
 	}
 	for _, hash := range hashOf {
-		table, places, numbers := newTable[int, string](), map[int]int32{}, map[uint64]int{}
+		table, places, numbers := new(table[int, string]), map[int]*node[int, string]{}, map[uint64]int{}
+		table.open()
 		for turn, random := 0, rand.New(rand.NewSource(1)); turn < 20000; turn++ {
 			key := random.Intn(30)
 			at, number := table.find(key, hash(key))
 			place, held := places[key]
-			if held != (at != none) || held && (at != place || numbers[number] != key) {
+			if held != (at != nil) || held && (at != place || numbers[number] != key) {
 				t.Fatal(key, at, place, held)
 			}
 			if owner, taken := numbers[number]; taken && owner != key {
@@ -156,8 +157,8 @@ func TestKeysOfOneHashAreToldApart(t *testing.T) {
 		for _, at := range places {
 			table.letGo(at)
 		}
-		if _, keys := table.kept(); keys != 0 || len(table.first) != 0 || len(table.moved) != 0 {
-			t.Fatal(keys, table.first, table.moved)
+		if _, keys := table.kept(); keys != 0 || len(table.moved) != 0 {
+			t.Fatal(keys, table.moved)
 		}
 	}
 }

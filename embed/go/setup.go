@@ -1,17 +1,23 @@
+//go:build cgo && linux && amd64
+
 package rookdresser
 
 import (
 	"fmt"
+	"runtime"
 	"sync"
 	"sync/atomic"
 	"time"
 )
 
 // A Setup has the settings of a cache. Entries, Window and Bound are for the whole cache; each shard gets an equal part. A duration
-// is 0, which means never, or at least a millisecond; it counts in whole milliseconds.
+// counts in whole milliseconds, rounded up; 0 means never.
 type Setup struct {
 	Entries uint32 // how many the cache may hold: 1 to 65,536 for each shard, and so at most 268,435,456
-	Shards  uint32 // how many parts it has, each with a lock of its own: 1 to 4,096; 0 stands for one for each 65,536 entries
+	// How many parts it has, each with a lock of its own: 1 to 4,096. 0 stands for one for each 65,536 entries; or, if the windows follow and
+	// there is no Bound, for eight for each of GOMAXPROCS, but so few that each has 128 entries. A part that is full evicts though another
+	// may have room.
+	Shards  uint32
 	Window  uint32 // how many of the entries the windows may hold, for good: 1 to Entries; 0 leaves it to Adaptive
 	Flights uint32 // how many loads may be open in a shard: 1 to 4,096; 0 stands for 1,024
 	Bound   uint64 // how much the entries may weigh together: 1 to 2^48 for each shard; 0 stands for 2^48 each
@@ -26,7 +32,7 @@ type Setup struct {
 	// Seeded says whether keys that are numbers are hashed under a random seed of the cache's own, as strings always are. Then an
 	// attacker who chooses keys can't aim at the library's tables.
 	Seeded bool
-	// Adaptive says whether the windows follow the stream of look-ups: On, which takes 512 to 4,194,304 Entries and no Window; Off, by
+	// Adaptive says whether the windows follow the stream of look-ups: On, which takes 64 to 4,194,304 Entries and no Window; Off, by
 	// which they stay at Window or else at a hundredth of the entries; Default, which is On where that may be.
 	Adaptive Choice
 	// Reads says whether goroutines that hit wait for each other: Shared, the zero value, or Exact.
@@ -52,12 +58,15 @@ func (c Choice) String() string {
 }
 
 const (
-	mostEntries = 65_536 // of a shard
-	mostShards  = 4096
-	mostFlights = 4096    // of a shard
-	mostWeight  = 1 << 48 // of a shard
+	mostEntries  = 65_536 // of a shard
+	leastEntries = 128    // of one of several, by default
+	mostShards   = 4096
+	// By default, if there are as many entries.
+	shardsOfProcessor = 8
+	mostFlights       = 4096    // of a shard
+	mostWeight        = 1 << 48 // of a shard
 	// The entries of a whole cache whose window may follow.
-	leastAdaptive, mostAdaptive = 512, 64 * 65_536
+	leastAdaptive, mostAdaptive = 64, 64 * 65_536
 )
 
 // parts returns the setup of each shard, or an error that is ErrBadSetup and says which setting is out of its range.
@@ -78,10 +87,27 @@ func (s Setup) shards() uint32 {
 	if s.Shards != 0 {
 		return s.Shards
 	}
-	if n := (s.Entries-1)/mostEntries + 1; n <= mostShards {
-		return n
+	n := (s.Entries-1)/mostEntries + 1
+	if wanted := s.shardsForProcessors(); n < wanted {
+		n = wanted
 	}
-	return mostShards
+	if n > mostShards {
+		return mostShards
+	}
+	return n
+}
+
+// shardsForProcessors returns in how many shards goroutines seldom meet, if that costs few hits; else 1. A window of a hundredth of a
+// small shard is too little for bursts. A Bound is divided too, and a value may weigh its shard's part alone.
+func (s Setup) shardsForProcessors() uint32 {
+	if !s.adapts() || s.Bound != 0 {
+		return 1
+	}
+	n := uint32(runtime.GOMAXPROCS(0)) * shardsOfProcessor
+	if most := s.Entries / leastEntries; n > most {
+		return most
+	}
+	return n
 }
 
 // check returns an error for the first setting that is out of its range. A setting on which ranges depend is checked before them.
@@ -146,15 +172,24 @@ func (s Setup) checkDurations() error {
 		name  string
 		value time.Duration
 	}{{"AfterWrite", s.AfterWrite}, {"AfterAccess", s.AfterAccess}, {"Refresh", s.Refresh}} {
-		if duration.value != 0 && duration.value < time.Millisecond {
-			return badSetup("%s is %v, and has to be at least 1ms", duration.name, duration.value)
+		if duration.value < 0 {
+			return badSetup("%s is %v, and has to be 0 or more", duration.name, duration.value)
 		}
 	}
-	refresh, afterWrite := s.Refresh.Truncate(time.Millisecond), s.AfterWrite.Truncate(time.Millisecond)
+	refresh, afterWrite := wholeMilliseconds(s.Refresh), wholeMilliseconds(s.AfterWrite)
 	if afterWrite != 0 && refresh >= afterWrite {
-		return badSetup("Refresh is %v, and has to be below AfterWrite, %v", refresh, afterWrite)
+		return badSetup("Refresh is %dms, and has to be below AfterWrite, %dms", refresh, afterWrite)
 	}
 	return nil
+}
+
+// wholeMilliseconds returns a duration that isn't negative in milliseconds, rounded up, so that only 0 becomes 0.
+func wholeMilliseconds(d time.Duration) uint64 {
+	whole := uint64(d / time.Millisecond)
+	if d%time.Millisecond > 0 {
+		whole++
+	}
+	return whole
 }
 
 func badSetup(how string, of ...any) error {
@@ -222,6 +257,10 @@ func (c *clock) now() uint64 {
 	if !c.isRead.Load() {
 		return 0
 	}
+	return c.read()
+}
+
+func (c *clock) read() uint64 {
 	since := c.elapsed()
 	if c.given != nil {
 		since = c.given().Sub(c.opened)

@@ -3,12 +3,13 @@ package rookdresser
 import (
 	"errors"
 	"math"
+	"runtime"
 	"testing"
 	"time"
 )
 
 func TestShardsHoldMoreThanOneCacheMayAndShareTheSettings(t *testing.T) {
-	c, err := Open[int, int](Setup{Entries: 100_001})
+	c, err := Open[int, int](Setup{Entries: 100_001, Shards: 2})
 	if err != nil {
 		t.Fatal(err)
 	}
@@ -36,6 +37,28 @@ func TestShardsHoldMoreThanOneCacheMayAndShareTheSettings(t *testing.T) {
 	}
 	if n := holds(t, c); n.Entries != 0 {
 		t.Fatal(n)
+	}
+}
+
+// On four processors.
+func TestACacheWhoseWindowFollowsHasShardsForItsProcessors(t *testing.T) {
+	defer runtime.GOMAXPROCS(runtime.GOMAXPROCS(4))
+	for _, row := range []struct {
+		s      Setup
+		shards uint32
+	}{
+		{Setup{Entries: 1}, 1}, {Setup{Entries: 255}, 1}, {Setup{Entries: 256}, 2}, {Setup{Entries: 511}, 3}, {Setup{Entries: 512}, 4}, {Setup{Entries: 1023}, 7}, {Setup{Entries: 4096}, 32},
+		{Setup{Entries: 1 << 20}, 32}, {Setup{Entries: 1 << 22}, 64}, {Setup{Entries: 1<<22 + 1}, 65}, {Setup{Entries: 1 << 28}, 4096},
+		{Setup{Entries: 4096, Adaptive: Off}, 1}, {Setup{Entries: 4096, Window: 9}, 1}, {Setup{Entries: 4096, Bound: 1 << 40}, 1},
+		{Setup{Entries: 4096, Shards: 3}, 3}, {Setup{Entries: 65_537, Adaptive: Off}, 2},
+	} {
+		if got := row.s.shards(); got != row.shards {
+			t.Error(row.s, got)
+		}
+	}
+	runtime.GOMAXPROCS(1)
+	if got := (Setup{Entries: 4096}).shards(); got != 8 {
+		t.Error(got)
 	}
 }
 
@@ -71,14 +94,17 @@ func TestEachSettingOutOfItsRangeIsNamedWithItsValueAndItsRange(t *testing.T) {
 		{Setup{Entries: 3, Flights: 4097}, "Flights is 4097, and has to be from 1 to 4096"},
 		{Setup{Entries: 3, Bound: 1<<48 + 1}, "Bound is 281474976710657, and has to be from 1 to 281474976710656, with 1 shard"},
 		{Setup{Entries: 3, Shards: 3, Bound: 2}, "Bound is 2, and has to be from 3 to 844424930131968, with 3 shards"},
-		{Setup{Entries: 3, AfterWrite: 60_000}, "AfterWrite is 60µs, and has to be at least 1ms"},
-		{Setup{Entries: 3, AfterAccess: -time.Second}, "AfterAccess is -1s, and has to be at least 1ms"},
-		{Setup{Entries: 3, Refresh: time.Millisecond - 1}, "Refresh is 999.999µs, and has to be at least 1ms"},
-		{Setup{Entries: 3, AfterWrite: 5 * time.Second, Refresh: 10 * time.Second}, "Refresh is 10s, and has to be below AfterWrite, 5s"},
-		{Setup{Entries: 3, AfterWrite: 5*time.Second + 2, Refresh: 5*time.Second + 1}, "Refresh is 5s, and has to be below AfterWrite, 5s"},
+		{Setup{Entries: 3, AfterWrite: -1}, "AfterWrite is -1ns, and has to be 0 or more"},
+		{Setup{Entries: 3, AfterAccess: -time.Second}, "AfterAccess is -1s, and has to be 0 or more"},
+		{Setup{Entries: 3, Refresh: math.MinInt64}, "Refresh is -2562047h47m16.854775808s, and has to be 0 or more"},
+		{Setup{Entries: 3, AfterWrite: 5 * time.Second, Refresh: 10 * time.Second}, "Refresh is 10000ms, and has to be below AfterWrite, 5000ms"},
+		{Setup{Entries: 3, AfterWrite: 5*time.Second + 2, Refresh: 5*time.Second + 1}, "Refresh is 5001ms, and has to be below AfterWrite, 5001ms"},
+		{Setup{Entries: 3, AfterWrite: 5*time.Second + 1, Refresh: 5*time.Second + 2}, "Refresh is 5001ms, and has to be below AfterWrite, 5001ms"},
+		{Setup{Entries: 3, AfterWrite: 1, Refresh: 1}, "Refresh is 1ms, and has to be below AfterWrite, 1ms"},
+		{Setup{Entries: 3, AfterWrite: Forever, Refresh: Forever}, "Refresh is 9223372036855ms, and has to be below AfterWrite, 9223372036855ms"},
 		{Setup{Entries: 512, Window: 5, Adaptive: On}, "Adaptive is On, and has to be Default or Off with a Window, which is 5"},
-		{Setup{Entries: 511, Adaptive: On}, "Adaptive is On, and has to be Default or Off unless Entries, which is 511, is from 512 to 4194304"},
-		{Setup{Entries: 4_194_305, Adaptive: On}, "Adaptive is On, and has to be Default or Off unless Entries, which is 4194305, is from 512 to 4194304"},
+		{Setup{Entries: 63, Adaptive: On}, "Adaptive is On, and has to be Default or Off unless Entries, which is 63, is from 64 to 4194304"},
+		{Setup{Entries: 4_194_305, Adaptive: On}, "Adaptive is On, and has to be Default or Off unless Entries, which is 4194305, is from 64 to 4194304"},
 		{Setup{Entries: 512, Adaptive: 3}, "Adaptive is Choice(3), and has to be Default, On or Off"},
 		{Setup{Entries: 512, Reads: 2}, "Reads is Reads(2), and has to be Shared or Exact"},
 	} {
@@ -89,10 +115,37 @@ func TestEachSettingOutOfItsRangeIsNamedWithItsValueAndItsRange(t *testing.T) {
 	}
 }
 
+func TestADurationCountsInWholeMillisecondsRoundedUp(t *testing.T) {
+	for duration, whole := range map[time.Duration]int64{
+		1: 1, ms - 1: 1, ms: 1, ms + 1: 2, 3 * ms / 2: 2, 2*ms - 1: 2, 2 * ms: 2, 1500*ms + 1: 1501,
+	} {
+		for _, s := range []Setup{
+			{Entries: 3, AfterWrite: duration}, {Entries: 3, AfterAccess: duration}, {Entries: 3, Refresh: duration},
+			{Entries: 3, AfterWrite: duration, AfterAccess: duration},
+		} {
+			s, clock := timed(s)
+			c := open(t, s)
+			mustPut(t, c.Put(1, "old", 1))
+			// What is fresh is neither absent nor loaded again.
+			isFresh := func() bool {
+				v, err := c.Get(ctx, 1, got("new"))
+				return v == "old" && err == nil
+			}
+			clock.at.Store(whole - 1)
+			if s.AfterAccess != 0 && !c.Contains(1) || s.AfterAccess == 0 && !isFresh() {
+				t.Fatal(s, "is too short")
+			}
+			if clock.at.Store(whole); isFresh() {
+				t.Fatal(s, "is too long")
+			}
+		}
+	}
+}
+
 // The library takes the least and the greatest of each setting.
 func TestEachSettingMayBeTheLeastAndTheGreatest(t *testing.T) {
 	for _, s := range []Setup{
-		{Entries: 1, Shards: 1, Window: 1, Flights: 1, Bound: 1, AfterWrite: 2 * time.Millisecond, AfterAccess: time.Millisecond, Refresh: time.Millisecond},
+		{Entries: 1, Shards: 1, Window: 1, Flights: 1, Bound: 1, AfterWrite: time.Millisecond + 1, AfterAccess: 1, Refresh: 1},
 		{Entries: 65_536, Shards: 1, Window: 65_536, Flights: 4096, Bound: 1 << 48, AfterAccess: math.MaxInt64, Refresh: math.MaxInt64},
 		{Entries: 4096, Shards: 4096, Flights: 4096, Bound: 4096 << 48, AfterWrite: math.MaxInt64},
 		{Entries: 4097, Shards: 4096, Window: 1, Bound: 4096},

@@ -1,36 +1,35 @@
+//go:build cgo && linux && amd64
+
 package rookdresser
 
 import (
 	"math"
+	"sync/atomic"
 	"time"
 )
 
-// A shard is one cache of the library, which goroutines take alone, or read side by side while it is open.
-//
-// It is closed at first: one lock guards it. After many hits with no other call it opens: a goroutine that is sure to hit then takes
-// the lock of a stripe alone. Any other call closes all stripes before it reads or changes anything. What a hit changes is in its
-// stripe, or is the latest moment.
+// A shard is one cache of the library, which goroutines take alone. Those that surely hit, or put in place, walk its table beside
+// whoever has it, and count in a stripe.
 type shard[K comparable, V any] struct {
-	mu     lock
-	lib    library
-	stats  Stats
-	inARow uint64   // hits with no other call since; none while it is open
-	untold uint64   // hits of which the library will never hear
-	_      [64]byte // what a telling writes is apart from what each hit reads
-	table  table[K, V]
+	mu      lock
+	lib     library
+	stats   Stats
+	told    uint64        // uses made beside the lock of which the library has heard
+	evicted atomic.Uint32 // how many entries; it may turn over
+	_       [64]byte      // what whoever has the lock writes is apart from what each hit reads
 	// As the library has them, never being the greatest: the durations, and how long a value without a life is sure to be found and not due.
 	afterWrite, afterAccess, sureFor uint64
-	// Of each hit as it is made. The library needn't have heard of it.
-	latest  moment
-	isOpen  flag // changed by whoever has the lock
-	stripes []stripe
+	stripes                          stripes // none if each hit takes the lock
+	latest                           latest  // of each call as it is made. The library needn't have heard of it.
+	table                            table[K, V]
 }
 
 func newShard[K comparable, V any](s Setup, lib library) *shard[K, V] {
 	of := &shard[K, V]{
-		lib: lib, table: newTable[K, V](), stripes: newStripes(s),
+		lib: lib, stripes: newStripes(s),
 		afterWrite: orNever(s.AfterWrite), afterAccess: orNever(s.AfterAccess), sureFor: orNever(s.Refresh),
 	}
+	of.table.open()
 	if of.afterWrite < of.sureFor {
 		of.sureFor = of.afterWrite
 	}
@@ -47,13 +46,28 @@ func orNever(d time.Duration) uint64 {
 	if d == 0 {
 		return never
 	}
-	return uint64(d.Milliseconds())
+	return wholeMilliseconds(d)
+}
+
+// take takes the shard alone for a call that may store or remove, and has the time stand still for all others. A look-up or a seek takes
+// the lock without that.
+func (s *shard[K, V]) take() {
+	s.mu.Lock()
+	if s.stripes != nil {
+		s.latest.stop()
+	}
+}
+
+// release gives the lock back, whichever call took it.
+func (s *shard[K, V]) release() {
+	s.latest.goOn()
+	s.mu.Unlock()
 }
 
 // moment returns a moment as the library counts it: one before the latest counts as the latest. Each call below is given such, by
-// whoever has the shard alone.
+// whoever has the lock.
 func (s *shard[K, V]) moment(now uint64) uint64 {
-	if latest := s.latest.Load(); now < latest {
+	if latest := s.latest.moment(); now < latest {
 		return latest
 	}
 	return now
@@ -65,76 +79,84 @@ func (s *shard[K, V]) made(fault Fault, now uint64) error {
 		s.stats.refuse(fault)
 		return fault
 	}
-	s.passTo(now)
+	s.latest.pass(now)
 	return nil
 }
 
-// passTo makes a moment the latest. It is written only if it grows, which takes as long as some hits.
-func (s *shard[K, V]) passTo(now uint64) {
-	if now != s.latest.Load() {
-		s.latest.Store(now)
-	}
+// find finds the key's node under the lock, which is given back if the comparison of two keys panics. A key that can't be compared
+// panics before that, as it is hashed, and so none is known that comes as far as this.
+func (s *shard[K, V]) find(key K, hash uint64) (n *node[K, V], number uint64) {
+	returns := false
+	defer func() {
+		if !returns {
+			s.release()
+		}
+	}()
+	n, number = s.table.find(key, hash)
+	returns = true
+	return n, number
 }
 
-// isThere tells whether the row has an entry that hasn't expired.
-func (s *shard[K, V]) isThere(at int32, now uint64) bool {
-	if at == none || s.table.rows[at].slot == none {
+// isThere tells whether the node has an entry that hasn't expired.
+func (s *shard[K, V]) isThere(n *node[K, V], now uint64) bool {
+	if n == nil || n.token == none {
 		return false
 	}
-	of := &s.table.slots[s.table.rows[at].slot]
+	of := &s.table.slots[n.token]
 	age := now - of.written
 	return age < s.afterWrite && now-of.used < s.afterAccess && (of.life == 0 || age < uint64(of.life))
 }
 
-// sureUntil returns the moment before which a look-up or a seek of the row surely hits; 0 if there is none.
-func (s *shard[K, V]) sureUntil(at int32) uint64 {
-	if at == none || s.table.rows[at].slot == none {
-		return 0
-	}
-	of, sureFor := &s.table.slots[s.table.rows[at].slot], s.sureFor
-	if of.life != 0 && uint64(of.life) < sureFor {
-		sureFor = uint64(of.life)
-	}
-	if until := of.written + sureFor; until >= of.written {
-		return until
-	}
-	return never
-}
-
-// sureHit returns the value of the row if a look-up or a seek surely hits, with nothing due and nothing leaving. The library is told
-// before its next call, so that most hits don't cross into C.
-func (s *shard[K, V]) sureHit(at int32, number, now uint64) (v V, sure bool) {
-	if now >= s.sureUntil(at) {
-		s.inARow = 0
+// sureHit returns the value of the node if a look-up or a seek surely hits, with nothing due and nothing leaving. The library is told
+// before its next call, so that most hits don't cross into C. The value is read once the time has moved, since another may be put in its
+// place meanwhile, at the moment before.
+func (s *shard[K, V]) sureHit(n *node[K, V], now uint64) (v V, sure bool) {
+	if n == nil {
 		return v, false
 	}
-	s.passTo(now)
+	of := n.entry.Load()
+	if of == nil || now >= of.until {
+		return v, false
+	}
+	s.latest.pass(now)
 	s.stats.Hits++
-	s.inARow++
-	s.lib.hit(number, now)
-	return s.table.slots[s.table.rows[at].slot].value, true
+	s.lib.queue(n.number, now)
+	return n.entry.Load().value, true
 }
 
 // looked counts what the latest look-up or seek found, and returns it.
-func (s *shard[K, V]) looked() (v V, found bool) {
+func (s *shard[K, V]) looked(now uint64) (v V, found bool) {
 	if !s.lib.isHit() {
 		s.stats.Misses++
 		return v, false
 	}
 	s.stats.Hits++
 	of := &s.table.slots[s.lib.token()]
-	of.used = s.latest.Load()
-	return of.value, true
+	of.used = now
+	return of.node.entry.Load().value, true
+}
+
+// newEntry returns an entry that is written at a moment.
+func (s *shard[K, V]) newEntry(v V, weight, life uint32, now uint64) *entry[V] {
+	sureFor := s.sureFor
+	if life != 0 && uint64(life) < sureFor {
+		sureFor = uint64(life)
+	}
+	until := now + sureFor
+	if until < now {
+		until = never
+	}
+	return &entry[V]{value: v, until: until, weight: weight}
 }
 
 func (s *shard[K, V]) put(key K, hash uint64, v V, weight, life uint32, now uint64) error {
-	at, number := s.table.find(key, hash)
-	token := s.table.keep(v)
+	n, number := s.find(key, hash)
+	token := s.table.keep(s.newEntry(v, weight, life, now), life, now)
 	if err := s.made(s.lib.put(number, token, weight, life, now), now); err != nil {
 		s.table.drop(token)
 		return err
 	}
-	s.table.store(token, s.table.hold(at, key, hash, number), life, s.latest.Load())
+	s.table.store(token, s.table.hold(n, key, hash, number))
 	return nil
 }
 
@@ -142,19 +164,22 @@ func (s *shard[K, V]) put(key K, hash uint64, v V, weight, life uint32, now uint
 func (s *shard[K, V]) left(listens bool) (left []Left[K, V]) {
 	for i, n := uint64(0), s.lib.notices(); i < n; i++ {
 		token, cause := s.lib.notice(i)
-		value, at := s.table.drop(token)
+		value, of := s.table.drop(token)
 		s.stats.leave(cause)
-		if listens {
-			left = append(left, Left[K, V]{s.table.rows[at].key, value, cause})
+		if cause == Size {
+			s.evicted.Add(1)
 		}
-		s.table.letGo(at)
+		if listens {
+			left = append(left, Left[K, V]{of.key, value, cause})
+		}
+		s.table.letGo(of)
 	}
 	return left
 }
 
 func (s *shard[K, V]) close(listens bool) []Left[K, V] {
 	s.take()
-	defer s.mu.Unlock()
+	defer s.release()
 	_ = s.lib.clear(0)
 	left := s.left(listens)
 	_ = s.lib.close()
@@ -164,27 +189,28 @@ func (s *shard[K, V]) close(listens bool) []Left[K, V] {
 
 func (s *shard[K, V]) keys(keys []K, now uint64) []K {
 	s.take()
-	defer s.mu.Unlock()
+	defer s.release()
 	now = s.moment(now)
-	for at := range s.table.rows {
+	for i := range s.table.slots {
 		// No look-up finds a key that doesn't equal itself, as a NaN.
-		if key := s.table.rows[at].key; key == key && s.isThere(int32(at), now) {
-			keys = append(keys, key)
+		if n := s.table.slots[i].node; n != nil && n.key == n.key && s.isThere(n, now) {
+			keys = append(keys, n.key)
 		}
 	}
 	return keys
 }
 
-// numbers returns the library's numbers, as if it had heard of each hit.
+// numbers returns the library's numbers, as if it had heard of each use. To it a put in place is a look-up that hits.
 func (s *shard[K, V]) numbers() (Numbers, Fault) {
 	n, fault := s.lib.numbers()
 	if fault != 0 {
 		return n, fault
 	}
-	n.Lookups += s.untold
-	n.Hits += s.untold
-	n.Step += s.untold
-	if latest := s.latest.Load(); latest > n.Latest {
+	hits, puts := s.stripes.made()
+	n.Lookups += hits - s.told
+	n.Hits += hits - s.told
+	n.Step += hits + puts - s.told
+	if latest := s.latest.moment(); latest > n.Latest {
 		n.Latest = latest
 	}
 	return n, 0

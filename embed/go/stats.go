@@ -1,3 +1,5 @@
+//go:build cgo && linux && amd64
+
 package rookdresser
 
 import (
@@ -68,7 +70,10 @@ func (c *Cache[K, V]) Stats() Stats {
 	for _, s := range c.shards {
 		s.take()
 		sum.add(&s.stats)
-		s.mu.Unlock()
+		hits, puts := s.stripes.made()
+		sum.Hits += hits
+		sum.Replaced += puts
+		s.release()
 	}
 	return sum
 }
@@ -96,7 +101,7 @@ func (c *Cache[K, V]) Numbers() (sum Numbers, err error) {
 	for _, s := range c.shards {
 		s.take()
 		n, fault := s.numbers()
-		s.mu.Unlock()
+		s.release()
 		if fault != 0 {
 			return Numbers{}, fault
 		}
@@ -127,7 +132,7 @@ func (c *Cache[K, V]) Window() (entries uint32) {
 	for _, s := range c.shards {
 		s.take()
 		entries += s.lib.window()
-		s.mu.Unlock()
+		s.release()
 	}
 	return entries
 }
@@ -137,7 +142,7 @@ func (c *Cache[K, V]) Kept() (values, keys int) {
 	for _, s := range c.shards {
 		s.take()
 		v, k := s.table.kept()
-		s.mu.Unlock()
+		s.release()
 		values, keys = values+v, keys+k
 	}
 	return values, keys

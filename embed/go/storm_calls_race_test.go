@@ -3,4 +3,4 @@
 package rookdresser
 
 // The detector of races takes ten times as long.
-const stormCalls = 200_000
+const stormCalls, stormLoads = 200_000, 10_000

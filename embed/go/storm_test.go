@@ -55,7 +55,7 @@ func TestNoGetAndNoLookReturnsAVersionThatWasReplacedBeforeIt(t *testing.T) {
 		var of source
 		together(8, func(i int) {
 			random := rand.New(rand.NewSource(int64(i)))
-			for turn := 0; turn < 10_000; turn++ {
+			for turn := 0; turn < stormLoads; turn++ {
 				key := random.Intn(6)
 				low := of.low[key].Load()
 				var v uint64

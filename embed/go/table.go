@@ -1,146 +1,136 @@
+//go:build cgo && linux && amd64
+
 package rookdresser
 
-// none is the place of no row.
+// none is the token of no entry.
 const none = -1
 
-// A row is a key in use, with its number in the library.
-type row[K comparable, V any] struct {
+// A node is a key in use, with its number in the library. Goroutines that hit read it without a lock: its key, hash and number never
+// change, and no node is used again for another key. The collector frees one once nobody can be at it.
+type node[K comparable, V any] struct {
+	next         pointer[node[K, V]] // of its chain
+	entry        pointer[entry[V]]   // nil if there is none
 	key          K
 	hash, number uint64
-	uses         uint32 // one for its entry, and one for each load of it
-	next         int32  // the next row of the same hash, or none
-	slot         int32  // that of its entry, or none
-	load         *load[K, V]
+	// Of whoever has the shard's lock:
+	uses  uint32 // one for its entry, and one for each load of it
+	token int32  // that of its entry, or none
+	load  *load[K, V]
 }
 
-// A slot is a value that the library holds or is handed. Its place is the token.
-type slot[V any] struct {
-	value         V
-	row           int32
-	life          uint32 // in milliseconds since it was written; 0 is none
-	written, used uint64 // as the library has them
+// An entry is a value as it was stored. It never changes: another value is another entry.
+type entry[V any] struct {
+	value  V
+	until  uint64 // a look-up or a seek surely hits before this moment; never, if the value never expires and is never due
+	weight uint32
+	token  int32
 }
 
-// A table keeps the keys and the values of one cache of the library.
+// A slot is what the library holds, or is handed. Its place is the token.
+type slot[K comparable, V any] struct {
+	node          *node[K, V] // nil until it is stored
+	entry         *entry[V]   // what its node doesn't show: it isn't stored yet, or was replaced
+	written, used uint64      // as the library has them
+	life          uint32      // in milliseconds since it was written; 0 is none
+}
+
+// A table keeps the keys and the values of one cache of the library. Whoever has the shard's lock changes it, and others walk it
+// meanwhile.
 //
 // A key's number is its hash, or the next that is free where another key in use has that. So a key that comes again is counted
 // with its earlier uses.
 type table[K comparable, V any] struct {
-	rows      []row[K, V]
-	slots     []slot[V]
-	freeRows  []int32
-	freeSlots []uint64
-	first     map[uint64]int32    // the first row of each hash in use
+	chains    pointer[chains[K, V]]
+	_         [64]byte // what each new key writes is apart from what each hit reads
+	nodes     int
+	slots     []slot[K, V]
+	freeSlots []int32
 	moved     map[uint64]struct{} // the numbers in use that aren't their key's hash
 }
 
-func newTable[K comparable, V any]() table[K, V] {
-	return table[K, V]{first: map[uint64]int32{}, moved: map[uint64]struct{}{}}
+func (t *table[K, V]) open() {
+	t.moved = map[uint64]struct{}{}
+	t.chains.Store(newChains[K, V](3))
 }
 
-// find returns the place of the key's row and its number, or none and the number that it would get.
-func (t *table[K, V]) find(key K, hash uint64) (at int32, number uint64) {
-	first, there := t.first[hash]
-	if !there {
-		first = none
+// find returns the key's node and its number, or nil and the number that it would get.
+func (t *table[K, V]) find(key K, hash uint64) (*node[K, V], uint64) {
+	if n := t.walk(key, hash); n != nil {
+		return n, n.number
 	}
-	for at = first; at != none; at = t.rows[at].next {
-		if t.rows[at].key == key {
-			return at, t.rows[at].number
-		}
-	}
-	for number = hash; there || t.isMoved(number); _, there = t.first[number] {
+	number := hash
+	for t.isHash(number) || t.isMoved(number) {
 		number++
 	}
-	return none, number
+	return nil, number
 }
 
 func (t *table[K, V]) isMoved(number uint64) bool {
+	if len(t.moved) == 0 {
+		return false
+	}
 	_, moved := t.moved[number]
 	return moved
 }
 
-// hold returns the place of the key's row, which has one use more. find returned at and number.
-func (t *table[K, V]) hold(at int32, key K, hash, number uint64) int32 {
-	if at == none {
-		if last := len(t.freeRows) - 1; last >= 0 {
-			at, t.freeRows = t.freeRows[last], t.freeRows[:last]
-		} else {
-			at, t.rows = int32(len(t.rows)), append(t.rows, row[K, V]{})
-		}
-		next, there := t.first[hash]
-		if !there {
-			next = none
-		}
-		t.rows[at] = row[K, V]{key: key, hash: hash, number: number, next: next, slot: none}
-		t.first[hash] = at
+// hold returns the key's node, which has one use more. find returned n and number.
+func (t *table[K, V]) hold(n *node[K, V], key K, hash, number uint64) *node[K, V] {
+	if n == nil {
+		n = &node[K, V]{key: key, hash: hash, number: number, token: none}
+		t.link(n)
 		if number != hash {
 			t.moved[number] = struct{}{}
 		}
 	}
-	t.rows[at].uses++
-	return at
+	n.uses++
+	return n
 }
 
-// letGo gives up one use of a row.
-func (t *table[K, V]) letGo(at int32) {
-	r := &t.rows[at]
-	if r.uses--; r.uses > 0 {
+// letGo gives up one use of a node.
+func (t *table[K, V]) letGo(n *node[K, V]) {
+	if n.uses--; n.uses > 0 {
 		return
 	}
-	t.unlink(at)
-	if r.number != r.hash {
-		delete(t.moved, r.number)
-	}
-	*r = row[K, V]{slot: none}
-	t.freeRows = append(t.freeRows, at)
-}
-
-func (t *table[K, V]) unlink(at int32) {
-	hash, next := t.rows[at].hash, t.rows[at].next
-	before := t.first[hash]
-	if before != at {
-		for t.rows[before].next != at {
-			before = t.rows[before].next
-		}
-		t.rows[before].next = next
-	} else if next == none {
-		delete(t.first, hash)
-	} else {
-		t.first[hash] = next
+	t.unlink(n)
+	if n.number != n.hash {
+		delete(t.moved, n.number)
 	}
 }
 
-// keep returns a token for a value that isn't stored yet.
-func (t *table[K, V]) keep(value V) (token uint64) {
+// keep returns a token for an entry that isn't stored yet, and is written at a moment.
+func (t *table[K, V]) keep(of *entry[V], life uint32, now uint64) uint64 {
 	if last := len(t.freeSlots) - 1; last >= 0 {
-		token, t.freeSlots = t.freeSlots[last], t.freeSlots[:last]
+		of.token, t.freeSlots = t.freeSlots[last], t.freeSlots[:last]
 	} else {
-		token, t.slots = uint64(len(t.slots)), append(t.slots, slot[V]{})
+		of.token, t.slots = int32(len(t.slots)), append(t.slots, slot[K, V]{})
 	}
-	t.slots[token] = slot[V]{value: value, row: none}
-	return token
+	t.slots[of.token] = slot[K, V]{entry: of, written: now, used: now, life: life}
+	return uint64(of.token)
 }
 
-// store makes the value that of the row, whose use the entry has from now on.
-func (t *table[K, V]) store(token uint64, at int32, life uint32, now uint64) {
+// store has the node show the token's entry, to which one of the node's uses belongs from now on. The entry that it showed, the latest
+// of those that were put in place of each other, goes back to its own token, which leaves.
+func (t *table[K, V]) store(token uint64, n *node[K, V]) {
 	of := &t.slots[token]
-	of.row, of.life, of.written, of.used = at, life, now, now
-	t.rows[at].slot = int32(token)
+	replaced := n.entry.Swap(of.entry)
+	if replaced != nil {
+		t.slots[replaced.token].entry = replaced
+	}
+	of.node, of.entry, n.token = n, nil, int32(token)
 }
 
-// drop gives the token up, and returns its value and its row.
-func (t *table[K, V]) drop(token uint64) (V, int32) {
+// drop gives the token up, and returns its value and its node. No node shows the value any more.
+func (t *table[K, V]) drop(token uint64) (V, *node[K, V]) {
 	was := t.slots[token]
-	if was.row != none && t.rows[was.row].slot == int32(token) {
-		t.rows[was.row].slot = none
+	if was.entry == nil {
+		was.entry, was.node.token = was.node.entry.Swap(nil), none
 	}
-	t.slots[token] = slot[V]{}
-	t.freeSlots = append(t.freeSlots, token)
-	return was.value, was.row
+	t.slots[token] = slot[K, V]{}
+	t.freeSlots = append(t.freeSlots, int32(token))
+	return was.entry.value, was.node
 }
 
 // kept returns how many values and keys there are.
 func (t *table[K, V]) kept() (values, keys int) {
-	return len(t.slots) - len(t.freeSlots), len(t.rows) - len(t.freeRows)
+	return len(t.slots) - len(t.freeSlots), t.nodes
 }
