@@ -39,8 +39,8 @@ def library():
     for folder in folders:
         if (folder / "librookdresser.a").exists():
             return folder.resolve()
-    raise SystemExit("there is no librookdresser.a in %s: build it by `sh tools/embed`, or name its folder in ROOKDRESSER_LIB"
-                     % " or ".join(map(str, folders)))
+    raise SystemExit("there is no librookdresser.a in %s: `sh tools/embed --unproved` builds it in a minute or two without any proof, and"
+                     " `sh tools/embed` proves it first, in most of an hour; or ROOKDRESSER_LIB names its folder" % " or ".join(map(str, folders)))
 
 
 def compiler():
@@ -72,7 +72,12 @@ def metadata(said, version):
     """Returns what a wheel tells of itself in METADATA."""
     head = ("Metadata-Version: 2.1", "Name: rookdresser", "Version: " + version, "Summary: " + said["description"],
             "Requires-Python: " + said["requires-python"], "Description-Content-Type: text/markdown", "")
-    return "\n".join([*head, (HERE / "README.md").read_text()])
+    return "\n".join([*head, without_files((HERE / "README.md").read_text())])
+
+
+def without_files(page):
+    """Returns a page whose links to files are text: beside METADATA there is none of them."""
+    return re.sub(r"\[([^]]*)\]\((?!#|https:)[^()\s]*\)", r"\1", page)
 
 
 def tag_of(platform):

@@ -28,7 +28,7 @@ class Backend(unittest.TestCase):
         (self.folder / "librookdresser.a").touch()
         without_headers = "import sysconfig, sys; sysconfig.get_path = lambda name: '/no/such'; import backend; backend.main([])"
         for said, words, env in (
-                ("there is no librookdresser.a in /no/such: build it by `sh tools/embed`", ["backend.py"], {"ROOKDRESSER_LIB": "/no/such"}),
+                ("there is no librookdresser.a in /no/such: `sh tools/embed --unproved` builds it", ["backend.py"], {"ROOKDRESSER_LIB": "/no/such"}),
                 ("there is no C compiler no_such_compiler", ["backend.py"], {"ROOKDRESSER_LIB": str(self.folder), "CC": "no_such_compiler"}),
                 ("there is no /no/such/Python.h", ["-c", without_headers], {"ROOKDRESSER_LIB": str(self.folder)})):
             status, last = run(*words, **env)

@@ -419,16 +419,18 @@ class Callbacks(CacheTest):
             ({"entries": 268_435_457}, "entries is 268435457, and has to be from 1 to 268435456"),
             ({"entries": -(1 << 20_000)}, "entries is minus about 2^20000, and has to be from 1 to 268435456"),
             ({"entries": 70_000, "shards": 1}, "entries is 70000, and has to be from 1 to 65536"),
-            ({"entries": 131_073, "shards": 2}, "entries is 131073, and has to be from 1 to 131072, 65536 for each shard"),
+            ({"entries": 131_073, "shards": 2}, "entries is 131073, and has to be from 1 to 131072, 1 to 65536 for each shard"),
             ({"entries": 10, "shards": 0}, "shards is 0, and has to be from 1 to 4096"),
             ({"entries": 10, "shards": 4097}, "shards is 4097, and has to be from 1 to 4096"),
+            ({"entries": 10, "shards": 11}, "shards is 11, and has to be from 1 to 10, the entries"),
             ({"entries": 10, "window": 0}, "window is 0, and has to be from 1 to 10, the entries"),
             ({"entries": 10, "window": 20}, "window is 20, and has to be from 1 to 10, the entries"),
             ({"entries": 10, "flights": 0}, "flights is 0, and has to be from 1 to 4096"),
             ({"entries": 10, "flights": 4097}, "flights is 4097, and has to be from 1 to 4096"),
             ({"entries": 10, "bound": 0}, "bound is 0, and has to be from 1 to 281474976710656"),
             ({"entries": 10, "bound": 2 ** 48 + 1}, "bound is 281474976710657, and has to be from 1 to 281474976710656"),
-            ({"entries": 10, "bound": 0, "shards": 2}, "bound is 0, and has to be from 1 to 562949953421312, 281474976710656 for each shard"),
+            ({"entries": 10, "bound": 0, "shards": 2}, "bound is 0, and has to be from 2 to 562949953421312, 1 to 281474976710656 for each shard"),
+            ({"entries": 10, "bound": 9, "shards": 10}, "bound is 9, and has to be from 10 to 2814749767106560, 1 to 281474976710656 for each shard"),
             ({"entries": 10, "after_write": -1}, "after_write is -1, and has to be from 0 to 18446744073709551615"),
             ({"entries": 10, "after_access": 2 ** 64}, "after_access is 18446744073709551616, and has to be from 0 to 18446744073709551615"),
             ({"entries": 10, "refresh": -5}, "refresh is -5, and has to be from 0 to 18446744073709551615"),
@@ -444,7 +446,8 @@ class Callbacks(CacheTest):
             with self.assertRaisesRegex(TypeError, "^%s is 10.0, and has to be a whole number%s$" % (name, of)):
                 Cache(**{"entries": 10, name: 10.0})
         for settings in ({"entries": 65_536, "shards": 1}, {"entries": 131_072, "shards": 2}, {"entries": 10, "window": 10, "flights": 4096, "bound": 2 ** 48},
-                         {"entries": 1, "window": 1, "flights": 1, "bound": 1, "shards": 4096}, {"entries": 10, "refresh": 4, "after_write": 5},
+                         {"entries": 1, "window": 1, "flights": 1, "bound": 1, "shards": 1},
+                         {"entries": 4096, "window": 1, "flights": 1, "bound": 4096, "shards": 4096}, {"entries": 10, "refresh": 4, "after_write": 5},
                          {"entries": 10, "refresh": 2 ** 64 - 1}, {"entries": 10, "after_write": 2 ** 64 - 1, "after_access": 2 ** 64 - 1}):
             with Cache(**settings) as cache:
                 cache.put("a", 1)
@@ -460,7 +463,7 @@ class Callbacks(CacheTest):
 
         for settings in ({"entries": 65_536}, {"entries": 65_537}, {"entries": 131_073, "window": 4}, {"entries": 10, "shards": 3, "bound": 10}):
             Tells(**settings).close()
-        self.assertEqual(opened, [((65_536, 655, 1024, 2 ** 48), 1), ((32_769, 327, 1024, 2 ** 47), 2), ((43_691, 2, 1024, 93824992236886), 3), ((4, 1, 1024, 4), 3)])
+        self.assertEqual(opened, [((65_536, 0, 1024, 2 ** 48), 1), ((65_537, 0, 1024, 2 ** 48), 2), ((131_073, 4, 1024, 2 ** 48), 3), ((10, 0, 1024, 10), 3)])
 
     def test_a_setting_that_opens_the_cache_itself_leaves_it_as_it_opened_it(self):
         class Opens:

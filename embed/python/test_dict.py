@@ -1,10 +1,14 @@
 #!/usr/bin/env python3
 """A cache as the mapping that a dict is: its calls and views, and what callbacks and threads may do meanwhile."""
+import asyncio
+import gc
 import random
 import threading
 import unittest
 import warnings
+import weakref
 from collections.abc import Mapping, MutableMapping
+from decimal import Decimal
 
 from rookdresser import Cache, Closed, TooHeavy
 from threads import CacheTest, never, together, within_a_minute
@@ -24,6 +28,49 @@ class Dict(CacheTest):
                 self.assertEqual(found, 1)
             case _:
                 self.fail("no mapping")
+
+    def test_a_store_under_an_equal_key_keeps_the_first_key(self):
+        told, now, alive = [], [0], weakref.WeakSet()
+
+        class Key(str):
+            __hash__ = str.__hash__
+
+        def key():
+            alive.add(made := Key("a"))
+            return made
+
+        cache, beside = Cache(entries=10, refresh=5, after_write=100, clock=lambda: now[0], on_leave=lambda *of: told.append(of)), {}
+        for mapping in (cache, beside):
+            mapping[1] = "one"
+            mapping[1.0] = "two"
+            mapping.update({True: "three"})
+            mapping.setdefault(Decimal(1), "four")
+        self.assertEqual(([(type(of), of) for of in cache], cache.peek(1)), ([(int, 1)], beside[1]))
+        self.assertEqual([type(of) for of in beside], [int])
+        stores = (lambda: cache.put(1.0, "put", ttl=50), lambda: cache.put_many([(True, "put")]), lambda: cache.get_or_load(1.0, str),
+                  lambda: cache.get_many([True], dict.fromkeys), lambda: asyncio.run(cache.aget_or_load(1.0, str)),
+                  lambda: asyncio.run(cache.aget_many([True], dict.fromkeys)))
+        for store in stores:
+            # The loads are of an entry that is due.
+            now[0] += 5
+            loads = cache.stats().refreshes
+            store()
+            self.assertEqual(([type(of) for of in cache], cache.stats().refreshes - loads), ([int], store in stores[2:]))
+        # Each that left had the first key, and what has gone and is stored again has the key of that store.
+        self.assertEqual({(type(of), cause) for of, _, cause in told}, {(int, "replaced")})
+        self.assertEqual([type(cache.popitem()[0]), cache.put(1.0, "anew"), [type(of) for of in cache]], [int, None, [float]])
+        now[0] += 100
+        cache[True] = "after it has expired"
+        self.assertEqual(([type(of) for of in cache], [(type(of), cause) for of, _, cause in told[-2:]]), ([bool], [(int, "explicit"), (float, "expired")]))
+        # No key is kept beside the first.
+        cache["a"] = 0
+        for store in (lambda: cache.put(key(), 1), lambda: cache.update({key(): 2}), lambda: cache.get_or_load(key(), lambda of: 3)):
+            store()
+            now[0] += 5
+        told.clear()
+        gc.collect()
+        self.assertEqual((len(alive), cache.stats().refreshes, [type(of) for of in cache if of == "a"]), (0, 5, [str]))
+        self.holds_exactly(cache, 2)
 
     def test_views_are_of_one_moment_and_no_use(self):
         now = [0]

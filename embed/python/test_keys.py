@@ -89,6 +89,20 @@ Flag = enum.IntFlag("Flag", {"GREAT": 2 ** 62})
 
 
 class Keys(CacheTest):
+    def test_a_key_is_told_from_one_of_its_hash_that_is_there_and_due_and_loaded(self):
+        now, one, other = [0], Alike(1), Alike(2)
+        cache = Cache(entries=10, refresh=5, seeded=False, clock=lambda: now[0])
+        cache[one] = 1
+        now[0] = 5
+
+        def load(key):
+            # Its entry, a load that is forgotten and this one have the same key.
+            cache.forget(one)
+            return cache.get_or_load(one, lambda key: (other in cache, cache.get(other, 7)))
+
+        self.assertEqual(within_a_minute(lambda: cache.get_or_load(one, load)), (False, 7))
+        self.holds_exactly(cache, 1)
+
     def test_keys_that_are_equal_are_one_key_whatever_their_types(self):
         half = (0.5, Decimal("0.5"), Fraction(1, 2), complex(0.5))
         great = (2 ** 62, Whole(2 ** 62), Enum.GREAT, Flag.GREAT, Decimal(2 ** 62), Fraction(2 ** 62), complex(2 ** 62), float(2 ** 62))

@@ -4,10 +4,11 @@ import copy
 import pickle
 import re
 import unittest
+from datetime import timedelta
 from pathlib import Path
 
 import rookdresser
-from rookdresser import Cache, Refused
+from rookdresser import Cache, Refused, TooHeavy
 from threads import CacheTest, never
 
 HERE = Path(__file__).resolve().parent
@@ -106,7 +107,7 @@ class Mapping(CacheTest):
         closed.close()
         used = native.Load()
         cache._seek("a", used, None, None)
-        opened = (10, 1, 1, 1, 0, 0, 0), 1, 0, None, True, None, None, None, None, None, 7, native.Load, Refused
+        opened = (10, 1, 1, 1, 0, 0, 0), 1, 0, None, True, None, None, None, None, None, 7, native.Load, Refused, timedelta
         calls = [
             lambda: native.Table().get_or_load("a", None), lambda: native.Table().look("a"), lambda: native.Table().put("a", 1), lambda: native.Table().pop("a"),
             lambda: native.Table().clear(), lambda: len(native.Table()), lambda: iter(native.Table()), lambda: iter(closed), lambda: native.Table()._numbers(), lambda: native.Table().window(), lambda: native.Table()._seek("a", used, None, None),
@@ -141,6 +142,36 @@ class Shards(CacheTest):
             self.holds_exactly(cache)
             cache.clear()
             self.holds_exactly(cache, 0)
+
+    def test_a_cache_of_several_shards_holds_no_more_than_it_may(self):
+        for settings in ({"entries": 10, "shards": 3}, {"entries": 11, "shards": 4, "bound": 11}, {"entries": 100, "shards": 64, "bound": 65},
+                         {"entries": 1000, "shards": 999}, {"entries": 20, "shards": 3, "bound": 7}, {"entries": 515, "shards": 6}):
+            with Cache(**settings) as cache:
+                most, held = min(settings["entries"], settings.get("bound", 1 << 48)), 0
+                for key in range(30_000):
+                    cache.put(key, key)
+                    held = max(held, len(cache))
+                numbers = cache.numbers()
+                # Each shard is full in the end, so their parts add up to what was given.
+                self.assertEqual((numbers["entries"], numbers["weight"], held), (most, most, most), settings)
+                self.holds_exactly(cache, most)
+        with Cache(entries=65_537) as cache:
+            cache.put_many((key, key) for key in range(150_000))
+            self.assertEqual((len(cache), repr(cache)), (65_537, "<Cache of 65537 entries, 65537 held>"))
+
+    def test_a_value_may_weigh_its_shard_s_part_of_the_bound(self):
+        stored, heavy = set(), set()
+        with Cache(entries=9, shards=3, bound=7, seeded=False, weigh=lambda key, value: value) as cache:
+            # The parts are 3, 2 and 2.
+            for key in range(300):
+                for weight in (2, 3, 4):
+                    try:
+                        cache.put(key, weight)
+                        stored.add(weight)
+                    except TooHeavy:
+                        heavy.add(weight)
+                    self.assertLessEqual(cache.numbers()["weight"], 7)
+        self.assertEqual((stored, heavy), ({2, 3}, {3, 4}))
 
     def test_shards_are_filled_evenly_whatever_the_keys(self):
         for seeded in (True, False):

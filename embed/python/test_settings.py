@@ -11,7 +11,7 @@ from datetime import timedelta
 
 import rookdresser
 from rookdresser import BadSetup, Cache, Closed, LeftOut, OutOfMemory, Refused, StepsSpent, TooHeavy, TooManyFlights, WaitsForItself, cached
-from threads import CacheTest, within_a_minute
+from threads import CacheTest, never, within_a_minute
 
 CLASSES = {1: OutOfMemory, 2: BadSetup, 3: TooHeavy, 4: TooManyFlights, 5: StepsSpent, 100: Closed}
 
@@ -70,23 +70,86 @@ class Settings(CacheTest):
                 cache.get_or_load("a", made.append)
             self.assertEqual(made, ["a", "a"])
         # A duration above 0 is never rounded to 0, which is for ever.
-        for given, ends in ((timedelta(microseconds=1), True), (timedelta(0), False), (0, False)):
+        for given, ends in ((timedelta(microseconds=1), 1), (timedelta(microseconds=999), 1), (timedelta(microseconds=1001), 2), (timedelta(0), None), (0, None),
+                            (timedelta.max, 86_400_000_000_000_000), (timedelta.max - timedelta(microseconds=1), 86_400_000_000_000_000),
+                            (timedelta.max - timedelta(microseconds=1000), 86_399_999_999_999_999)):
             now = [0]
             with Cache(entries=10, after_write=given, clock=lambda: now[0]) as cache:
                 cache["a"] = 1
-                now[0] = 1
-                self.assertEqual("a" in cache, not ends)
+                now[0] = (ends or 1 << 63) - 1
+                self.assertTrue("a" in cache)
+                now[0] += 1
+                self.assertEqual("a" in cache, ends is None)
         f = cached(entries=10, after_write=timedelta(minutes=10))(abs)
         self.assertEqual((f(-7), f(-7), f.cache_info().hits), (7, 7, 1))
 
     def test_a_duration_out_of_range_is_named_in_milliseconds(self):
+        # What is below 0, as a computed rest of a life may be, is never rounded to 0, which is for ever.
         rows = (({"after_write": timedelta(seconds=-1)}, BadSetup, "after_write is -1000, and has to be from 0 to 18446744073709551615"),
+                ({"after_write": timedelta(microseconds=-1)}, BadSetup, "after_write is -1, and has to be from 0 to 18446744073709551615"),
+                ({"after_access": timedelta(microseconds=-900)}, BadSetup, "after_access is -1, and has to be from 0 to 18446744073709551615"),
+                ({"refresh": timedelta(microseconds=-1100)}, BadSetup, "refresh is -2, and has to be from 0 to 18446744073709551615"),
+                ({"after_write": timedelta.min}, BadSetup, "after_write is -86399999913600000, and has to be from 0 to 18446744073709551615"),
+                ({"refresh": timedelta.max, "after_write": timedelta.max}, BadSetup, "refresh is 86400000000000000, and has to be below after_write, 86400000000000000"),
                 ({"after_write": timedelta(seconds=1), "refresh": timedelta(minutes=1)}, BadSetup, "refresh is 60000, and has to be below after_write, 1000"),
                 ({"window": timedelta(1)}, TypeError, r"window is datetime.timedelta\(days=1\), and has to be a whole number"),
                 ({"after_access": "5"}, TypeError, "after_access is '5', and has to be a whole number of milliseconds or a timedelta"))
         for settings, error, why in rows:
             with self.assertRaisesRegex(error, "^%s$" % why):
                 Cache(entries=10, **settings)
+
+    def test_a_subclass_of_timedelta_counts_as_that_whatever_else_it_is(self):
+        class Float(timedelta):
+            def __float__(self):
+                return 99.0
+
+        class Int(timedelta):
+            def __int__(self):
+                return 5
+
+        class Index(timedelta):
+            def __index__(self):
+                return 7
+
+        loads = Cache(entries=10)
+        begun, may_end = threading.Event(), threading.Event()
+        leader = threading.Thread(target=lambda: loads.get_or_load("a", lambda key: (begun.set(), may_end.wait())))
+        leader.start()
+        begun.wait()
+        for of in (Float, Int, Index):
+            given = of(milliseconds=3)
+            for settings, ttl in (({}, given), ({}, lambda key, value: given), ({"after_write": given}, None), ({"after_access": given}, None)):
+                now = [0]
+                cache = Cache(entries=10, clock=lambda: now[0], **settings)
+                cache.put("a", 1, ttl=ttl)
+                now[0] = 2
+                self.assertTrue("a" in cache)
+                now[0] = 3
+                self.assertFalse("a" in cache)
+            with self.assertRaisesRegex(TimeoutError, "longer than 0:00:00.003000$"):
+                within_a_minute(lambda: loads.get_or_load("a", never, timeout=given))
+        may_end.set()
+        leader.join()
+
+        class Alike:
+            days, seconds, microseconds = 0, 0, 5000
+
+            def total_seconds(self):
+                return 0.005
+
+        for call in (lambda: loads.put("a", 1, ttl=Alike()), lambda: Cache(entries=10, refresh=Alike())):
+            with self.assertRaisesRegex(TypeError, "has to be a whole number of milliseconds or a timedelta$"):
+                call()
+
+    def test_none_stands_for_a_setting_only_where_it_says_not_given(self):
+        for name in ("entries", "flights", "bound", "after_write", "after_access", "refresh"):
+            of = " of milliseconds or a timedelta" if name in ("after_write", "after_access", "refresh") else ""
+            with self.assertRaisesRegex(TypeError, "^%s is None, and has to be a whole number%s$" % (name, of)):
+                Cache(**{"entries": 10, name: None})
+        given = dict.fromkeys(("window", "shards", "adaptive", "weigh", "on_leave", "clock"))
+        with Cache(entries=10, **given) as cache:
+            cache.put("a", 1, ttl=None)
+            self.assertEqual((cache.get_or_load("a", never, timeout=None, ttl=None), cache.window()), (1, 1))
 
     def test_a_timeout_is_seconds_or_a_timedelta(self):
         cache, begun, may_end = Cache(entries=10), threading.Event(), threading.Event()

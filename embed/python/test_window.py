@@ -38,24 +38,31 @@ class Ruled:
 
     def __init__(self, entries, shards=1, write=None):
         self.adviser, self.noted, self.count, self.moment = Adviser(entries), [], shards, 0
-        settings = {**DEFAULTS, "entries": -(-entries // shards), "window": self.share(), "flights": 1024, "write": write}
-        self.shards = [Played(settings) for _ in range(shards)]
+        settings = {**DEFAULTS, "flights": 1024, "write": write}
+        self.shards = [Played({**settings, "entries": self.part(entries, i), "window": self.share(i)}) for i in range(shards)]
 
-    def share(self):
-        return -(-self.adviser.wanted() // self.count)
+    def part(self, number, shard):
+        """The part of a number that is shared out: the first ones have one more, if it doesn't come out even."""
+        return number // self.count + (shard < number % self.count)
+
+    def share(self, shard=0):
+        return max(1, self.part(self.adviser.wanted(), shard))
 
     def window(self):
         return sum(shard.window_most for shard in self.shards)
 
     def shard_of(self, number):
-        return self.shards[(number * SPREAD % 2 ** 64 >> 32) * self.count >> 32]
+        return self.shards[self.place_of(number)]
+
+    def place_of(self, number):
+        return (number * SPREAD % 2 ** 64 >> 32) * self.count >> 32
 
     def follow(self, number):
         """The key's shard, once its window has moved ahead of a call."""
-        shard = self.shard_of(number)
+        shard, share = self.shard_of(number), self.share(self.place_of(number))
         for _ in range(4):
-            if shard.window_most != self.share():
-                shard.call_slide(self.moment, as_key(number), "wider" if shard.window_most < self.share() else "narrower")
+            if shard.window_most != share:
+                shard.call_slide(self.moment, as_key(number), "wider" if shard.window_most < share else "narrower")
         return shard
 
     def looked(self, number):
@@ -120,6 +127,11 @@ def shift(hot, turn, count, seed=1):
     return [10 ** 6 + at // turn * hot + rng.randrange(hot) for at in range(count)]
 
 
+def in_turn(keys, count):
+    """So many keys in turn, and between them others that never come again."""
+    return [at // 2 % keys if at % 2 else 10 ** 7 + at for at in range(count)]
+
+
 class WindowTest(CacheTest):
     def agrees(self, cache, rule):
         """Each entry is held that the rules hold, and the window is as wide; and the library made as many steps, slides too."""
@@ -142,27 +154,28 @@ class WindowTest(CacheTest):
 
 
 class Settings(WindowTest):
-    def test_the_window_follows_by_default_with_512_to_4194304_entries(self):
+    def test_the_window_follows_by_default_with_64_to_4194304_entries(self):
         rows = (
-            # 40 hundredths at first, or else a hundredth of each shard's entries, and one at least.
-            ({"entries": 511}, 5), ({"entries": 512}, 204), ({"entries": 511, "shards": 3}, 3), ({"entries": 512, "shards": 3}, 204),
-            ({"entries": 1000, "shards": 7}, 406), ({"entries": 65_537}, 26_214), ({"entries": 512, "adaptive": True}, 204),
+            # 10 hundredths at first, or else a hundredth of each shard's entries, and one at least.
+            ({"entries": 63}, 1), ({"entries": 64}, 6), ({"entries": 63, "shards": 3}, 3), ({"entries": 512, "shards": 3}, 51),
+            ({"entries": 1000, "shards": 7}, 100), ({"entries": 65_537}, 6_553), ({"entries": 512, "adaptive": True}, 51),
             ({"entries": 512, "adaptive": False}, 5), ({"entries": 5, "adaptive": False}, 1), ({"entries": 512, "window": 9}, 9),
-            ({"entries": 512, "window": 9, "adaptive": False}, 9), ({"entries": 512, "window": 9, "shards": 2}, 10),
+            ({"entries": 512, "window": 9, "adaptive": False}, 9), ({"entries": 512, "window": 9, "shards": 2}, 9),
+            ({"entries": 512, "window": 2, "shards": 3}, 3), ({"entries": 400, "shards": 3}, 40), ({"entries": 600, "shards": 600}, 600),
         )
         for settings, window in rows:
             with self.subTest(settings), Cache(**settings) as cache:
                 self.assertEqual(cache.window(), window)
-        given = {"flights": 1, "bound": 64, "after_write": 0, "after_access": 0, "refresh": 0}
-        for entries, follows in ((511, False), (512, True), (4_194_304, True), (4_194_305, False)):
+        given = {"flights": 1, "bound": 65, "after_write": 0, "after_access": 0, "refresh": 0}
+        for entries, follows in ((63, False), (64, True), (4_194_304, True), (4_194_305, False)):
             self.assertIs(rookdresser._settings.setup_of({**given, "entries": entries}, None)[3], follows)
 
     def test_what_can_t_follow_is_refused_by_name(self):
         said = "adaptive is True, and has to be False or None, since "
         rows = (
             ({"entries": 1000, "window": 10}, "a window is given"), ({"entries": 100, "window": 10}, "a window is given"),
-            ({"entries": 511}, "entries is 511, and an adviser is for 512 to 4194304"),
-            ({"entries": 4_194_305}, "entries is 4194305, and an adviser is for 512 to 4194304"),
+            ({"entries": 63}, "entries is 63, and an adviser is for 64 to 4194304"),
+            ({"entries": 4_194_305}, "entries is 4194305, and an adviser is for 64 to 4194304"),
         )
         for settings, why in rows:
             with self.assertRaises(Refused) as caught:
@@ -177,7 +190,7 @@ class Settings(WindowTest):
             Cache(entries=1000, window=0, adaptive=True)
 
     def test_cached_takes_the_setting(self):
-        for settings, window in (({"entries": 1000}, 400), ({"entries": 1000, "adaptive": False}, 10), ({"entries": 1000, "window": 7}, 7)):
+        for settings, window in (({"entries": 1000}, 100), ({"entries": 1000, "adaptive": False}, 10), ({"entries": 1000, "window": 7}, 7)):
             self.assertEqual(cached(**settings)(abs).cache.window(), window)
         with self.assertRaisesRegex(Refused, "^adaptive is True, "):
             cached(entries=10, adaptive=True)(abs)
@@ -210,8 +223,8 @@ class Rules(WindowTest):
         cache, rule = Cache(entries=512, seeded=False), Ruled(512)
         windows = self.gets(cache, rule, shift(400, 1500, 6000))
         # Up to four entries ahead of a seek, and as many ahead of the landing.
-        self.assertEqual((windows[0], windows[-1], max(abs(one - other) for one, other in zip(windows, windows[1:]))), (204, 512, 8))
-        windows = self.gets(cache, rule, zipf(50_000, 20_000))
+        self.assertEqual((windows[0], windows[-1], max(abs(one - other) for one, other in zip(windows, windows[1:]))), (51, 512, 8))
+        windows = self.gets(cache, rule, zipf(2000, 20_000))
         self.assertEqual(windows[-1], 5)
         self.agrees(cache, rule)
 
@@ -249,7 +262,7 @@ class Rules(WindowTest):
         }
         names = list(calls) + ["look", "get_or_load", "get_or_load"] * 6
         windows = set()
-        for keys in (zipf(50_000, 6000, 3), shift(450, 1500, 9000)):
+        for keys in (zipf(50_000, 3000, 3), shift(450, 1500, 4500), in_turn(550, 10_000)):
             for key in keys:
                 now[0] = rule.moment = now[0] + rng.randrange(2)
                 name = rng.choice(names)
@@ -259,7 +272,7 @@ class Rules(WindowTest):
                 self.assertEqual((cache.window(), cache.numbers()["latest"]), (rule.window(), max(shard.latest for shard in rule.shards)), name)
                 windows.add(cache.window())
             self.agrees(cache, rule)
-        # 2 entries of each shard are a hundredth, rounded up; all are 600.
+        # 2 entries of each shard are a hundredth; all are 600.
         self.assertLessEqual({6, 600}, windows)
 
     def item(self, cache, key):
@@ -305,7 +318,7 @@ class Rules(WindowTest):
         self.assertEqual(faults, {4})
 
     def test_each_shard_has_its_share(self):
-        for entries, shards in ((1000, 7), (2000, 2), (600, 600)):
+        for entries, shards in ((1000, 7), (2000, 2), (600, 600), (515, 4)):
             cache, rule = Cache(entries=entries, shards=shards, seeded=False), Ruled(entries, shards)
             self.assertEqual(cache.window(), rule.window())
             self.gets(cache, rule, shift(entries * 3 // 4, 3 * entries, 6 * entries) + zipf(5000, 3000))
@@ -379,7 +392,7 @@ class Comparisons(WindowTest):
         windows = []
         within_a_minute(lambda: together(5, work))
         self.assertEqual([ours for ours, _ in windows], [theirs for _, theirs in windows])
-        self.assertEqual((windows[0], windows[-1]), ((204, 204), (512, 512)))
+        self.assertEqual((windows[0], windows[-1]), ((51, 51), (512, 512)))
         self.holds_exactly(cache)
 
     def test_busy_threads_leave_a_whole_cache(self):
@@ -481,7 +494,7 @@ class Memory(WindowTest):
         refuse_after(-1)
         # The adviser with four small caches, and three shards.
         self.assertGreater(n, 7)
-        self.assertEqual(cache.window(), 204)
+        self.assertEqual(cache.window(), 51)
 
     def test_a_slide_that_is_refused_fails_no_call_and_is_made_ahead_of_a_later_one(self):
         cache, rule, refused = Cache(entries=512, seeded=False), Ruled(512), 0

@@ -34,10 +34,10 @@ class Cache(Loads[K, V]):
     milliseconds; 0: never. A setting out of its range raises BadSetup.
 
     `entries`       how many it may hold; at most 65,536 for each shard
-    `shards`        of how many caches of the library it is made, at most 4,096; by default one for each 65,536 entries. Entries, window
-                    and bound are shared out among them evenly
+    `shards`        of how many caches of the library it is made, at most 4,096 and no more than entries and bound; by default one for each
+                    65,536 entries. Entries, window and bound are shared out among them; parts differ by one at most
     `window`        how many of the entries the window may hold, a fixed number
-    `adaptive`      True: the window follows the look-ups, which takes 512 to 4,194,304 entries and no `window`. False: if no `window` is
+    `adaptive`      True: the window follows the look-ups, which takes 64 to 4,194,304 entries and no `window`. False: if no `window` is
                     given, it holds a hundredth of the entries. By default it follows them if it can
     `flights`       how many loads each shard may have open at a time; at most 4,096
     `bound`         how much the entries may weigh together
@@ -62,7 +62,7 @@ class Cache(Loads[K, V]):
             "entries": entries, "shards": shards, "window": window, "flights": flights, "bound": bound, "after_write": after_write,
             "after_access": after_access, "refresh": refresh}, adaptive)
         self._open(setup, parts, self._entries if follows else 0, os.urandom(24) if seeded else None, _keys.SECRET, weigh, clock, on_leave,
-                   _log, _keys.plain, _keys.secret_prime(), Load, Refused, waits)
+                   _log, _keys.plain, _keys.secret_prime(), Load, Refused, timedelta, waits)
         _fork.watch(self)
 
     def __enter__(self) -> Cache[K, V]:

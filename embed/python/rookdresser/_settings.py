@@ -6,6 +6,7 @@ from datetime import timedelta
 from typing import Any, Callable, Dict, Optional, Tuple, TypeVar
 
 from ._faults import BAD_SETUP, Refused
+from ._native import milliseconds
 
 F = TypeVar("F", bound=Callable[..., None])
 
@@ -14,8 +15,9 @@ MOST_SHARDS = 4_096
 MOST_FLIGHTS = 4_096
 MOST_WEIGHT = 1 << 48  # of a shard
 MOST_MILLISECONDS = (1 << 64) - 1
-LEAST_ADVISED, MOST_ADVISED = 512, 4_194_304  # entries of all shards together
+LEAST_ADVISED, MOST_ADVISED = 64, 4_194_304  # entries of all shards together
 DURATIONS = ("after_write", "after_access", "refresh")
+MAY_BE_NONE = ("window", "shards")  # which is to say, not given
 # The settings behind `entries` in the order in which they could once be given by place.
 BY_PLACE = ("window", "flights", "bound", *DURATIONS, "weigh", "on_leave", "clock", "seeded", "shards", "adaptive")
 
@@ -38,32 +40,31 @@ def by_name(init: F) -> F:
 
 
 def setup_of(given: Dict[str, Any], adaptive: Any) -> Tuple[Tuple[int, ...], int, int, bool]:
-    """Returns the settings of each shard in their order in the library, how many shards there are, how many entries they may hold, and
-    whether their windows follow the look-ups. If they do, the window among the settings isn't used.
+    """Returns the settings of all shards together in their order in the library, how many shards there are, how many entries they may hold,
+    and whether their windows follow the look-ups. If they do, the window among the settings isn't used; 0 stands for a hundredth.
 
     Raises BadSetup with the name, the value and the range of a setting that is out of its range, and TypeError if one is no whole number
-    (or timedelta, of a duration), or `adaptive` no truth value. Entries, window and bound are of all shards together, and are shared out, rounding up.
+    (or timedelta, of a duration), or `adaptive` no truth value. The native part shares entries, window and bound out; parts differ by one at most.
     """
-    of = {name: _whole(name, number) for name, number in given.items() if number is not None}
+    of = {name: _whole(name, number) for name, number in given.items() if number is not None or name not in MAY_BE_NONE}
     entries, shards, window = of["entries"], of.get("shards"), of.get("window")
     if shards is None:
         _check("entries", entries, 1, MOST_SHARDS * MOST_ENTRIES)
-        shards = _share(entries, MOST_ENTRIES)
+        shards = (entries - 1) // MOST_ENTRIES + 1
     _check("shards", shards, 1, MOST_SHARDS)
-    each = ", %d for each shard"
+    each = ", 1 to %d for each shard"
     _check("entries", entries, 1, shards * MOST_ENTRIES, each % MOST_ENTRIES if shards > 1 else "")
+    _check("shards", shards, 1, entries, ", the entries")
     if window is not None:
         _check("window", window, 1, entries, ", the entries")
     follows = _follows(adaptive, entries, window)
     _check("flights", of["flights"], 1, MOST_FLIGHTS)
-    _check("bound", of["bound"], 1, shards * MOST_WEIGHT, each % MOST_WEIGHT if shards > 1 else "")
+    _check("bound", of["bound"], shards, shards * MOST_WEIGHT, each % MOST_WEIGHT if shards > 1 else "")
     for age in DURATIONS:
         _check(age, of[age], 0, MOST_MILLISECONDS)
     if 0 < of["after_write"] <= of["refresh"]:
         raise Refused(BAD_SETUP, "refresh is %d, and has to be below after_write, %d" % (of["refresh"], of["after_write"]))
-    share = _share(entries, shards)
-    window = _share(window, shards) if window is not None else max(1, share // 100)
-    setup = (share, window, of["flights"], _share(of["bound"], shards), of["after_write"], of["after_access"], of["refresh"])
+    setup = (entries, window or 0, of["flights"], of["bound"], of["after_write"], of["after_access"], of["refresh"])
     return setup, shards, entries, follows
 
 
@@ -81,15 +82,10 @@ def _follows(adaptive: Any, entries: int, window: Optional[int]) -> bool:
     return adaptive
 
 
-def _share(number: int, parts: int) -> int:
-    return -(-number // parts)
-
-
 def _whole(name: str, given: Any) -> int:
     is_duration = name in DURATIONS
     if is_duration and isinstance(given, timedelta):
-        # Milliseconds, rounded up: a duration that isn't 0 never becomes 0, which is for ever.
-        given = -(-given // timedelta(milliseconds=1))
+        return milliseconds(given)
     try:
         return operator.index(given)
     except TypeError:

@@ -8,14 +8,19 @@
  * by the adviser stays missed. */
 #include "native.h"
 
-/* Shows the adviser what was noted. The window that it then wants is shared out as the setting is. */
+/* Shows the adviser what was noted. The window that it then wants is shared out as the setting is: parts differ by one at most, and each
+ * shard has one entry at least. */
 static SELDOM void show(Table *self) {
     Advice *advice = self->advice;
     uint32_t wanted, noted = advice->noted;
     advice->noted = 0;
     rd_advise(&advice->adviser, advice->keys, noted, &wanted);
-    advice->share = (uint32_t)((wanted + self->shards - 1) / self->shards);
+    advice->share = (uint32_t)(wanted / self->shards), advice->one_more = (uint32_t)(wanted % self->shards);
+    if (!advice->share) advice->share = 1, advice->one_more = 0;
 }
+
+/* How many entries the window of a shard should hold. */
+uint32_t share_of(const Advice *advice, uint64_t shard) { return advice->share + (shard < advice->one_more); }
 
 /* Opens the adviser for all entries of the table together. Returns a fault, or 0. */
 uint64_t open_adviser(Table *self, uint32_t entries) {
@@ -44,13 +49,14 @@ static SELDOM void slide(rd_cache *cache, uint32_t *window, uint32_t share, uint
  * made between a call and the reading of its notices. */
 void follow(Table *self, rd_cache *cache, uint64_t now) {
     Advice *advice = self->advice;
-    uint32_t *window = &advice->windows[cache - self->caches];
-    if (*window != advice->share) slide(cache, window, advice->share, now);
+    uint64_t shard = (uint64_t)(cache - self->caches);
+    uint32_t share = share_of(advice, shard), *window = &advice->windows[shard];
+    if (*window != share) slide(cache, window, share, now);
 }
 
 /* How many entries the windows may hold now, of all shards together. */
 uint64_t windows_of(Table *self) {
-    if (!self->advice) return self->shards * self->window;
+    if (!self->advice) return self->windows;
     uint64_t sum = 0;
     for (uint64_t i = 0; i < self->shards; i++) sum += self->advice->windows[i];
     return sum;

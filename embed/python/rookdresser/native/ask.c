@@ -1,4 +1,4 @@
-/* What a call asks of the caller: arguments, the clock, weigh, ttl, on_leave; and what it raises. All of it runs outside of a step. */
+/* What a call asks of the caller: arguments, the clock, weigh, on_leave; and what it raises. All of it runs outside of a step. */
 #include <time.h>
 #include "native.h"
 
@@ -73,56 +73,26 @@ int weight_of(Table *self, PyObject *key, PyObject *value, uint64_t *weight) {
     return whole(PyObject_CallFunctionObjArgs(self->weigh, key, value, NULL), 32, "the weight that weigh returned", weight);
 }
 
-/* A part of a timedelta: at most 10^9 days, a day's seconds, or a second's microseconds. */
-static long long part_of(PyObject *timedelta, const char *name) {
-    PyObject *part = PyErr_Occurred() ? NULL : PyObject_GetAttrString(timedelta, name);
-    long number = part ? PyLong_AsLong(part) : 0;
-    Py_XDECREF(part);
-    return number;
-}
-
-/* How many milliseconds an object stands for, rounded up: a whole number of them, or a timedelta. At most 2^32, at least 0. */
-static int milliseconds_of(PyObject *given, const char *what, long long *number) {
-    int beyond = 0;
-    if (!PyNumber_Check(given) && PyObject_HasAttrString(given, "total_seconds"))
-        *number = part_of(given, "days") * 86400000 + part_of(given, "seconds") * 1000 + (part_of(given, "microseconds") + 999) / 1000;
-    else {
-        PyObject *index = PyNumber_Index(given);
-        *number = index ? PyLong_AsLongLongAndOverflow(index, &beyond) : 0;
-        Py_XDECREF(index);
-        if (!index && PyErr_ExceptionMatches(PyExc_TypeError))
-            PyErr_Format(PyExc_TypeError, "%s is %R, and has to be a whole number of milliseconds or a timedelta", what, given);
-    }
-    if (beyond > 0 || *number > 1LL << 32) *number = 1LL << 32;
-    if (beyond < 0 || *number < 0) *number = 0;
-    return PyErr_Occurred() ? -1 : 0;
-}
-
-/* The life of an entry by a caller's ttl, which may be None: 0 is none, as it is of one that 32 bits don't hold. Less than a
- * millisecond counts as one. */
-int life_of(PyObject *ttl, PyObject *key, PyObject *value, uint32_t *life) {
-    long long number = 0;
-    *life = 0;
-    if (ttl == Py_None) return 0;
-    int is_called = PyCallable_Check(ttl);
-    PyObject *given = is_called ? PyObject_CallFunctionObjArgs(ttl, key, value, NULL) : ttl;
-    if (!given) return -1;
-    int is_none = given == Py_None;
-    int told = is_none ? 0 : milliseconds_of(given, is_called ? "the life that ttl returned" : "ttl", &number);
-    if (is_called) Py_DECREF(given);
-    if (told == 0 && !is_none && number < 1LL << 32) *life = number ? (uint32_t)number : 1;
-    return told;
-}
-
-/* Raises what `refusal` returns for the fault, and counts it. A table that wasn't opened has no `refusal`, and raises ValueError. The class
- * is the exception's own, as a handler is found by it before Python 3.11. */
-void refuse(Table *self, uint64_t fault) {
-    self->refused[fault < 8 ? fault : (fault - 100) % 8 + 8]++;
+/* Raises what `refusal` returns for the fault. The class is the exception's own, as a handler is found by it before Python 3.11. */
+void raise_fault(PyObject *refusal, uint64_t fault) {
     PyObject *number = PyLong_FromUnsignedLongLong(fault);
-    PyObject *error = number ? PyObject_CallFunctionObjArgs(self->refusal ? self->refusal : PyExc_ValueError, number, NULL) : NULL;
+    PyObject *error = number ? PyObject_CallFunctionObjArgs(refusal, number, NULL) : NULL;
     if (error) PyErr_SetObject((PyObject *)Py_TYPE(error), error);
     Py_XDECREF(error);
     Py_XDECREF(number);
+}
+
+/* Raises the fault, and counts it. A table that wasn't opened has no `refusal`, and raises ValueError. */
+void refuse(Table *self, uint64_t fault) {
+    self->refused[fault < 8 ? fault : (fault - 100) % 8 + 8]++;
+    raise_fault(self->refusal ? self->refusal : PyExc_ValueError, fault);
+}
+
+/* Raises OutOfMemory, in place of a MemoryError that is raised, and returns -1. */
+int no_memory(Table *self) {
+    PyErr_Clear();
+    refuse(self, RD_OUT_OF_MEMORY);
+    return -1;
 }
 
 /* Hands the exception that is raised to `log`, unless it is one that ends the call, as SystemExit: then it stays raised, and 0. */

@@ -137,11 +137,12 @@ static int put(Table *self, PyObject *key, PyObject *value, PyObject *ttl, PyObj
     rd_answer answer;
     rd_notice first;
     Use *left = NULL;
+    PyObject *own = NULL;
     int is_found = -1, is_there = 0;
-    if (weight_of(self, key, value, &weight) < 0 || (ttl && life_of(ttl, key, value, &life) < 0)) return -1;
+    if (weight_of(self, key, value, &weight) < 0 || (ttl && life_of(self, ttl, key, value, &life) < 0)) return -1;
     if (now_of(self, &now) < 0 || hash_of(self, key, &hash) < 0) return -1;
     Use *use = zeroed(sizeof(Use));
-    if (!use) return PyErr_NoMemory(), -1;
+    if (!use) return no_memory(self);
     use->key = key, use->value = value;
     Py_INCREF(key);
     Py_INCREF(value);
@@ -156,10 +157,12 @@ static int put(Table *self, PyObject *key, PyObject *value, PyObject *ttl, PyObj
     if (is_found == 0 && self->advice) follow(self, cache, now);
     if (is_found == 0 && !(fault = rd_put_for(cache, number, token, life, now, &answer, &first))) {
         link_use(self, use, hash, number);
-        use = NULL;
         take_left(self, cache, &answer, &first, &left);
+        own = keep_first_key(use, left);
+        use = NULL;
     }
     END_STEP
+    Py_XDECREF(own);
     free_uses(use);
     if (fault) refuse(self, fault);
     return is_there ? 1 : is_found < 0 || fault ? -1 : tell(self, left);

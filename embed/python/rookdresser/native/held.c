@@ -122,7 +122,7 @@ static PyObject *row_of(const Use *use) {
 static PyObject *list_of(Table *self, const uint64_t *now, PyObject *of(const Use *use)) {
     Py_ssize_t room = self->entries + self->loads;
     Use *all = zeroed(((size_t)room + 1) * sizeof(Use));
-    if (!all) return PyErr_NoMemory();
+    if (!all) return no_memory(self), NULL;
     Py_ssize_t count = copy_uses(self, now, all, room);
     PyObject *list = PyList_New(0);
     for (Py_ssize_t i = 0; i < count && i < room; i++) {
@@ -175,10 +175,10 @@ PyMethodDef held_methods[] = {
     {"window", METHOD(table_window), METH_NOARGS,
      "window($self)\n--\n\n"
      "Returns how many entries the windows may hold now, of all shards together.\n\n"
-     "If the window follows the look-ups (`adaptive`), the number changes by up to four at each look, get or put; it begins at 40\n"
+     "If the window follows the look-ups (`adaptive`), the number changes by up to four at each look, get or put; it begins at 10\n"
      "hundredths of the entries. Else it is what each shard was opened with. Raises Refused of a closed cache.\n\n"
      ">>> Cache(entries=1000).window(), Cache(entries=1000, adaptive=False).window()\n"
-     "(400, 10)"},
+     "(100, 10)"},
     {"_numbers", METHOD(table_numbers), METH_NOARGS, "The numbers of the library, of all shards together."},
     {"_counts", METHOD(table_counts), METH_NOARGS, "What this side counted, in the order of Stats."},
     {"_pairs", METHOD(table_pairs), METH_NOARGS, "(key, value) of each entry of one moment that hasn't expired."},

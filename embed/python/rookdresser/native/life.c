@@ -10,8 +10,20 @@ PyObject *table_new(PyTypeObject *type, PyObject *args, PyObject *names) {
     return (PyObject *)self;
 }
 
-/* The setup of each shard. _settings.py says which settings are refused, and names them. */
-static int setup_of(PyObject *given, rd_setup *setup) {
+/* The i-th of n parts of a number, which differ by one at most. */
+static uint64_t share(uint64_t number, uint64_t i, uint64_t n) { return number / n + (i < number % n); }
+
+/* The setup of the i-th of n shards. A window of 0 stands for a hundredth of the shard's entries. */
+static rd_setup part_of(const rd_setup *all, uint64_t i, uint64_t n) {
+    rd_setup part = *all;
+    part.entries = (uint32_t)share(all->entries, i, n), part.bound = share(all->bound, i, n);
+    part.window = all->window ? (uint32_t)share(all->window, i, n) : part.entries / 100;
+    if (!part.window) part.window = 1;
+    return part;
+}
+
+/* The setup of all shards together. _settings.py says which settings are refused, and names them. */
+static int setup_of(PyObject *given, uint64_t shards, rd_setup *setup) {
     uint64_t number[7];
     for (int i = 0; i < 7; i++) {
         PyObject *setting = PyTuple_GetItem(given, i);
@@ -19,7 +31,8 @@ static int setup_of(PyObject *given, rd_setup *setup) {
         if (whole(setting, i < 3 ? 32 : 64, SETTINGS[i], &number[i]) < 0) return -1;
     }
     *setup = (rd_setup){(uint32_t)number[0], (uint32_t)number[1], (uint32_t)number[2], number[3], number[4], number[5], number[6]};
-    if (!rd_check(setup)) return 0;
+    rd_setup first = part_of(setup, 0, shards), last = part_of(setup, shards - 1, shards);
+    if (!rd_check(&first) && !rd_check(&last)) return 0;
     PyErr_SetString(PyExc_ValueError, "a setting is out of its range");
     return -1;
 }
@@ -42,7 +55,7 @@ static int take_seed(Table *self, PyObject *seed) {
 /* The memory of the buckets and of the caches, and of the advice if there is to be one. */
 static int take_memory(Table *self, const rd_setup *setup, uint64_t shards, int is_advised) {
     uint64_t buckets = 8;
-    while (buckets < ((uint64_t)setup->entries + setup->flights) * shards && buckets < UINT64_C(1) << 40) buckets *= 2;
+    while (buckets < setup->entries + setup->flights * shards && buckets < UINT64_C(1) << 40) buckets *= 2;
     Use **all = zeroed(buckets * sizeof *all);
     rd_cache *caches = shards > 1 ? zeroed(shards * sizeof *caches) : &self->one_cache;
     Advice *advice = is_advised ? zeroed(sizeof *advice + shards * sizeof *advice->windows) : NULL;
@@ -50,7 +63,6 @@ static int take_memory(Table *self, const rd_setup *setup, uint64_t shards, int 
         PyMem_Free(advice);
         PyMem_Free(all);
         if (shards > 1) PyMem_Free(caches);
-        PyErr_NoMemory();
         return -1;
     }
     self->buckets = all, self->mask = buckets - 1, self->caches = caches, self->shards = shards, self->advice = advice;
@@ -58,13 +70,13 @@ static int take_memory(Table *self, const rd_setup *setup, uint64_t shards, int 
 }
 
 /* Opens the adviser for so many entries, unless there are none, and the shards. Returns a fault, and then nothing is open; or 0. */
-static uint64_t open_all(Table *self, rd_setup *setup, uint32_t advised) {
+static uint64_t open_all(Table *self, const rd_setup *setup, uint32_t advised) {
     uint64_t fault = advised ? open_adviser(self, advised) : 0;
-    if (!fault && advised) setup->window = self->advice->share;
-    self->window = setup->window;
     for (uint64_t i = 0; i < self->shards && !fault; i++) {
-        fault = rd_open(setup, &self->caches[i]);
-        if (advised) self->advice->windows[i] = setup->window;
+        rd_setup part = part_of(setup, i, self->shards);
+        if (advised) self->advice->windows[i] = part.window = share_of(self->advice, i);
+        fault = rd_open(&part, &self->caches[i]);
+        self->windows += part.window;
     }
     if (fault) close_all(self);
     return fault;
@@ -79,13 +91,13 @@ static PyObject *given_or_null(PyObject *given) {
 static PyObject *opened_once(void) { return PyErr_Format(PyExc_ValueError, "a cache is opened once, by Cache(..)"); }
 
 static PyObject *table_open(Table *self, PyObject *args) {
-    PyObject *given, *of_shards, *seed, *weigh, *clock, *on_leave, *log, *plain, *prime, *load_type, *refusal, *waits;
+    PyObject *given, *of_shards, *seed, *weigh, *clock, *on_leave, *log, *plain, *prime, *load_type, *refusal, *timedelta, *waits;
     int hash_is_secret;
     unsigned int advised;
     uint64_t shards, fault;
     rd_setup setup;
-    if (!PyArg_ParseTuple(args, "O!OIOpOOOOOO!O!OO", &PyTuple_Type, &given, &of_shards, &advised, &seed, &hash_is_secret, &weigh, &clock,
-                          &on_leave, &log, &plain, &PyLong_Type, &prime, &PyType_Type, &load_type, &refusal, &waits))
+    if (!PyArg_ParseTuple(args, "O!OIOpOOOOOO!O!OO!O", &PyTuple_Type, &given, &of_shards, &advised, &seed, &hash_is_secret, &weigh, &clock,
+                          &on_leave, &log, &plain, &PyLong_Type, &prime, &PyType_Type, &load_type, &refusal, &PyType_Type, &timedelta, &waits))
         return NULL;
     if (PyTuple_Size(given) != 7 || PyType_GetSlot((PyTypeObject *)load_type, Py_tp_new) != (void *)load_new
         || !is_of(waits, Py_tp_methods, waits_methods))
@@ -93,14 +105,15 @@ static PyObject *table_open(Table *self, PyObject *args) {
     Py_INCREF(of_shards);
     if (whole(of_shards, 32, "shards", &shards) < 0) return NULL;
     if (shards < 1 || shards > 4096) return PyErr_Format(PyExc_ValueError, "there are 1 to 4,096 shards");
-    if (setup_of(given, &setup) < 0) return NULL;
+    if (setup_of(given, shards, &setup) < 0) return NULL;
     /* Only now, as a setting's __index__ may have opened the cache. */
     if (self->load_type) return opened_once();
     if (take_seed(self, seed) < 0) return NULL;
-    if (take_memory(self, &setup, shards, advised != 0) < 0) return NULL;
+    if (take_memory(self, &setup, shards, advised != 0) < 0) return raise_fault(refusal, RD_OUT_OF_MEMORY), NULL;
     self->hash_is_secret = (char)hash_is_secret;
     self->load_type = given_or_null(load_type), self->refusal = given_or_null(refusal), self->waits = (Waits *)given_or_null(waits);
     self->log = given_or_null(log), self->plain = given_or_null(plain), self->prime = given_or_null(prime);
+    self->timedelta = given_or_null(timedelta);
     self->weigh = given_or_null(weigh), self->clock = given_or_null(clock), self->on_leave = given_or_null(on_leave);
     if ((fault = open_all(self, &setup, advised))) return refuse(self, fault), NULL;
     Py_RETURN_NONE;
@@ -114,6 +127,7 @@ static int table_traverse(Table *self, visitproc visit, void *arg) {
     Py_VISIT(self->log);
     Py_VISIT(self->plain);
     Py_VISIT(self->load_type);
+    Py_VISIT(self->timedelta);
     Py_VISIT(self->refusal);
     Py_VISIT((PyObject *)self->waits);
     Py_VISIT((PyObject *)self->spare);
@@ -148,6 +162,7 @@ static void table_dealloc(Table *self) {
     Py_CLEAR(self->plain);
     Py_CLEAR(self->prime);
     Py_CLEAR(self->load_type);
+    Py_CLEAR(self->timedelta);
     Py_CLEAR(self->refusal);
     Py_XDECREF((PyObject *)self->waits);
     if (self->buckets != &self->one_bucket) PyMem_Free(self->buckets);

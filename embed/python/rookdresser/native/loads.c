@@ -31,7 +31,7 @@ int seek(Table *self, PyObject *key, Load *mine, PyObject **found) {
     END_STEP
     if (!load && !self->load_type) refuse(self, RD_CLOSED);
     else if (!load) load = (Load *)PyObject_CallObject(self->load_type, NULL);
-    if (!load) return -1;
+    if (!load) return PyErr_ExceptionMatches(PyExc_MemoryError) ? no_memory(self) : -1;
     STEP
     int is_found = find(self, key, hash, &number);
     rd_cache *cache = shard_of(self, number);
@@ -113,8 +113,8 @@ int fail(Table *self, Load *load, PyObject *error) {
 /* Ends the load with a value, which is stored if it may be. -1 with an exception: of weigh or ttl, and the load is open; or else of
  * on_leave. */
 int land(Table *self, Load *load, PyObject *value, PyObject *ttl) {
-    Use *use = NULL, *left = NULL;
-    PyObject *key = NULL;
+    Use *use = NULL, *stored = NULL, *left = NULL;
+    PyObject *key = NULL, *own = NULL;
     uint64_t weight = 0;
     uint32_t life = 0;
     int has_ended = 0;
@@ -124,7 +124,7 @@ int land(Table *self, Load *load, PyObject *value, PyObject *ttl) {
     END_STEP
     if (!key) return 0; /* it has ended already */
     int asked = weight_of(self, key, value, &weight);
-    if (asked == 0 && ttl) asked = life_of(ttl, key, value, &life);
+    if (asked == 0 && ttl) asked = life_of(self, ttl, key, value, &life);
     Py_DECREF(key);
     if (asked < 0) return -1;
     STEP
@@ -147,14 +147,16 @@ int land(Table *self, Load *load, PyObject *value, PyObject *ttl) {
             Py_INCREF(value);
             use->value = value;
             link_use(self, use, hash, number);
-            use = NULL;
+            stored = use, use = NULL;
         } else
             self->counts.loose++;
         const rd_notice *told = fault ? NULL : &first;
         if (fault) fault = rd_land_loose(cache, load->id, number, load->now, &answer);
         if (!fault) take_left(self, cache, &answer, told, &left);
+        if (stored) own = keep_first_key(stored, left);
     }
     END_STEP
+    Py_XDECREF(own);
     free_uses(use);
     return has_ended ? told_of(self, load, left) : 0;
 }

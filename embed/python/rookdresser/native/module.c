@@ -11,10 +11,21 @@
  *     ask.c     what runs code of the caller's            python_loads.c  loads that are made in Python
  *     held.c    what a table holds                        calls.c         the calls by key
  *     advice.c  how the windows follow the look-ups       sweeps.c        what takes entries out of the whole table
- *     life.c    how a table is opened, and its end        function.c      a cached function */
+ *     life.c    how a table is opened, and its end        function.c      a cached function
+ *     durations.c  lives and time-outs, which are numbers or timedeltas */
 #include "native.h"
 
 void join_methods(void);
+
+/* The three numbers of a version. */
+#define NUMBERS(version) (int)((version) / 1000000), (int)((version) / 1000 % 1000), (int)((version) % 1000)
+
+static int has_right_library(void) {
+    if (rd_is_this_version()) return 1;
+    const uint64_t found = rd_version(), wanted = RD_VERSION;
+    PyErr_Format(PyExc_ImportError, "librookdresser is of version %d.%d.%d, and this package is of %d.%d.%d", NUMBERS(found), NUMBERS(wanted));
+    return 0;
+}
 
 static int fill(PyObject *module) {
 #ifdef __x86_64__
@@ -23,6 +34,7 @@ static int fill(PyObject *module) {
         return -1;
     }
 #endif
+    if (!has_right_library()) return -1;
     static PyType_Spec *const specs[] = {&table_spec, &load_spec, &waits_spec, &task_wait_spec, &function_spec};
     join_methods();
     for (size_t i = 0; i < sizeof specs / sizeof *specs; i++) {
@@ -43,6 +55,6 @@ static PyModuleDef_Slot slots[] = {
     {0, NULL},
 };
 
-static PyModuleDef definition = {PyModuleDef_HEAD_INIT, "_native", "The native part of rookdresser.", 0, NULL, slots, NULL, NULL, NULL};
+static PyModuleDef definition = {PyModuleDef_HEAD_INIT, "_native", "The native part of rookdresser.", 0, duration_functions, slots, NULL, NULL, NULL};
 
 PyMODINIT_FUNC PyInit__native(void) { return PyModuleDef_Init(&definition); }

@@ -86,6 +86,7 @@ typedef struct {
 typedef struct {
     rd_adviser adviser; /* one for all shards */
     uint32_t share;     /* how many entries it wants the window of each shard to hold */
+    uint32_t one_more;  /* and in how many shards, from the first one on, one more */
     uint32_t noted;     /* how many look-ups it hasn't seen yet */
     uint64_t keys[BATCH];
     uint32_t windows[]; /* how many entries the window of each shard may hold now */
@@ -96,7 +97,7 @@ typedef struct {
     rd_cache *caches, one_cache; /* one for each shard */
     uint64_t shards;
     Advice *advice;            /* null if the windows stay as they were opened */
-    uint32_t window;           /* how many entries the window of each shard could hold as it was opened */
+    uint64_t windows;          /* how many entries the windows of all shards could hold as they were opened */
     Use **buckets, *one_bucket;
     uint64_t mask;             /* how many buckets there are, less one */
     uint64_t displaced, reach; /* how many uses have another number than their hash, and how far that is at most */
@@ -107,7 +108,7 @@ typedef struct {
     uint64_t seed[2], mark;
     char is_seeded, hash_is_secret;
     PyObject *weigh, *clock, *on_leave; /* or null */
-    PyObject *log, *plain, *prime, *refusal, *load_type;
+    PyObject *log, *plain, *prime, *refusal, *load_type, *timedelta;
     Waits *waits;
     Counts counts;
     uint64_t refused[FAULTS];
@@ -127,12 +128,14 @@ void free_uses(Use *use);
 int find(Table *self, PyObject *key, uint64_t hash, uint64_t *number);
 Load *load_of(Table *self, uint64_t number, uint64_t id);
 void take_left(Table *self, rd_cache *cache, const rd_answer *answer, const rd_notice *first, Use **left);
+PyObject *keep_first_key(Use *entry, const Use *left);
 void close_all(Table *self);
 Use *take_all(Table *self, int with_loads);
 
 /* advice.c: how the windows follow the look-ups. All but windows_of need self->advice. */
 uint64_t open_adviser(Table *self, uint32_t entries);
 void note(Table *self, uint64_t number);
+uint32_t share_of(const Advice *advice, uint64_t shard);
 void follow(Table *self, rd_cache *cache, uint64_t now);
 uint64_t windows_of(Table *self);
 
@@ -144,11 +147,17 @@ int whole(PyObject *given, int bits, const char *what, uint64_t *number);
 int now_of(Table *self, uint64_t *now);
 long long nanoseconds(void);
 int weight_of(Table *self, PyObject *key, PyObject *value, uint64_t *weight);
-int life_of(PyObject *ttl, PyObject *key, PyObject *value, uint32_t *life);
+void raise_fault(PyObject *refusal, uint64_t fault);
 void refuse(Table *self, uint64_t fault);
+int no_memory(Table *self);
 int tell(Table *self, Use *left);
 PyObject *truth_of(int is_true);
 int refuse_coroutine(Table *self, PyObject *value, const char *why);
+
+/* durations.c: numbers and timedeltas. */
+int is_timedelta(Table *self, PyObject *given);
+int life_of(Table *self, PyObject *ttl, PyObject *key, PyObject *value, uint32_t *life);
+double seconds_of(Table *self, PyObject *timeout);
 
 /* keys.c: the number that is made of a key. */
 int hash_of(Table *self, PyObject *key, uint64_t *hash);
@@ -171,7 +180,7 @@ int wait_for(Table *self, Load *load, PyObject *timeout);
 /* The methods and types, for module.c. */
 PyObject *load_new(PyTypeObject *type, PyObject *args, PyObject *names);
 PyObject *table_new(PyTypeObject *type, PyObject *args, PyObject *names);
-extern PyMethodDef call_methods[], sweep_methods[], python_load_methods[], held_methods[], waits_methods[];
+extern PyMethodDef call_methods[], sweep_methods[], python_load_methods[], held_methods[], waits_methods[], duration_functions[];
 extern PyType_Spec table_spec, load_spec, waits_spec, task_wait_spec, function_spec;
 PyObject *table_item(Table *self, PyObject *key);
 int table_set_item(Table *self, PyObject *key, PyObject *value);

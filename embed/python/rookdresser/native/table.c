@@ -55,10 +55,13 @@ static Use *found_again(Table *self, PyObject *key, uint64_t hash, uint64_t numb
 /* Whether the key is in use under this number, by a use that was linked after `compared`: 1 or 0, -1 if a comparison raised, -2 if the key
  * that it compared with was taken out meanwhile. */
 static int is_under(Table *self, PyObject *key, uint64_t hash, uint64_t number, uint64_t compared) {
+    /* The later a use was linked, the earlier it stands in its bucket. An entry and a load may have the same key: each is compared once. */
+    uint64_t below = UINT64_MAX;
     for (Use *use = *bucket_of(self, number); use; use = use->next) {
-        if (use->number != number || use->hash != hash || use->serial <= compared) continue;
+        if (use->number != number || use->hash != hash || use->serial <= compared || use->serial >= below) continue;
         if (use->key == key) return 1;
         PyObject *other = use->key;
+        below = use->serial;
         Py_INCREF(other);
         int is_equal = PyObject_RichCompareBool(other, key, Py_EQ);
         use = found_again(self, other, hash, number);
@@ -114,6 +117,17 @@ void take_left(Table *self, rd_cache *cache, const rd_answer *answer, const rd_n
         use->cause = notice.cause, *left = use;
         self->counts.left[notice.cause - 1]++;
     }
+}
+
+/* Gives the entry the key of the one that it has replaced, if that is among what left: a store under an equal key keeps the first key, as in
+ * a dict. Returns the key that it had, whose reference is the caller's from now on, or null. */
+PyObject *keep_first_key(Use *entry, const Use *left) {
+    while (left && !(left->cause == RD_REPLACED && left->number == entry->number)) left = left->next;
+    if (!left) return NULL;
+    PyObject *own = entry->key;
+    entry->key = left->key;
+    Py_INCREF(entry->key);
+    return own;
 }
 
 /* Closes the library's side. */

@@ -75,19 +75,10 @@ int ring(Load *load) {
     return type ? -1 : 0;
 }
 
-/* The seconds that a timedelta or a number stands for; -1 with an exception. */
-static double seconds_of(PyObject *timeout) {
-    if (PyNumber_Check(timeout) || !PyObject_HasAttrString(timeout, "total_seconds")) return PyFloat_AsDouble(timeout);
-    PyObject *told = PyObject_CallMethod(timeout, "total_seconds", NULL);
-    double seconds = told ? PyFloat_AsDouble(told) : -1;
-    Py_XDECREF(told);
-    return seconds;
-}
-
 /* The moment, in nanoseconds, at which a wait of so many seconds ends; -1 for none. -2 with an exception. */
-static long long end_of(PyObject *timeout) {
+static long long end_of(Table *self, PyObject *timeout) {
     if (!timeout || timeout == Py_None) return -1;
-    double seconds = seconds_of(timeout);
+    double seconds = seconds_of(self, timeout);
     if (seconds == -1 && PyErr_Occurred()) return -2;
     if (seconds != seconds) {
         PyErr_SetString(PyExc_ValueError, "timeout is no number");
@@ -128,7 +119,7 @@ int abandon(Table *self, Load *load, const char *why) {
 
 /* The wait looks again after one second, two, four, and so on up to a minute: a circle may close, or a loop be closed, later on. */
 static int wait_linked(Table *self, Load *load, Wait *wait, PyObject *timeout) {
-    long long end = end_of(timeout), pause = 1000000;
+    long long end = end_of(self, timeout), pause = 1000000;
     if (end == -2) return -1;
     while (!load->is_over) {
         int left = checked(load->graph, load, wait);
@@ -137,7 +128,7 @@ static int wait_linked(Table *self, Load *load, Wait *wait, PyObject *timeout) {
         int woken = sleep_on(wait->lock, rest < 0 ? 0 : rest < pause ? rest : pause);
         if (woken) return woken < 0 ? -1 : 0;
         if (end >= 0 && nanoseconds() >= end && !load->is_over) {
-            PyErr_Format(PyExc_TimeoutError, "the load of the key took longer than %S%s", timeout, PyNumber_Check(timeout) ? " s" : "");
+            PyErr_Format(PyExc_TimeoutError, "the load of the key took longer than %S%s", timeout, is_timedelta(self, timeout) > 0 ? "" : " s");
             return -1;
         }
         if (pause < 60000000) pause *= 2;
@@ -151,8 +142,7 @@ int wait_for(Table *self, Load *load, PyObject *timeout) {
     if (wait) wait->lock = PyThread_allocate_lock();
     if (!wait || !wait->lock) {
         PyMem_Free(wait);
-        PyErr_NoMemory();
-        return -1;
+        return no_memory(self);
     }
     PyThread_acquire_lock(wait->lock, NOWAIT_LOCK);
     wait->thread = PyThread_get_thread_ident();
