@@ -6,7 +6,7 @@ use std::fmt::{Debug, Formatter};
 use std::ops::RangeInclusive;
 
 /// How many entries a cache may have for an adviser to advise it.
-pub(crate) const ADVISED: RangeInclusive<u32> = 512..=1 << 22;
+pub(crate) const ADVISED: RangeInclusive<u32> = 64..=1 << 22;
 
 /// Says how many entries the window of a cache should hold, from the keys that are looked up: of one cache, or of several with one
 /// setup together.
@@ -46,20 +46,20 @@ pub struct Adviser {
 unsafe impl Send for Adviser {}
 
 impl Adviser {
-    /// Opens an adviser for caches of 512 to 4,194,304 entries together. `BadSetup`, then `OutOfMemory`. Panics on a processor older
+    /// Opens an adviser for caches of 64 to 4,194,304 entries together. `BadSetup`, then `OutOfMemory`. Panics on a processor older
     /// than x86-64-v2.
     ///
     /// ```
     /// use rookdresser::Adviser;
     ///
-    /// assert_eq!(Adviser::open(1000)?.wanted(), 400);
-    /// let few = Adviser::open(511).unwrap_err();
-    /// assert_eq!(few.to_string(), "entries is 511, and has to be from 512 to 4194304");
+    /// assert_eq!(Adviser::open(1000)?.wanted(), 100);
+    /// let few = Adviser::open(63).unwrap_err();
+    /// assert_eq!(few.to_string(), "entries is 63, and has to be from 64 to 4194304");
     /// # Ok::<(), rookdresser::OpenError>(())
     /// ```
     pub fn open(entries: u32) -> Result<Adviser, OpenError> {
         in_range(Setting::Entries, entries.into(), (*ADVISED.start()).into(), (*ADVISED.end()).into(), "")?;
-        let mut handle = Handle::closed();
+        let mut handle = Handle::closed()?;
         // SAFETY: the handle is borrowed for the call, and closed: all bytes are zero.
         match unsafe { sys::rd_open_adviser(entries, &mut handle) } {
             0 => {
@@ -77,7 +77,7 @@ impl Adviser {
     /// memory: it has not seen a key then, but all else is done. Don't show the keys again.
     ///
     /// A cache of names gives it a number for each name, as a hash is. Takes a lock of no kind. One key in 64 makes four look-ups in
-    /// small caches, and more of them do below 4,096 entries.
+    /// small caches, more of them do below 4,096 entries, and every key does below 128.
     ///
     /// ```
     /// # use rookdresser::Adviser;
@@ -94,14 +94,14 @@ impl Adviser {
         }
     }
 
-    /// How many entries the window should hold: 1 to all entries, and 40 hundredths of them at first.
+    /// How many entries the window should hold: 1 to all entries, and 10 hundredths of them at first.
     ///
     /// ```
     /// # use rookdresser::Adviser;
     /// let mut adviser = Adviser::open(512)?;
     /// // Nobody asks for a key again: no window is better than the one at first.
     /// adviser.saw(&(0..10_000).collect::<Vec<_>>())?;
-    /// assert_eq!(adviser.wanted(), 204);
+    /// assert_eq!(adviser.wanted(), 51);
     /// # Ok::<(), Box<dyn std::error::Error>>(())
     /// ```
     pub fn wanted(&self) -> u32 {

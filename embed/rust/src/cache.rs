@@ -133,6 +133,7 @@ impl<K: Hash + Eq + Clone, V, S: BuildHasher> Cache<K, V, S> {
     /// ```
     pub fn seek(&mut self, key: &K, now: u64) -> Result<(Found, AllLeft<K, V>), Fault> {
         let place = self.place(key);
+        self.store.table.try_room(&place)?;
         let number = self.store.table.number(&place);
         let found = self.store.library.seek(number, now)?;
         if matches!(found, Found::Lead(_) | Found::HitLead(..)) {
@@ -390,8 +391,8 @@ impl<K: Hash + Eq + Clone, V, S: BuildHasher> Cache<K, V, S> {
     ///
     /// ```
     /// # use rookdresser::{Cache, Setup};
-    /// // 40 hundredths at first.
-    /// assert_eq!(Cache::<u64, u64>::open(&Setup::of(1000))?.window(), 400);
+    /// // 10 hundredths at first.
+    /// assert_eq!(Cache::<u64, u64>::open(&Setup::of(1000))?.window(), 100);
     /// let fixed = Cache::<u64, u64>::open(&Setup { adaptive: Some(false), ..Setup::of(1000) })?;
     /// assert_eq!(fixed.window(), 10);
     /// # Ok::<(), Box<dyn std::error::Error>>(())

@@ -4,6 +4,7 @@ use crate::panics::{Guarded, Panics};
 use crate::plain::are_plain;
 use crate::several::Several;
 use crate::shared::Locked;
+use crate::store::Store;
 use crate::table::{hash_of, Place};
 use std::borrow::Borrow;
 use std::hash::{BuildHasher, Hash};
@@ -71,9 +72,12 @@ impl<K, V, E, S> Loading<K, V, E, S> {
     }
 
     /// The row that is alone of its hash. It is nearly always the key's: a call uses it at once, and has the key compared by
-    /// `is_of` once the lock is given back.
+    /// `is_of` once the lock is given back. Nothing with `after_access`: a use by another key would keep the entry from expiring.
     pub(crate) fn only(&self, shard: &Locked<'_, K, V, E>, hash: u64) -> Option<(Guarded<Arc<K>>, u32)> {
-        let table = &shard.store.table;
+        let Store { library, table, .. } = &shard.store;
+        if library.has_after_access() {
+            return None;
+        }
         table.only(hash).map(|at| (Guarded::of(table.row(at).key.clone()), at))
     }
 

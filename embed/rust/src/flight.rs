@@ -2,7 +2,7 @@
 use crate::lock::locked;
 use crate::panics::Panics;
 use crate::slab::Slab;
-use crate::waits::{Waiting, WaitsForItself};
+use crate::waits::{outside, Waiting, WaitsForItself};
 use std::future::Future;
 use std::pin::Pin;
 use std::sync::atomic::{AtomicBool, Ordering};
@@ -51,7 +51,8 @@ impl<V, E> Flight<V, E> {
         Flight { seats, bell: Condvar::new(), load, is_over: Arc::new(AtomicBool::new(false)) }
     }
 
-    /// Tells all who wait. Wakers are code of the caller's, so no lock is held then.
+    /// Tells all who wait. Wakers are code of the caller's, so no lock is held then, and what one polls is no part of a load that this
+    /// thread makes.
     pub(crate) fn tell(&self, outcome: Outcome<V, E>, panics: &mut Panics) {
         self.is_over.store(true, Ordering::SeqCst);
         let mut seats = locked(&self.seats);
@@ -62,7 +63,7 @@ impl<V, E> Flight<V, E> {
             self.bell.notify_all();
         }
         for waker in wakers.into_iter() {
-            panics.of(|| waker.wake());
+            panics.of(|| outside(|| waker.wake()));
         }
     }
 

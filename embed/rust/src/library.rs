@@ -50,9 +50,9 @@ impl Library {
         Ok(Library { inner, latest: Moment::default(), window, sure_for, has_durations: shortest.is_some() })
     }
 
-    /// Whether a hit may be sure at all.
-    pub(crate) fn is_ever_sure(&self) -> bool {
-        self.sure_for != 0
+    /// Whether entries expire by the time since their last use. Then no hit is ever sure.
+    pub(crate) fn has_after_access(&self) -> bool {
+        self.sure_for == 0
     }
 
     /// The calls of the library, for whoever has it alone.

@@ -1,7 +1,7 @@
 //! Which setups open a cache, and why one doesn't.
 use crate::adviser::ADVISED;
 use crate::parts::{MOST_ENTRIES, MOST_SHARDS};
-use crate::sys::Settings;
+use crate::sys::{Settings, VERSION};
 use crate::Fault;
 use std::error::Error;
 use std::fmt::{Display, Formatter, Result as Written};
@@ -17,7 +17,7 @@ pub struct Setup {
     pub entries: u32,
     /// How many of them the window may hold: 1 to `entries`. If it is given, the window stays as it is.
     pub window: Option<u32>,
-    /// Whether the window follows the stream of look-ups, which needs a cache of 512 to 4,194,304 entries, all shards together, and a
+    /// Whether the window follows the stream of look-ups, which needs a cache of 64 to 4,194,304 entries, all shards together, and a
     /// `window` that isn't given. If it isn't given, the window does so if it can. If it is false and no `window` is given, the window
     /// has a hundredth of the entries, and at least one.
     pub adaptive: Option<bool>,
@@ -154,6 +154,11 @@ pub enum OpenError {
     BadSetup(BadSetting),
     /// An allocation failed.
     OutOfMemory,
+    /// The library that was linked is of another version than this crate.
+    OtherVersion {
+        /// The library's version: a million times its first number, a thousand times its second, and its third.
+        library: u64,
+    },
 }
 
 impl Display for OpenError {
@@ -161,8 +166,17 @@ impl Display for OpenError {
         match self {
             OpenError::BadSetup(bad) => bad.fmt(f),
             OpenError::OutOfMemory => Fault::OutOfMemory.fmt(f),
+            OpenError::OtherVersion { library } => {
+                let [library, own] = [*library, VERSION].map(spelled);
+                write!(f, "librookdresser is of version {library}, and this crate is of {own}")
+            }
         }
     }
+}
+
+// The version of this number.
+fn spelled(version: u64) -> String {
+    format!("{}.{}.{}", version / 1_000_000, version / 1_000 % 1_000, version % 1_000)
 }
 
 impl Error for OpenError {}
@@ -246,7 +260,7 @@ impl Setup {
         self.check_adaptive(self.window.is_none(), " if window is given")?;
         self.check_adaptive(
             ADVISED.contains(&(entries * shards)),
-            " unless the cache has 512 to 4194304 entries, all shards together",
+            " unless the cache has 64 to 4194304 entries, all shards together",
         )
     }
 
@@ -274,8 +288,15 @@ pub(crate) fn in_range(
 
 #[cfg(test)]
 mod tests {
-    use super::{Setting, Setup};
+    use super::{OpenError, Setting, Setup};
     use crate::sys::rd_check;
+
+    #[test]
+    fn a_library_of_another_version_is_named_with_its_version() {
+        let said = OpenError::OtherVersion { library: 1_002_003 }.to_string();
+        let own = env!("CARGO_PKG_VERSION").trim_end_matches("-dev");
+        assert_eq!(said, format!("librookdresser is of version 1.2.3, and this crate is of {own}"));
+    }
 
     #[test]
     fn a_shard_s_ranges_are_the_library_s() {

@@ -241,7 +241,7 @@ impl<K, V, E> Shared<K, V, E> {
 }
 
 fn opens_after<K, V, E>(shard: &Shard<K, V, E>, reads: Reads) -> u64 {
-    if reads == Reads::Shared && shard.store.library.is_ever_sure() {
+    if reads == Reads::Shared && !shard.store.library.has_after_access() {
         OPENS_AFTER
     } else {
         u64::MAX

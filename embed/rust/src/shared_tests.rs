@@ -451,7 +451,7 @@ fn calls_of_two_threads_on_shards_with_one_adviser_end_in_every_order() {
         assert_eq!(answers, [Some(1), Some(1)]);
         let (stats, numbers, kept) = seen(&cache);
         assert_eq!((stats.hits, stats.misses, kept), (80 + 6, 2, (10, 10)));
-        assert_eq!((numbers.hits, numbers.misses, cache.window()), (stats.hits, stats.misses, 204));
+        assert_eq!((numbers.hits, numbers.misses, cache.window()), (stats.hits, stats.misses, 51));
         shows_each_once(&cache);
     };
     let orders = every_order(2, cache, [&thread(0), &thread(1)], check);

@@ -1,4 +1,5 @@
 //! Things at places that are used again.
+use std::collections::TryReserveError;
 use std::ops::{Index, IndexMut};
 
 /// Things, each at a place of its own until it is removed. Memory is kept for the most that there were at once.
@@ -37,9 +38,33 @@ impl<T> Slab<T> {
 
     #[cold]
     fn grow(&mut self) {
+        self.places.reserve_exact(self.more());
+    }
+
+    // How many places are added to those that are all taken.
+    fn more(&self) -> usize {
         let (there, least) = (self.places.len(), 8);
-        let more = if there < self.full { there.max(least).min(self.full - there) } else { (there / 8).max(least) };
-        self.places.reserve_exact(more);
+        if there < self.full {
+            there.max(least).min(self.full - there)
+        } else {
+            (there / 8).max(least)
+        }
+    }
+
+    /// Takes room for one more thing, if there is none. Then the next `insert` takes no memory, and no `remove` of it.
+    #[inline]
+    pub(crate) fn try_room(&mut self) -> Result<(), TryReserveError> {
+        if self.free.is_empty() && self.places.len() == self.places.capacity() {
+            return self.try_grow();
+        }
+        Ok(())
+    }
+
+    #[cold]
+    fn try_grow(&mut self) -> Result<(), TryReserveError> {
+        let more = self.more();
+        self.free.try_reserve_exact(self.places.len() + more)?;
+        self.places.try_reserve_exact(more)
     }
 
     /// Takes out what is at the place.
@@ -57,6 +82,10 @@ impl<T> Slab<T> {
     /// All of them, each with its place.
     pub(crate) fn iter(&self) -> impl Iterator<Item = (u32, &T)> {
         self.places.iter().enumerate().filter_map(|(at, thing)| Some((at as u32, thing.as_ref()?)))
+    }
+
+    pub(crate) fn iter_mut(&mut self) -> impl Iterator<Item = (u32, &mut T)> {
+        self.places.iter_mut().enumerate().filter_map(|(at, thing)| Some((at as u32, thing.as_mut()?)))
     }
 
     pub(crate) fn into_iter(self) -> impl Iterator<Item = T> {

@@ -78,6 +78,7 @@ impl<K, V> Store<K, V> {
     /// A seek. Returns the value if it is there, or else what was found. `left` tells what left by it.
     #[inline(always)]
     pub(crate) fn seek(&mut self, place: &Place<K>, now: u64) -> Result<Result<&V, Found>, Fault> {
+        self.table.try_room(place)?;
         let (row, number) = match place {
             Place::At(at) => (Some(self.table.row(*at)), self.table.row(*at).number),
             Place::New { number, .. } => (None, *number),
@@ -98,6 +99,9 @@ impl<K, V> Store<K, V> {
         now: u64,
         left: &mut AllLeft<K, V>,
     ) -> Result<(), (Fault, Place<K>, V)> {
+        if let Err(fault) = self.table.try_room(&place) {
+            return Err((fault, place, value));
+        }
         let (number, token) = (self.table.number(&place), self.table.next_token(&place));
         match self.library.made(now, |tokens, now| tokens.put_lived(number, Token { token, weight }, life, now)) {
             Ok(()) => {

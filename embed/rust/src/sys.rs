@@ -1,6 +1,10 @@
 //! The declarations of `rookdresser.h`, written by hand. `tools/gate/check_bindings` compares the two, and below the compiler compares
 //! sizes and places with those of the header's structs.
+use crate::OpenError;
 use std::mem::offset_of;
+
+/// The header's `RD_VERSION`.
+pub(crate) const VERSION: u64 = 2000;
 
 /// What the library keeps a cache or an adviser behind.
 #[repr(C)]
@@ -11,11 +15,15 @@ pub struct Handle {
 }
 
 impl Handle {
-    /// A handle that is closed. Panics on a processor older than x86-64-v2: the library is marked for such a one, and glibc would refuse
-    /// it in a sentence, but Rust's own linker drops that mark.
-    pub(crate) fn closed() -> Handle {
+    /// A handle that is closed, if the library is of this version. Panics on a processor older than x86-64-v2: the library is marked for
+    /// such a one, and glibc would refuse it in a sentence, but Rust's own linker drops that mark.
+    pub(crate) fn closed() -> Result<Handle, OpenError> {
         assert!(is_v2(), "rookdresser needs a processor of x86-64-v2 or later");
-        Handle { at: std::ptr::null_mut(), is_open: false }
+        // SAFETY: it takes nothing, and returns a number.
+        match unsafe { rd_version() } {
+            VERSION => Ok(Handle { at: std::ptr::null_mut(), is_open: false }),
+            library => Err(OpenError::OtherVersion { library }),
+        }
     }
 }
 
@@ -191,6 +199,7 @@ impl Numbers {
 }
 
 unsafe extern "C" {
+    pub fn rd_version() -> u64;
     #[cfg(test)]
     pub fn rd_check(setup: *const Settings) -> u64;
     pub fn rd_open(setup: *const Settings, cache: *mut Handle) -> u64;

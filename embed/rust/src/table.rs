@@ -1,7 +1,8 @@
 //! The keys in use, each with its number of the library's and its value. No code of the caller's runs here: keys are compared by
 //! whoever calls, and what is let go of is handed out.
 use crate::slab::Slab;
-use std::collections::HashSet;
+use crate::Fault;
+use std::collections::{HashSet, TryReserveError};
 use std::hash::{BuildHasher, Hash, Hasher};
 use std::sync::Arc;
 
@@ -52,7 +53,7 @@ impl<K, V> Table<K, V> {
 
     #[inline]
     fn chain(&self, hash: u64) -> usize {
-        (spread(hash) >> 32) as usize & (self.chains.len() - 1)
+        chain_of(hash, self.chains.len())
     }
 
     /// The rows of the keys with this hash, each with its place.
@@ -146,10 +147,28 @@ impl<K, V> Table<K, V> {
         }
     }
 
-    fn added(&mut self, hash: u64, number: u64, key: Arc<K>) -> u32 {
-        if self.rows.len() * 2 >= self.chains.len() {
-            self.grow();
+    /// Takes what room the place needs, so that it can be used without any more memory.
+    #[inline]
+    pub(crate) fn try_room(&mut self, place: &Place<K>) -> Result<(), Fault> {
+        match place {
+            Place::At(_) => Ok(()),
+            Place::New { hash, number, .. } => self.try_new_room(number != hash).map_err(|_| Fault::OutOfMemory),
         }
+    }
+
+    fn try_new_room(&mut self, is_moved: bool) -> Result<(), TryReserveError> {
+        self.rows.try_room()?;
+        if is_moved {
+            self.moved.try_reserve(1)?;
+        }
+        if self.rows.len() * 2 >= self.chains.len() {
+            self.try_grow()?;
+        }
+        Ok(())
+    }
+
+    // The room for it was taken.
+    fn added(&mut self, hash: u64, number: u64, key: Arc<K>) -> u32 {
         if number != hash {
             self.moved.insert(number);
         }
@@ -161,12 +180,15 @@ impl<K, V> Table<K, V> {
     }
 
     #[cold]
-    fn grow(&mut self) {
-        self.chains = vec![NONE; self.chains.len() * 2];
-        let rows: Vec<_> = self.rows.iter().map(|(at, row)| (at, self.chain(row.hash))).collect();
-        for (at, chain) in rows {
-            self.rows[at].next = std::mem::replace(&mut self.chains[chain], at);
+    fn try_grow(&mut self) -> Result<(), TryReserveError> {
+        let (mut chains, count) = (Vec::new(), self.chains.len() * 2);
+        chains.try_reserve_exact(count)?;
+        chains.resize(count, NONE);
+        for (at, row) in self.rows.iter_mut() {
+            row.next = std::mem::replace(&mut chains[chain_of(row.hash, count)], at);
         }
+        self.chains = chains;
+        Ok(())
     }
 
     /// Has a load use the place, whose row is returned.
@@ -258,6 +280,12 @@ pub(crate) fn hash_of<Q: Hash + ?Sized>(hasher: &impl BuildHasher, key: &Q) -> u
 #[inline]
 fn spread(hash: u64) -> u64 {
     hash.wrapping_mul(0x9E37_79B9_7F4A_7C15)
+}
+
+// Which of a power of two of chains a hash belongs to.
+#[inline]
+fn chain_of(hash: u64, chains: usize) -> usize {
+    (spread(hash) >> 32) as usize & (chains - 1)
 }
 
 /// Which of some parts a hash belongs to. It goes by the uppermost bits, and a chain by those below them.

@@ -24,7 +24,7 @@ use std::time::Duration;
 #[derive(Clone, Copy, Debug, PartialEq, Eq, Hash)]
 #[non_exhaustive]
 pub enum Fault {
-    /// An allocation failed. The same call may succeed later.
+    /// An allocation of the library failed, or of the table of keys and values. The same call may succeed later.
     OutOfMemory,
     /// The value weighs more than `bound`.
     TooHeavy,
@@ -154,7 +154,7 @@ impl<K: Key> Tokens<K> {
 
     /// The same of settings that are within their ranges.
     pub(crate) fn of(settings: &Settings) -> Result<Self, OpenError> {
-        let mut handle = Handle::closed();
+        let mut handle = Handle::closed()?;
         // SAFETY: both lead to whole values that are borrowed for the call, and the handle is closed: all bytes are zero.
         match unsafe { (K::CALLS.open)(settings, &mut handle) } {
             0 => Ok(Tokens { handle, told: 0, first: sys::Notice::default(), has_first: false }),

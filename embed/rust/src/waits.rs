@@ -28,6 +28,18 @@ pub(crate) fn new_number() -> u64 {
     number
 }
 
+/// Makes a call during which this thread has no load of its own.
+pub(crate) fn outside<T>(call: impl FnOnce() -> T) -> T {
+    struct Restores(u64);
+    impl Drop for Restores {
+        fn drop(&mut self) {
+            OWN.set(self.0);
+        }
+    }
+    let _restores = Restores(OWN.replace(0));
+    call()
+}
+
 /// The wait would never end: the load waits for the one that would wait.
 pub(crate) struct WaitsForItself;
 

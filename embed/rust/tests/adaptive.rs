@@ -14,16 +14,17 @@ use std::time::Duration;
 use streams::{passing, popular, OneSeed};
 
 #[test]
-fn a_window_follows_from_512_entries_on_unless_one_is_given() {
+fn a_window_follows_from_64_entries_on_unless_one_is_given() {
     let some = |window| Setup { window: Some(window), ..Setup::of(1000) };
-    // A window that follows begins with 40 hundredths, and one that doesn't has one, rounded down, and one entry at least.
+    // A window that follows begins with 10 hundredths, and one that doesn't has one, rounded down, and one entry at least.
     for (setup, wanted) in [
         (Setup::of(1), 1),
-        (Setup::of(99), 1),
-        (Setup::of(511), 5),
-        (Setup::of(512), 204),
-        (Setup::of(1000), 400),
-        (Setup { adaptive: Some(true), ..Setup::of(512) }, 204),
+        (Setup::of(99), 9),
+        (Setup::of(63), 1),
+        (Setup::of(64), 6),
+        (Setup::of(512), 51),
+        (Setup::of(1000), 100),
+        (Setup { adaptive: Some(true), ..Setup::of(512) }, 51),
         (Setup { adaptive: Some(false), ..Setup::of(1000) }, 10),
         (some(400), 400),
         (Setup { adaptive: Some(false), ..some(7) }, 7),
@@ -32,12 +33,12 @@ fn a_window_follows_from_512_entries_on_unless_one_is_given() {
         assert_eq!(cache.window(), wanted, "{setup:?}");
         assert_eq!(Loading::<u64, u64, ()>::sharded(1, &setup).unwrap().window(), wanted, "{setup:?}");
         // All keys of the stream pass, so a window that follows becomes wider.
-        for key in passing(20_000, 1000, 1) {
+        for key in passing(20_000, setup.entries.max(64).into(), 1) {
             if cache.look(&key, 0).unwrap().0.is_none() {
                 cache.put(&key, key, 1, 0).unwrap();
             }
         }
-        let follows = setup.window.is_none() && setup.adaptive != Some(false) && setup.entries >= 512;
+        let follows = setup.window.is_none() && setup.adaptive != Some(false) && setup.entries >= 64;
         assert_eq!(cache.window() != wanted, follows, "{setup:?}");
     }
 }
@@ -45,14 +46,14 @@ fn a_window_follows_from_512_entries_on_unless_one_is_given() {
 #[test]
 fn the_entries_of_all_shards_count() {
     let sharded = |shards, setup: &Setup| Loading::<u64, u64, ()>::sharded(shards, setup).map(|cache| cache.window());
-    // 40 hundredths of 512, of which each shard has its part.
-    assert_eq!(sharded(8, &Setup::of(64)), Ok(204));
-    // A hundredth of 63 for each of eight: one at least.
-    assert_eq!(sharded(8, &Setup::of(63)), Ok(8));
-    // 40 hundredths of 4,096 are 1,638, but each shard has one entry at least.
+    // 10 hundredths of 512, of which each shard has its part.
+    assert_eq!(sharded(8, &Setup::of(64)), Ok(51));
+    // A hundredth of 7 for each of eight: one at least.
+    assert_eq!(sharded(8, &Setup::of(7)), Ok(8));
+    // 10 hundredths of 4,096 are 409, but each shard has one entry at least.
     assert_eq!(sharded(4096, &Setup { flights: 1, ..Setup::of(1) }), Ok(4096));
     let divided = Loading::<u64, u64, ()>::open(&Setup::of(100_000)).unwrap();
-    assert_eq!((divided.shards() > 1, divided.window()), (true, 40_000));
+    assert_eq!((divided.shards() > 1, divided.window()), (true, 10_000));
     let fixed = Loading::<u64, u64, ()>::open(&Setup { adaptive: Some(false), ..Setup::of(100_000) }).unwrap();
     assert_eq!(fixed.window(), 1000);
 }
@@ -63,25 +64,25 @@ fn a_window_that_can_t_follow_is_refused() {
     let given = Setup { window: Some(10), ..adaptive(1000) };
     let (if_given, unless) = (
         "adaptive is true, and has to be false or not given if window is given",
-        "adaptive is true, and has to be false or not given unless the cache has 512 to 4194304 entries, all shards together",
+        "adaptive is true, and has to be false or not given unless the cache has 64 to 4194304 entries, all shards together",
     );
     for (bad, said) in
-        [(given, if_given), (adaptive(511), unless), (adaptive(4_194_305), unless), (adaptive(1), unless)]
+        [(given, if_given), (adaptive(63), unless), (adaptive(4_194_305), unless), (adaptive(1), unless)]
     {
         let error = bad.check().unwrap_err();
         assert_eq!((error.setting, error.value, error.least, error.most), (Setting::Adaptive, 1, 0, 0));
         assert_eq!(error.to_string(), said);
         assert_eq!(Loading::<u64, u64, ()>::open(&bad).err(), Some(OpenError::BadSetup(error)));
     }
-    for good in [adaptive(512), adaptive(4_194_304), Setup::of(4_194_305), Setup { adaptive: Some(false), ..given }] {
+    for good in [adaptive(64), adaptive(4_194_304), Setup::of(4_194_305), Setup { adaptive: Some(false), ..given }] {
         assert_eq!(good.check(), Ok(()));
     }
     let refused = |opened: Result<(), OpenError>| opened.unwrap_err().to_string();
     assert_eq!(refused(Cache::<u64, u64>::open(&given).map(drop)), if_given);
-    assert_eq!(refused(Cache::<u64, u64>::open(&adaptive(511)).map(drop)), unless);
+    assert_eq!(refused(Cache::<u64, u64>::open(&adaptive(63)).map(drop)), unless);
     let sharded = |shards, entries| Loading::<u64, u64, ()>::sharded(shards, &adaptive(entries)).map(drop);
     assert_eq!(
-        (sharded(2, 256), refused(sharded(2, 255)), refused(sharded(65, 65_536))),
+        (sharded(2, 32), refused(sharded(2, 31)), refused(sharded(65, 65_536))),
         (Ok(()), unless.into(), unless.into())
     );
     let plain = "adaptive is true, and has to be false or not given if the window moves only by `slide`";
@@ -94,17 +95,17 @@ fn a_window_that_can_t_follow_is_refused() {
 fn an_adviser_s_range_is_the_library_s() {
     // The wrapper checks the range, and the library would refuse what it lets through.
     for (entries, opens) in
-        [(0, false), (511, false), (512, true), (4_194_304, true), (4_194_305, false), (u32::MAX, false)]
+        [(0, false), (63, false), (64, true), (4_194_304, true), (4_194_305, false), (u32::MAX, false)]
     {
         let adviser = Adviser::open(entries);
         assert_eq!(adviser.is_ok(), opens, "{entries}");
-        assert!(adviser.map_or(true, |adviser| adviser.wanted() == (u64::from(entries) * 40 / 100) as u32));
+        assert!(adviser.map_or(true, |adviser| adviser.wanted() == (u64::from(entries) * 10 / 100) as u32));
     }
 }
 
 #[test]
 fn a_window_is_wide_while_keys_pass_and_narrow_while_the_same_ones_stay_popular() {
-    for (entries, shards) in [(512, 1), (1000, 1), (4096, 8)] {
+    for (entries, shards) in [(64, 1), (512, 1), (1000, 1), (4096, 8)] {
         let cache = Loading::<u64, u64, (), _>::sharded_with_hasher(
             shards,
             &Setup::of(entries / shards as u32),
@@ -251,7 +252,7 @@ fn moves_as_the_driver(
         };
         assert_eq!(made(what, key, driver.latest), (hit, driver.window), "call {round}");
     }
-    assert!(driver.moved.iter().all(|&moved| moved > 1000), "{:?}", driver.moved);
+    assert!(driver.moved.iter().all(|&moved| moved > 900), "{:?}", driver.moved);
     assert_eq!(numbers(), driver.tokens.numbers());
 }
 
@@ -405,7 +406,7 @@ fn a_cache_that_is_dropped_amid_the_moves_gives_each_value_back() {
 #[test]
 fn an_adviser_may_be_used_by_another_thread_and_shows_what_it_wants() {
     let mut adviser = Adviser::open(512).unwrap();
-    assert_eq!(format!("{adviser:?}"), "Adviser { wanted: 204, .. }");
+    assert_eq!(format!("{adviser:?}"), "Adviser { wanted: 51, .. }");
     let adviser = std::thread::spawn(move || {
         // One key of eight, from the first on, and one call or many: it is the same.
         let keys: Vec<_> = passing(20_000, 512, 1).collect();

@@ -12,8 +12,8 @@ use rookdresser::{future, GetError, Setup};
 use std::cell::RefCell;
 use std::future::{poll_fn, Future};
 use std::pin::{pin, Pin};
-use std::sync::{Arc, Barrier};
-use std::task::Poll;
+use std::sync::{Arc, Barrier, Mutex};
+use std::task::{Context, Poll, Wake};
 use tasks::{yields, Gate, Task};
 use whole::{holds_exactly, Down, SETUP};
 
@@ -236,6 +236,48 @@ fn a_thread_s_load_and_a_task_s_that_wait_for_each_other_are_told() {
         });
         // One of both closed the circle, and the other one got its value.
         assert_eq!(*task.unwrap() + *thread.unwrap(), 1);
+        holds_exactly(&cache);
+    });
+}
+
+type TwoGets = Pin<Box<dyn Future<Output = [Got; 2]> + Send>>;
+
+// Polls its task wherever it is woken.
+struct Inline {
+    task: Mutex<Option<TwoGets>>,
+    got: Mutex<Option<[Got; 2]>>,
+}
+
+impl Wake for Inline {
+    fn wake(self: Arc<Self>) {
+        let Some(mut task) = self.task.lock().unwrap().take() else { return };
+        match task.as_mut().poll(&mut Context::from_waker(&self.clone().into())) {
+            Poll::Ready(got) => *self.got.lock().unwrap() = Some(got),
+            Poll::Pending => *self.task.lock().unwrap() = Some(task),
+        }
+    }
+}
+
+#[test]
+fn a_task_that_a_waker_polls_within_a_loader_is_no_part_of_that_load() {
+    within_a_minute(|| {
+        let cache = Cache::open(&SETUP).unwrap();
+        let own = cache.clone();
+        let asks = async move { [own.get_with(&1, async { 0 }).await, own.get_with(&9, async { 0 }).await] };
+        let task = Arc::new(Inline { task: Mutex::new(Some(Box::pin(asks))), got: Mutex::new(None) });
+        let got = cache.blocking().get_with(&9, || {
+            // The task joins this load from another thread. As it ends, the waker polls the task in this one, within the loader of 9.
+            let one = cache.blocking().get_with(&1, || {
+                let first = task.clone();
+                std::thread::spawn(|| first.wake()).join().unwrap();
+                1
+            });
+            assert!(task.got.lock().unwrap().is_none());
+            *one.unwrap() + 8
+        });
+        assert_eq!(got, Ok(Arc::new(9)));
+        assert_eq!(task.got.lock().unwrap().take(), Some([Ok(Arc::new(1)), Ok(Arc::new(9))]));
+        assert_eq!(cache.stats().joins, 2);
         holds_exactly(&cache);
     });
 }

@@ -86,6 +86,23 @@ fn a_key_alone_of_its_hash_is_not_taken_for_another() {
     holds_exactly(&cache);
 }
 
+#[test]
+fn a_look_up_of_another_key_of_the_hash_is_no_use() {
+    ODD.get_or_init(|| Loading::open(&SETUP).unwrap());
+    let cache = Loading::<Odd, u64, Down>::open(&SETUP.after_access(Duration::from_millis(10))).unwrap();
+    cache.put_at(&Odd(1), Arc::new(1), 1, 0).unwrap();
+    for now in 1..10 {
+        assert_eq!(cache.look_at(&Odd(2), now), Ok(None));
+        assert!(cache.get_at(&Odd(3), now, || Err(Down)).is_err());
+    }
+    assert_eq!((cache.stats().hits, cache.look_at(&Odd(1), 10)), (0, Ok(None)));
+    // A use of its own keeps an entry.
+    cache.put_at(&Odd(1), Arc::new(2), 1, 10).unwrap();
+    assert_eq!(cache.look_at(&Odd(1), 19), Ok(Some(Arc::new(2))));
+    assert_eq!((cache.look_at(&Odd(1), 28), cache.look_at(&Odd(1), 38)), (Ok(Some(Arc::new(2))), Ok(None)));
+    holds_exactly(&cache);
+}
+
 // A text that is compared by code of the caller's, which asks the cache.
 #[repr(transparent)]
 struct Asking(str);

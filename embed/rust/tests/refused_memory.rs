@@ -154,7 +154,7 @@ fn a_window_that_is_refused_memory_moves_later_and_no_call_fails() {
         .unwrap()
         .with_reads(Reads::Exact);
     // The cache is full once the window is narrow, and then it begins to get wider.
-    let narrow = until(&cache, popular(100_000, 512, 1), |window| window <= 51);
+    let narrow = until(&cache, popular(100_000, 512, 1), |window| window <= 5);
     let window = until(&cache, passing(100_000, 512, 1), |window| window > narrow + 4);
     let before = REFUSED.get();
     refuse(u64::MAX);
@@ -182,18 +182,18 @@ fn an_adviser_that_is_refused_memory_opens_later() {
                 assert_eq!(*error, OpenError::OutOfMemory);
                 never += 1;
             }
-            // A hundredth, until the adviser has opened; then 40 hundredths, in steps of four.
+            // A hundredth, until the adviser has opened; then 10 hundredths, in steps of four.
             Ok(5) => {
                 let cache = opened.as_ref().unwrap();
                 (0..64).for_each(|key| assert_eq!((cache.look(&key), cache.window()), (Ok(None), 5)));
                 (1..60).for_each(|call| {
-                    assert_eq!((cache.look(&call), cache.window()), (Ok(None), (5 + 4 * call as u32).min(204)))
+                    assert_eq!((cache.look(&call), cache.window()), (Ok(None), (5 + 4 * call as u32).min(51)))
                 });
                 later += 1;
             }
             Ok(window) => {
                 // Nothing was refused.
-                assert_eq!(window, 204);
+                assert_eq!(window, 51);
                 break;
             }
         }
@@ -214,7 +214,7 @@ fn an_adviser_that_is_refused_memory_says_so_and_goes_on() {
     refuse(u64::MAX);
     assert_eq!(adviser.saw(&keys), Err(Fault::OutOfMemory));
     refuse(0);
-    assert_eq!((adviser.wanted(), adviser.saw(&keys), adviser.wanted()), (204, Ok(()), 512));
+    assert_eq!((adviser.wanted(), adviser.saw(&keys), adviser.wanted()), (51, Ok(()), 512));
 }
 
 #[test]

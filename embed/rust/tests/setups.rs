@@ -30,7 +30,7 @@ fn open_and_check_take_the_same_setups_and_name_what_is_out_of_its_range() {
         Setup { window: Some(10), ..SETUP },
         Setup { window: Some(10), adaptive: Some(false), ..SETUP },
         Setup { adaptive: Some(false), ..SETUP },
-        Setup { adaptive: Some(true), ..Setup::of(512) },
+        Setup { adaptive: Some(true), ..Setup::of(64) },
         Setup { flights: 4096, ..SETUP },
         Setup { bound: 1, ..Setup::of(65_536) },
         SETUP.after_write(ms(10)).refresh(ms(9)),

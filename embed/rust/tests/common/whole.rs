@@ -19,7 +19,7 @@ pub fn panics(work: impl FnOnce()) -> bool {
     catch_unwind(AssertUnwindSafe(work)).is_err()
 }
 
-pub fn holds_exactly<K, V, E>(cache: &Loading<K, V, E>) {
+pub fn holds_exactly<K, V, E, S>(cache: &Loading<K, V, E, S>) {
     let n = cache.numbers();
     assert_eq!((cache.kept(), n.flights), ((n.entries as usize, n.entries as usize), 0));
 }
