@@ -2,7 +2,10 @@
 import argparse
 import os
 import pathlib
+import platform
+import re
 import shutil
+import statistics
 import subprocess
 import sys
 
@@ -44,9 +47,29 @@ def arguments(doc, **options):
         reader.add_argument("--" + name, **about)
     given = reader.parse_args(namespace=Given())
     given.unproved = given.unproved or given.smoke
+    print(machine(), flush=True)
     if given.unproved:
         print("built without any proof: nothing of it is proved or checked\n", flush=True)
     return given
+
+
+def machine():
+    """The kernel, the processor, and the versions of what runs or builds the peers."""
+    processor = re.search(r"^model name\s*: (.*)$", pathlib.Path("/proc/cpuinfo").read_text(), re.M)
+    parts = ["%s %s %s" % (platform.system(), platform.release(), platform.machine()), "%d x %s" % (os.cpu_count(), processor.group(1) if processor else "?")]
+    for command, what in (("java -version", r'\S+ version "[^"]*"'), ("go version", r"go\d\S*"), ("rustc --version", r"rustc \S+"), ("python3 --version", r"Python \S+")):
+        if shutil.which(command.split()[0]):
+            done = subprocess.run(command.split(), capture_output=True, text=True)
+            parts += re.findall(what, done.stdout + done.stderr)[:1]
+    return ", ".join(parts)
+
+
+def spread(numbers, form=".1f"):
+    """The median of some numbers, with the quartiles if there are several."""
+    if len(numbers) == 1:
+        return format(numbers[0], form)
+    lower, middle, upper = (format(number, form) for number in statistics.quantiles(numbers, n=4, method="inclusive"))
+    return "%s (%s to %s)" % (middle, lower, upper)
 
 
 def load():
@@ -126,7 +149,7 @@ def build_java(folder, source):
     """The command of a Java class on Caffeine and Guava, or none if they or a JDK aren't there."""
     if not shutil.which("javac") or not all(pathlib.Path(jar).exists() for jar in JARS):
         return None
-    subprocess.run(["javac", "-cp", ":".join(JARS), "-d", folder, source], check=True, capture_output=True)
+    subprocess.run(["javac", "-cp", ":".join(JARS), "-sourcepath", ROOT / "bench", "-d", folder, source], check=True, capture_output=True)
     return ["java", "-cp", ":".join([str(folder), *JARS]), source.stem]
 
 

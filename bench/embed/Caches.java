@@ -4,9 +4,14 @@ import java.nio.ByteBuffer;
 import java.nio.ByteOrder;
 import java.nio.file.Files;
 import java.nio.file.Paths;
+import java.util.Arrays;
 import java.util.concurrent.atomic.LongAdder;
 
-/** Caches CACHE KEYS ROUNDS THREADS: as main.rs, on Caffeine or Guava. The first rounds warm the compiler up and don't count. */
+/**
+ * Caches CACHE KEYS LEAST THREADS WORK: a work of main.rs, on Caffeine or Guava, in LEAST rounds or more behind the first (see Rounds). The
+ * first goes once through the keys, and each other ten times, on the same cache. Each round of a read-through has a cache of its own, and
+ * goes once.
+ */
 class Caches {
     interface Work {
         boolean look(long key);
@@ -18,7 +23,7 @@ class Caches {
         boolean make(Work cache, long key, int place) throws Exception;
     }
 
-    static final int ENTRIES = 4096, HELD = 2048;
+    static final int ENTRIES = 4096, HELD = 2048, PASSES = 10;
 
     static Work caffeine() {
         com.github.benmanes.caffeine.cache.Cache<Long, Long> cache = Caffeine.newBuilder().maximumSize(ENTRIES).build();
@@ -46,7 +51,8 @@ class Caches {
         };
     }
 
-    static double timed(Work cache, long[] keys, int threads, Call call, LongAdder missed) throws Exception {
+    /** The nanoseconds of a call, of all threads together. */
+    static double timed(Work cache, long[] keys, int passes, int threads, Call call, LongAdder missed) throws Exception {
         Thread[] running = new Thread[threads];
         long begun = System.nanoTime();
         for (int t = 0; t < threads; t++) {
@@ -54,8 +60,10 @@ class Caches {
             running[t] = new Thread(() -> {
                 long mine = 0;
                 try {
-                    for (int i = 0; i < keys.length; i++) {
-                        if (!call.make(cache, keys[(from + i) % keys.length], i)) mine++;
+                    for (int pass = 0; pass < passes; pass++) {
+                        for (int i = 0; i < keys.length; i++) {
+                            if (!call.make(cache, keys[(from + i) % keys.length], i)) mine++;
+                        }
                     }
                 } catch (Exception fault) {
                     throw new RuntimeException(fault);
@@ -65,14 +73,21 @@ class Caches {
             running[t].start();
         }
         for (Thread thread : running) thread.join();
-        return (System.nanoTime() - begun) / ((double) keys.length * threads);
+        return (System.nanoTime() - begun) / ((double) passes * keys.length * threads);
+    }
+
+    /** A cache that holds the keys that are to be held. */
+    static Work opened(String name, boolean isHeld) {
+        Work cache = name.equals("caffeine") ? caffeine() : guava();
+        for (long key = 0; isHeld && key < HELD; key++) cache.put(key);
+        return cache;
     }
 
     public static void main(String[] given) throws Exception {
         ByteBuffer bytes = ByteBuffer.wrap(Files.readAllBytes(Paths.get(given[1]))).order(ByteOrder.LITTLE_ENDIAN);
         long[] keys = new long[bytes.remaining() / 8];
         bytes.asLongBuffer().get(keys);
-        int rounds = Integer.parseInt(given[2]), threads = Integer.parseInt(given[3]);
+        int least = Integer.parseInt(given[2]), threads = Integer.parseInt(given[3]);
         String[] names = {"hit", "put", "mixed", "read-through"};
         Call[] calls = {
             (cache, key, i) -> cache.look(key % HELD),
@@ -83,22 +98,16 @@ class Caches {
                 return true;
             },
             (cache, key, i) -> cache.readThrough(key)};
-        for (int w = 0; w < 4; w++) {
-            double least = Double.MAX_VALUE;
-            long missed = 0;
-            for (int round = -10; round < rounds; round++) {
-                Work cache = given[0].equals("caffeine") ? caffeine() : guava();
-                for (long key = 0; w < 3 && key < HELD; key++) cache.put(key);
-                LongAdder told = new LongAdder();
-                double each = timed(cache, keys, threads, calls[w], told);
-                if (w < 3 && told.sum() > 0) throw new AssertionError("all of them are held");
-                if (round >= 0 && each < least) {
-                    least = each;
-                    missed = told.sum();
-                }
-            }
-            System.out.printf("%s %d %.1f %d%n", names[w], threads, least, missed);
-        }
+        int w = Arrays.asList(names).indexOf(given[4]);
+        boolean isHeld = w < 3;
+        Work kept = opened(given[0], isHeld);
+        Rounds.make(least, isCold -> {
+            LongAdder missed = new LongAdder();
+            double each = timed(isHeld ? kept : opened(given[0], false), keys, isHeld && !isCold ? PASSES : 1, threads, calls[w], missed);
+            if (isHeld && missed.sum() > 0) throw new AssertionError("all of them are held");
+            System.out.printf("%s %d %.2f %d%n", names[w], threads, each, missed.sum());
+            return each;
+        });
         System.exit(0);
     }
 }

@@ -1,6 +1,6 @@
 // caches CACHE KEYS ROUNDS THREADS [WORK [ENTRIES]]: hits, puts and read-through of the keys in a file through Go's wrapper or another
-// cache, as calls.c does, or the one of them that is named: a line for each, with the least nanoseconds an operation of some rounds and
-// the misses of the read-through. With one thread they are of processor, the collector's work included; with more they are of time, of
+// cache, as calls.c does, or the one of them that is named: a line for each round, with the nanoseconds an operation and the misses of
+// the read-through. With one thread they are of processor, the collector's work included; with more they are of time, of
 // all threads together. Each thread goes through all keys; in the work `stream`, a read-through too, each takes the next one.
 package main
 
@@ -162,18 +162,15 @@ func main() {
 		if only == "" && work.name == "stream" || only != "" && only != work.name {
 			continue
 		}
-		least := time.Duration(1 << 62)
 		for r := 0; r < rounds; r++ {
 			c := open(os.Args[1])
 			for key := uint64(0); key < held && work.mask < held; key++ {
 				c.put(key)
 			}
 			misses = 0
-			if took := round(work.shared(work.of(c), keys, work.mask, threads), threads); took < least {
-				least = took
-			}
+			took := round(work.shared(work.of(c), keys, work.mask, threads), threads)
 			c.close()
+			fmt.Printf("%s %d %.2f %d\n", work.name, threads, float64(took)/float64(len(keys)), misses)
 		}
-		fmt.Printf("%s %d %.1f %d\n", work.name, threads, float64(least)/float64(len(keys)), misses)
 	}
 }

@@ -1,5 +1,5 @@
-/* calls FORM KEYS ROUNDS THREADS [WORK]: hits, puts and read-through of the keys in a file, by threads on one cache: a line for each,
- * with the least nanoseconds an operation of some rounds and the misses. FORM is `alone`, rd_look and the others on one thread; `mutex`,
+/* calls FORM KEYS ROUNDS THREADS [WORK]: hits, puts and read-through of the keys in a file, by threads on one cache: a line for each
+ * round, with the nanoseconds an operation and the misses. FORM is `alone`, rd_look and the others on one thread; `mutex`,
  * the same in a pthread mutex; `shared`, rd_shared_look and the others, each thread with a caller of its own; or `loading`, rd_loading_look,
  * rd_loading_put and rd_loading_get. */
 #include "rookdresser_loading.h"
@@ -168,18 +168,13 @@ int main(int argc, char **argv) {
     if (!threads || threads > MOST || (form == ALONE && threads > 1)) return 2;
     for (work = HIT; work <= READ_THROUGH; work++) {
         if (argc > 5 && strcmp(argv[5], works[work])) continue;
-        double least = 1e30;
-        uint64_t misses = 0;
         for (int round = 0; round < rounds; round++) {
             double each = one_round();
-            if (each < least) {
-                least = each;
-                misses = 0;
-                for (size_t t = 0; t < threads; t++) misses += missed[t];
-            }
+            uint64_t misses = 0;
+            for (size_t t = 0; t < threads; t++) misses += missed[t];
+            wants(work == READ_THROUGH || !misses);
+            printf("%s %zu %.2f %llu\n", works[work], threads, each, (unsigned long long)misses);
         }
-        wants(work == READ_THROUGH || !misses);
-        printf("%s %zu %.1f %llu\n", works[work], threads, least, (unsigned long long)misses);
     }
     return 0;
 }

@@ -1,5 +1,5 @@
 //! main CACHE KEYS ROUNDS THREADS [WORK]: hits, puts and read-through of the keys in a file, or the one of them that is named: a line
-//! for each, with the least nanoseconds an operation of some rounds, all threads together, and the misses of the read-through. Each
+//! for each round, with the nanoseconds an operation, all threads together, and the misses of the read-through. Each
 //! thread goes through all keys; in the work `stream`, a read-through too, each takes the next one. The work `get` is a read-through of
 //! keys that are held.
 use rookdresser::{future, Cache, Found, Loading, Reads, Setup, Token, Tokens};
@@ -325,17 +325,15 @@ fn main() {
     ];
     let is_asked = |name| given.get(5).map_or(!["stream", "get"].contains(&name), |only| only == name);
     for (name, work) in works.into_iter().filter(|work| is_asked(work.0)) {
-        let mut least = (f64::MAX, 0);
         for _ in 0..rounds {
             let cache = made(&given[1]);
             let is_held = ["hit", "get", "put", "mixed"].contains(&name);
             if is_held {
                 (0..HELD).for_each(|key| cache.put(key, 0));
             }
-            let told = timed(&*cache, &keys, threads, name == "stream", work);
-            assert!(!is_held || told.1 == 0, "all of them are held");
-            least = if told.0 < least.0 { told } else { least };
+            let (each, missed) = timed(&*cache, &keys, threads, name == "stream", work);
+            assert!(!is_held || missed == 0, "all of them are held");
+            println!("{name} {threads} {each:.2} {missed}");
         }
-        println!("{name} {threads} {:.1} {}", least.0, least.1);
     }
 }

@@ -6,9 +6,9 @@ import java.util.concurrent.atomic.AtomicLong;
 import java.util.concurrent.atomic.LongAdder;
 
 /**
- * Through caffeine|guava skewed|held|puts-N THREADS CALLS MULTIPLICATIONS: what the harness does, on Caffeine or Guava. Rounds
- * on other caches come first and warm the compiler up. Prints the nanoseconds, how many loads began, the sum of all values, and the
- * nanoseconds of processor, of the last round alone.
+ * Through caffeine|guava skewed|held|puts-N THREADS CALLS MULTIPLICATIONS LEAST: what the harness does, on Caffeine or Guava, again and
+ * again on one cache, in LEAST rounds or more behind the first (see Rounds); each goes on in the threads' streams. Prints a line for each
+ * round: its nanoseconds, how many loads began, the sum of all values, and the nanoseconds of processor.
  */
 class Through {
     interface Cache {
@@ -17,7 +17,7 @@ class Through {
         void put(long key, long value);
     }
 
-    static final int ENTRIES = 4096, WARM_ROUNDS = 10, WARM_CALLS = 100_000, WARM_MULTIPLICATIONS = 625;
+    static final int ENTRIES = 4096;
 
     /** The stream of a thread: splitmix64. */
     static final class Keys {
@@ -70,11 +70,11 @@ class Through {
     }
 
     /** All threads' gets: the sum of the values. Each call of a number is a put, if the number isn't 0. */
-    static long gets(Cache cache, boolean held, int every, int multiplications, int threads, int calls) throws Exception {
+    static long gets(Cache cache, Keys[] streams, boolean held, int every, int multiplications, int calls) throws Exception {
         AtomicLong sum = new AtomicLong();
-        Thread[] running = new Thread[threads];
-        for (int t = 0; t < threads; t++) {
-            Keys keys = new Keys(t);
+        Thread[] running = new Thread[streams.length];
+        for (int t = 0; t < streams.length; t++) {
+            Keys keys = streams[t];
             running[t] = new Thread(() -> {
                 long values = 0;
                 try {
@@ -98,17 +98,19 @@ class Through {
         boolean held = !given[1].equals("skewed");
         int every = given[1].startsWith("puts-") ? Integer.parseInt(given[1].substring("puts-".length())) : 0;
         int threads = Integer.parseInt(given[2]), calls = Integer.parseInt(given[3]), multiplications = Integer.parseInt(given[4]);
-        for (int round = 0; round < WARM_ROUNDS; round++) {
-            gets(made(given[0], WARM_MULTIPLICATIONS, new LongAdder()), held, every, WARM_MULTIPLICATIONS, threads, WARM_CALLS / threads);
-        }
         OperatingSystemMXBean system = (OperatingSystemMXBean) ManagementFactory.getOperatingSystemMXBean();
         LongAdder loads = new LongAdder();
         Cache cache = made(given[0], multiplications, loads);
-        long processor = system.getProcessCpuTime(), begun = System.nanoTime();
-        long values = gets(cache, held, every, multiplications, threads, calls);
-        long nanos = System.nanoTime() - begun;
-        processor = system.getProcessCpuTime() - processor;
-        System.out.printf("%d %d %s %d%n", nanos, loads.sum(), Long.toUnsignedString(values), processor);
+        Keys[] streams = new Keys[threads];
+        for (int t = 0; t < threads; t++) streams[t] = new Keys(t);
+        Rounds.make(Integer.parseInt(given[5]), isCold -> {
+            long processor = system.getProcessCpuTime(), begun = System.nanoTime();
+            long values = gets(cache, streams, held, every, multiplications, calls);
+            long nanos = System.nanoTime() - begun;
+            processor = system.getProcessCpuTime() - processor;
+            System.out.printf("%d %d %s %d%n", nanos, loads.sumThenReset(), Long.toUnsignedString(values), processor);
+            return nanos;
+        });
         System.exit(0);
     }
 }
