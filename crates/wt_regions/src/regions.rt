@@ -87,6 +87,7 @@ impl<K: CacheKey, V: Share + Weighs> Regions<K, V> {
     /// place for each. So a hit takes none if a share is a copy and the entry isn't in probation.
     /// Expected O(1), unless an attacker chooses the keys (see `Seeded`): the key is looked up in
     /// each region at most twice. The rule of the move is segmented LRU's.
+    #[inline(always)]
     pub fn get(&mut self, key: K, now: u64) -> Result<Found<V>, NoMemory>
         ensures found { IfOk result (λ found. found ≡ found_at K.eq key now self.old) }
         ensures state { OnOk result (self.new ≡ looked_at K.eq key now self.old) }

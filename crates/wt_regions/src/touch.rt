@@ -72,6 +72,8 @@ impl<K: CacheKey, V: Share + Weighs> Caches<K, V> {
     }
 
     // Looks the key up, and a hit is used. `lives` is whether an entry may have a life of its own.
+    // Inlined, so that a hit in protected, which is the most frequent one, is one search and no more.
+    #[inline(always)]
     pub(crate) fn get(&mut self, key: K, now: u64, lives: bool) -> Result<Found<V>, NoMemory>
         requires placed { IsPlaced K.eq V.measure self.old }
         requires lives { lives ≡ false → HasNoLives self.old }
@@ -85,6 +87,19 @@ impl<K: CacheKey, V: Share + Weighs> Caches<K, V> {
         if V::is_copied() && !lives && self.caps.never_expires() {
             return self.get_copied(key, now);
         }
+        self.get_shared(key, now)
+    }
+
+    // The same for shares of any kind, and entries that may expire.
+    fn get_shared(&mut self, key: K, now: u64) -> Result<Found<V>, NoMemory>
+        requires placed { IsPlaced K.eq V.measure self.old }
+        ensures found { IfOk result (λ found. found ≡ found_at K.eq key now self.old) }
+        ensures state { OnOk result (self.new ≡ looked_at K.eq key now self.old) }
+        ensures miss_succeeds { has_at K.eq key now self.old ≡ false → IsOk result }
+        ensures hit_succeeds { IsTrue V.Share.is_copied
+            → lookup (K.eq key) self.old.probation ≡ None → IsOk result }
+        ensures err { OnErr result (self.new ≡ self.old) }
+    {
         match self.look(key, now)? {
             Seen::InWindow(value) => {
                 freshen(&mut self.window, key, now);
@@ -105,6 +120,7 @@ impl<K: CacheKey, V: Share + Weighs> Caches<K, V> {
 
     // The same if a share is a copy and no entry expires: the look itself brings an entry of
     // protected to the front.
+    #[inline(always)]
     fn get_copied(&mut self, key: K, now: u64) -> Result<Found<V>, NoMemory>
         requires placed { IsPlaced K.eq V.measure self.old }
         requires copied { IsTrue V.Share.is_copied }
@@ -120,6 +136,23 @@ impl<K: CacheKey, V: Share + Weighs> Caches<K, V> {
         if let Some(value) = use_in(&mut self.protected, key, now) {
             return Ok(Found::Hit(value));
         }
+        self.get_unprotected(key, now)
+    }
+
+    // The same of a key that isn't in protected.
+    fn get_unprotected(&mut self, key: K, now: u64) -> Result<Found<V>, NoMemory>
+        requires placed { IsPlaced K.eq V.measure self.old }
+        requires copied { IsTrue V.Share.is_copied }
+        requires lasting { HasNoLives self.old }
+        requires unaging { is_some self.old.caps.after_write || is_some self.old.caps.after_access
+            ≡ false }
+        requires unprotected { lookup (K.eq key) self.old.protected ≡ None }
+        ensures found { IfOk result (λ found. found ≡ found_at K.eq key now self.old) }
+        ensures state { OnOk result (self.new ≡ looked_at K.eq key now self.old) }
+        ensures miss_succeeds { has_at K.eq key now self.old ≡ false → IsOk result }
+        ensures hit_succeeds { lookup (K.eq key) self.old.probation ≡ None → IsOk result }
+        ensures err { OnErr result (self.new ≡ self.old) }
+    {
         if let Some(held) = held_in(&self.probation, key) {
             let value = held.value.share()?;
             let moved = held.share_used(now)?;

@@ -141,7 +141,10 @@ impl<K: CacheKey, V: Share + Weighs + Answers<K>, S: ShardLedger, H: Ledger> Sha
         // For the prover: shows what holds of the cache at all times.
         let _stats = self.core.stats();
         change(&mut self.landings, &noted, opened);
-        let _dropped = self.ring.push_back(noted);
+        // `make_room` has left a place for it.
+        let Ok(()) = self.ring.try_push_back(noted) else {
+            unreachable!()
+        };
         let ledgers = &mut self.ledgers;
         shares.count(
             &mut ledgers.value.steps,

@@ -1,7 +1,7 @@
 use Rattle.std.proofs.Common.{arith, ◌≡◌, ◌+◌, ◌≤◌, ◌++◌, ◌∷◌, [], map, length, None, refl, sym, ap, ◌∙◌, subst}
 use Rattle.std.specs.Prelude.{if◌then◌else◌, is_ok}
 use Rattle.std.specs.Option.{option_to_list}
-use Rattle.circular_buffer.specs.Buffer.{Buffer, keep_last}
+use Rattle.circular_buffer.specs.Buffer.{Buffer}
 use Rattle.wt_core.specs.declared.calls.Call.{Call}
 use Rattle.wt_core.specs.State.{State, Made}
 use Rattle.wt_core.specs.Lawful.{IsLawful}
@@ -133,9 +133,8 @@ invariant_of-self-2 g c =
       ap (λ (x : Audited K V). length x.records) c.self.view_is,
       ap (λ (x : Audited K V). places x) c.self.view_is,
     ) in
-    let some : length s2.records + 1 ≤ places s2 = omega (arith, room) in
-    let records = ap (λ (x : Buffer (Call K Shade)). x.items) c.push_back-dropped.ensures.items
-    ∙ (λ i. keep_last (inv.1 i) (b.ring.items ++ c.shaded-noted.ensures i ∷ [])) in
+    let records = ap (λ (x : Buffer (Call K Shade)). x.items) c.in-Ok-try_push_back.ensures.ok
+    ∙ (λ i. b.ring.items ++ c.shaded-noted.ensures i ∷ []) in
     let landings = c.change.ensures.items
     ∙ (λ i. still_open eq (c.shaded-noted.ensures i) b.landings.items ++ opened)
     ∙ (λ i. outline-still_open eq measure call b.landings.items i ++ opened) in
@@ -145,11 +144,11 @@ invariant_of-self-2 g c =
       core = c.take_met.new.self;
       lagging = b.lagging;
       records =
-          c.push_back-dropped.new.self.items;
+          c.try_push_back.new.self.items;
       landings = c.change.new.landings.items;
       given = b.given;
     }) call
-    opened some refl made refl records landings refl in
+    opened refl made refl records landings refl in
     let same = (g.met.K.CacheKey g.world.𝓛 g.world.𝓜 g.world.𝓡 ((λ s x. x), (λ x. x), (λ x. x), λ x. x)).same in
     let law = subst (λ (x : State K V). IsLawful eq measure x) made c.stats-stats.ensures.lawful in
     let state = shard_state-step eq same word measure answers shards index s2.core call inv.0.state c.requires.asked.0 law in
@@ -158,7 +157,7 @@ invariant_of-self-2 g c =
       subst (IsAudited (members_by eq word measure answers) shards index) (sym whole)
           (audited-recorded eq word measure answers shards index s2 call opened inv.0 allowed2 room state limit
           caps landed),
-      ap (λ (x : Buffer (Call K Shade)). x.capacity) c.push_back-dropped.ensures.items ∙ inv.1,
+      ap (λ (x : Buffer (Call K Shade)). x.capacity) c.in-Ok-try_push_back.ensures.ok ∙ inv.1,
       omega (arith, c.change.ensures.capacity, inv.2),
       inv.3,
       omega (arith, c.count.ensures.steps, ap (λ (x : State K V). x.step) made, to.number, (λ i. (c.ledgers.view_is i).steps.total) ∙ inv.4),
@@ -210,9 +209,8 @@ returns-clause-state g c =
       ap (λ (x : Audited K V). length x.records) c.self.view_is,
       ap (λ (x : Audited K V). places x) c.self.view_is,
     ) in
-    let some : length s2.records + 1 ≤ places s2 = omega (arith, room) in
-    let records = ap (λ (x : Buffer (Call K Shade)). x.items) c.push_back-dropped.ensures.items
-    ∙ (λ i. keep_last (inv.1 i) (b.ring.items ++ c.shaded-noted.ensures i ∷ [])) in
+    let records = ap (λ (x : Buffer (Call K Shade)). x.items) c.in-Ok-try_push_back.ensures.ok
+    ∙ (λ i. b.ring.items ++ c.shaded-noted.ensures i ∷ []) in
     let landings = c.change.ensures.items
     ∙ (λ i. still_open eq (c.shaded-noted.ensures i) b.landings.items ++ opened)
     ∙ (λ i. outline-still_open eq measure call b.landings.items i ++ opened) in
@@ -222,11 +220,11 @@ returns-clause-state g c =
       core = c.take_met.new.self;
       lagging = b.lagging;
       records =
-          c.push_back-dropped.new.self.items;
+          c.try_push_back.new.self.items;
       landings = c.change.new.landings.items;
       given = b.given;
     }) call
-    opened some refl made refl records landings refl in
+    opened refl made refl records landings refl in
     whole ∙ ap (recorded eq word measure call opened) (e2 ∙ ap (λ k. moved eq word measure (need k now) now) c.requires.rows)
 
 pub returns-clause-answers : goal.returns-clause-answers

@@ -1,6 +1,6 @@
 use Rattle.std.proofs.Common.{refl, sym, ◌∙◌, subst}
 use Rattle.wt_regions.proofs.Looks.{IsLook, look-is}
-use Rattle.wt_regions.proofs.caches.Caches.get.Goals as goal
+use Rattle.wt_regions.proofs.caches.Caches.get_shared.Goals as goal
 
 pub returns-in_err-promote-in-InProbation-clause-miss_succeeds : goal.returns-in_err-promote-in-InProbation-clause-miss_succeeds
 returns-in_err-promote-in-InProbation-clause-miss_succeeds g c =
@@ -47,9 +47,9 @@ returns-in-InWindow-clause-found g c =
 
 pub returns-in-InWindow-clause-state : goal.returns-in-InWindow-clause-state
 returns-in-InWindow-clause-state g c =
-    let i = c.self-2.inside in
-    let once = (rw (← c.self-2.view_is) at c.requires.placed).distinct in
-    let is = rw (← c.self-2.view_is) at (sym c.in_ok-value.ensures.found ∙ c.in-InWindow.is) in
+    let i = c.self.inside in
+    let once = (rw (← c.self.view_is) at c.requires.placed).distinct in
+    let is = rw (← c.self.view_is) at (sym c.in_ok-value.ensures.found ∙ c.in-InWindow.is) in
     let look = subst (IsLook g.K.PartialEq.eq
     (g.met.K.Eq g.world.𝓛 g.world.𝓜 g.world.𝓡 ((λ s x. x), (λ x. x), (λ x. x), λ x. x)).laws
     (g.met.K.CacheKey g.world.𝓛 g.world.𝓜 g.world.𝓡 ((λ s x. x), (λ x. x), (λ x. x), λ x. x)).same c.args.key
@@ -58,7 +58,7 @@ returns-in-InWindow-clause-state g c =
     ((λ s x. x), (λ x. x), (λ x. x), λ x. x)).laws
     (g.met.K.CacheKey g.world.𝓛 g.world.𝓜 g.world.𝓡 ((λ s x. x), (λ x. x), (λ x. x), λ x. x)).same c.args.key
     c.args.now i.caps i.window.entries i.probation.entries i.protected.entries once) in
-    rw (c.freshen.ensures.state, ← c.self-2.view_is) (sym look.1)
+    rw (c.freshen.ensures.state, ← c.self.view_is) (sym look.1)
 
 pub returns-in-InProtected-clause-found : goal.returns-in-InProtected-clause-found
 returns-in-InProtected-clause-found g c =
@@ -76,9 +76,9 @@ returns-in-InProtected-clause-found g c =
 
 pub returns-in-InProtected-clause-state : goal.returns-in-InProtected-clause-state
 returns-in-InProtected-clause-state g c =
-    let i = c.self-2.inside in
-    let once = (rw (← c.self-2.view_is) at c.requires.placed).distinct in
-    let is = rw (← c.self-2.view_is) at (sym c.in_ok-value.ensures.found ∙ c.in-InProtected.is) in
+    let i = c.self.inside in
+    let once = (rw (← c.self.view_is) at c.requires.placed).distinct in
+    let is = rw (← c.self.view_is) at (sym c.in_ok-value.ensures.found ∙ c.in-InProtected.is) in
     let look = subst (IsLook g.K.PartialEq.eq
     (g.met.K.Eq g.world.𝓛 g.world.𝓜 g.world.𝓡 ((λ s x. x), (λ x. x), (λ x. x), λ x. x)).laws
     (g.met.K.CacheKey g.world.𝓛 g.world.𝓜 g.world.𝓡 ((λ s x. x), (λ x. x), (λ x. x), λ x. x)).same c.args.key
@@ -87,7 +87,7 @@ returns-in-InProtected-clause-state g c =
     ((λ s x. x), (λ x. x), (λ x. x), λ x. x)).laws
     (g.met.K.CacheKey g.world.𝓛 g.world.𝓜 g.world.𝓡 ((λ s x. x), (λ x. x), (λ x. x), λ x. x)).same c.args.key
     c.args.now i.caps i.window.entries i.probation.entries i.protected.entries once) in
-    rw (c.freshen-in-InProtected.ensures.state, ← c.self-2.view_is) (sym look.1)
+    rw (c.freshen-in-InProtected.ensures.state, ← c.self.view_is) (sym look.1)
 
 pub returns-in_ok-promote-in-InProbation-clause-found : goal.returns-in_ok-promote-in-InProbation-clause-found
 returns-in_ok-promote-in-InProbation-clause-found g c =
