@@ -231,9 +231,8 @@ impl<K: CacheKey, V: Share + Weighs> Core<K, V> {
         self.flights.row(id)
     }
 
-    /// Returns the open load with an id, if there is one and it is the key's. Takes no memory.
-    /// Expected O(1): the cache itself picks the ids.
-    pub fn row_of(&self, id: u64, key: K) -> Option<Row<K>>
+    // Returns the open load with an id, if there is one and it is the key's.
+    pub(crate) fn row_of(&self, id: u64, key: K) -> Option<Row<K>>
         ensures { result ≡ row_of K.eq key id self.now.flights }
     {
         row_of(&self.flights, id, key)

@@ -13,6 +13,6 @@ pub use fault::{Fault, Field, NoMemory};
 pub use key::CacheKey;
 pub use name::Name;
 pub use rows::{bits_for, places, shard_of};
-pub use seeded::{FixedBytes, Seed, Seeded, seeds_tell_keys_apart};
+pub use seeded::{Seed, Seeded, seeds_tell_keys_apart};
 pub use shared::Shared;
 pub use value::{Answers, Share};

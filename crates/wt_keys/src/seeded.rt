@@ -22,8 +22,7 @@ pub struct Seed {
 impl Seed {
     /// Makes a seed of 16 bytes of `source`: the runtime's are those of the operating system.
     ///
-    /// The error is the source's. Takes no memory. Not promised: that the bytes are secret. Those
-    /// of `FixedBytes`, for tests, are known to everybody.
+    /// The error is the source's. Takes no memory. Not promised: that the bytes are secret.
     pub fn new(source: &impl RandomSource) -> io::Result<Seed> {
         Ok(Seed {
             state: RandomState::new(source)?,
@@ -119,21 +118,5 @@ impl<K: fmt::Display> fmt::Display for Seeded<K> {
 impl<K: fmt::Debug> fmt::Debug for Seeded<K> {
     fn fmt<W: fmt::Write>(&self, f: &mut fmt::Formatter<W>) -> fmt::Result {
         self.key.fmt(f)
-    }
-}
-
-/// Sixteen bytes in place of random ones, for tests that need the same words in each run.
-///
-/// A seed of them is no secret, since they stand in the program.
-#[derive(Clone, Copy)]
-pub struct FixedBytes(pub [u8; 16]);
-
-/// Fills the buffer from the first byte on, and leaves the bytes behind the sixteenth as they are.
-impl RandomSource for FixedBytes {
-    fn fill_bytes(&self, buf: &mut [u8]) -> io::Result<()> {
-        for (place, byte) in buf.iter_mut().zip(self.0) {
-            *place = byte;
-        }
-        Ok(())
     }
 }

@@ -8,9 +8,23 @@ use std::random::RandomSource;
 use std::sync::atomic::{AtomicU64, Ordering};
 use std::test::Fail;
 use std::{fmt, io};
-use wt_keys::{CacheKey, FixedBytes, Name, Seed, places, shard_of};
+use wt_keys::{CacheKey, Name, Seed, places, shard_of};
 
 const AIMED: usize = 1000;
+
+// Sixteen bytes in place of random ones, so that each run has the same words.
+#[derive(Clone, Copy)]
+struct FixedBytes([u8; 16]);
+
+// Fills the buffer from the first byte on, and leaves the bytes behind the sixteenth as they are.
+impl RandomSource for FixedBytes {
+    fn fill_bytes(&self, buf: &mut [u8]) -> io::Result<()> {
+        for (place, byte) in buf.iter_mut().zip(self.0) {
+            *place = byte;
+        }
+        Ok(())
+    }
+}
 
 // A source that has no bytes to give.
 struct Broken;
