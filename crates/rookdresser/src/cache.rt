@@ -19,7 +19,7 @@ mod now;
 use crate::clock::Clock;
 use crate::world::World;
 use std::alloc::Global;
-use wt_cache::{Caller, Countable, Followers, Tally};
+use wt_cache::{Caller, Countable, Followers, Tally, Unseen};
 use wt_core::{Notice, Reply, Stats};
 use wt_keys::{CacheKey, Fault};
 use wt_shards::Value;
@@ -33,6 +33,8 @@ pub struct Cache<'d, 'c, 'f, K: CacheKey, V: Value<K>, W: World<K, V>> {
     pub(crate) caller: &'d mut Caller<'c, K, V, W::Loader, W::Books, W::Waiting>,
     // There if the windows follow the stream.
     pub(crate) followers: Option<&'f Followers<K>>,
+    // The keys that this thread keeps for the followers, if there was memory for them.
+    pub(crate) unseen: Option<Unseen<K>>,
     // Whether a get reads first.
     pub(crate) reads: bool,
     pub(crate) clock: W::Clock,
@@ -50,7 +52,10 @@ impl<'d, 'c, 'f, K: CacheKey, V: Value<K>, W: World<K, V>> Cache<'d, 'c, 'f, K, 
     {
         if let Some(followers) = self.followers {
             // A fault is one of a slide or of memory, and the look-up stands without it.
-            let _ = self.caller.follow(followers, key, now);
+            let _ = match &mut self.unseen {
+                Some(unseen) => self.caller.follow_by(followers, unseen, key, now),
+                None => self.caller.follow(followers, key, now),
+            };
         }
     }
 

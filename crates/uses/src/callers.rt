@@ -3,7 +3,7 @@ ghost use Rattle.std.specs.Prelude.{◌≡◌, ◌*◌, ◌≤◌};
 
 use crate::source::{Page, Source};
 use std::sync::Wait;
-use wt_cache::{Caller, Callers, Followers, How, Tally};
+use wt_cache::{Caller, Callers, Followers, How, Tally, Unseen};
 use wt_core::{Notices, Reply};
 use wt_keys::Fault;
 use wt_shards::Books;
@@ -129,6 +129,20 @@ pub fn follow<B: Books, R: Wait>(
     let got = caller.get(number, now)?;
     // A window that stays for once is no reason to refuse the page.
     let _slides = caller.follow(followers, number, now);
+    Ok(got.value.value)
+}
+
+/// Returns the words of a page, and lets the window of its shard follow this look-up. The advisers see
+/// the keys later, sixteen at a time.
+pub fn follow_by<B: Books, R: Wait>(
+    caller: &mut Caller<u64, Page, &Source, B, R>,
+    followers: &Followers<u64>,
+    unseen: &mut Unseen<u64>,
+    number: u64,
+    now: u64,
+) -> Result<u64, Fault> {
+    let got = caller.get(number, now)?;
+    let _slides = caller.follow_by(followers, unseen, number, now);
     Ok(got.value.value)
 }
 

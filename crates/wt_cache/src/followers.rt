@@ -1,6 +1,7 @@
 // Windows that follow the look-ups of a cache:
 //
 //   a look-up ──► its shard's adviser sees the key ──► up to four slides of the shard
+//                 (`follow` shows it at once, `follow_by` sixteen at a time)
 //
 // Each slide is a call of its own at the shard, under the shard's lock, and stands in its history. At
 // most four follow a look-up, so that its cost stays bounded. A caller claims its slides under the
@@ -15,7 +16,9 @@ ghost use Rattle.wt_cache.specs.Follows.{IsFollowed};
 
 use crate::cache::LoadingCache;
 use crate::loader::Loader;
+use crate::unseen::Unseen;
 use std::alloc::Global;
+use std::sync::atomic::{AtomicBool, Ordering};
 use std::sync::{Mutex, Wait};
 use wt_adviser::Adviser;
 use wt_core::{Config, Notices};
@@ -28,11 +31,14 @@ const SLIDES: u32 = 4;
 /// Lets the window of each shard of a cache follow the look-ups, by an adviser for each shard, which
 /// has a lock of its own.
 ///
-/// Any number of threads call `follow`. Make one `Followers` for a cache. If a program makes slides of
-/// its own beside them, the windows reach the wanted size later, and no call fails.
+/// Any number of threads call `follow` and `follow_by`. Make one `Followers` for a cache. If a program
+/// makes slides of its own beside them, the windows reach the wanted size later, and no call fails.
 #[derive(Drop)]
 pub struct Followers<K: CacheKey> {
     shards: Vec<Mutex<Follower<K>>>,
+    // Whether slides of a shard are left to claim. Threads read this without the adviser's lock, so it
+    // may be out of date; it decides only how soon they claim the next ones.
+    moving: Vec<AtomicBool>,
 }
 
 // The adviser of a shard, and how many entries the shard's window holds once all claimed slides are
@@ -64,13 +70,18 @@ impl<K: CacheKey> Followers<K> {
             then fault.NoMemory else fault.BadConfig Entries)) }
     {
         let mut followers = Vec::new(alloc);
+        let mut moving = Vec::new(alloc);
         for _ in 0..shards {
             followers.push(Mutex::new(Follower {
                 adviser: Adviser::new(alloc, config.entries)?,
                 window: config.window,
             }))?;
+            moving.push(AtomicBool::new(true))?;
         }
-        Ok(Followers { shards: followers })
+        Ok(Followers {
+            shards: followers,
+            moving,
+        })
     }
 
     /// Lets the window of the key's shard follow a look-up of the key: call it behind each `get` and
@@ -96,10 +107,71 @@ impl<K: CacheKey> Followers<K> {
             (home_at K.word key cache.now.layout) now pass.old pass.new notices.old notices.new
             result }
     {
-        let Some(follower) = self.shards.get(shard_of(key.word(), cache.shards())) else {
+        self.show(rt, cache, pass, key, &[key], now, notices)
+    }
+
+    /// Lets the window of the key's shard follow a look-up of the key, as `follow` does, but keeps the
+    /// key among the `unseen` ones of this caller until there are sixteen of its shard. Then the adviser
+    /// sees them all. So threads seldom meet at the adviser's lock.
+    ///
+    /// While the window is on its way to the wanted size, each look-up shows its keys and claims up to
+    /// four slides at once. What is left unseen when the caller ends is never shown. `now`, the result
+    /// and the faults are those of `follow`. Takes no lock but as `follow` does. Amortised O(1). Not
+    /// promised: that it returns.
+    pub fn follow_by<V: Value<K>, L: Loader<K, V> + Drop, B: Books, R: Wait>(
+        &self,
+        rt: &R,
+        cache: &LoadingCache<K, V, L, B>,
+        pass: &mut Pass<K, V, B>,
+        unseen: &mut Unseen<K>,
+        key: K,
+        now: u64,
+        notices: &mut Notices<K, V>,
+    ) -> Result<u32, Fault>
+        requires room { cache.now.layout.config.entries ≤ notices.old.room }
+        ensures made { IsFollowed (members_of K.CacheKey V.Value)
+            (home_at K.word key cache.now.layout) now pass.old pass.new notices.old notices.new
+            result }
+    {
+        let home = shard_of(key.word(), cache.shards());
+        let is_full = unseen.keep(home, key);
+        if !is_full && !self.is_moving(home) {
+            return Ok(0);
+        }
+        let done = self.show(rt, cache, pass, key, unseen.of(home), now, notices);
+        unseen.empty(home);
+        done
+    }
+
+    // Whether slides of the shard were left to claim.
+    fn is_moving(&self, home: usize) -> bool {
+        match self.moving.get(home) {
+            Some(moving) => moving.load(Ordering::SeqCst),
+            None => false,
+        }
+    }
+
+    // Shows the adviser of the key's shard these keys of the shard, and makes up to four slides.
+    fn show<V: Value<K>, L: Loader<K, V> + Drop, B: Books, R: Wait>(
+        &self,
+        rt: &R,
+        cache: &LoadingCache<K, V, L, B>,
+        pass: &mut Pass<K, V, B>,
+        key: K,
+        keys: &[K],
+        now: u64,
+        notices: &mut Notices<K, V>,
+    ) -> Result<u32, Fault>
+        requires room { cache.now.layout.config.entries ≤ notices.old.room }
+        ensures made { IsFollowed (members_of K.CacheKey V.Value)
+            (home_at K.word key cache.now.layout) now pass.old pass.new notices.old notices.new
+            result }
+    {
+        let home = shard_of(key.word(), cache.shards());
+        let (Some(follower), Some(moving)) = (self.shards.get(home), self.moving.get(home)) else {
             return Ok(0);
         };
-        let (seen, mut claim) = Follower::see(rt, follower, key);
+        let (seen, mut claim) = Follower::see(rt, follower, moving, keys);
         let slides = slide(rt, cache, pass, key, &mut claim, now, notices);
         if claim.left > 0 || claim.is_at_end {
             follower.lock(rt).take_back(claim, cache.entries());
@@ -112,14 +184,15 @@ impl<K: CacheKey> Followers<K> {
 }
 
 impl<K: CacheKey> Follower<K> {
-    // Shows the adviser a key, and claims up to four slides towards the window that it then wants.
+    // Shows the adviser these keys, and claims up to four slides towards the window that it then wants.
     fn see<R: Wait>(
         rt: &R,
         follower: &Mutex<Follower<K>>,
-        key: K,
+        moving: &AtomicBool,
+        keys: &[K],
     ) -> (Result<(), NoMemory>, Claim) {
         let mut held = follower.lock(rt);
-        let seen = held.adviser.saw(key);
+        let seen = held.adviser.saw_all(keys);
         let wanted = held.adviser.wanted();
         let wider = held.window < wanted;
         let left = held.window.abs_diff(wanted).min(SLIDES);
@@ -128,6 +201,11 @@ impl<K: CacheKey> Follower<K> {
         } else {
             held.window - left
         };
+        let is_moving = held.window != wanted;
+        // A write takes the line from all threads that read it, so there is one only for a change.
+        if moving.load(Ordering::SeqCst) != is_moving {
+            moving.store(is_moving, Ordering::SeqCst);
+        }
         let is_at_end = false;
         (
             seen,

@@ -16,6 +16,7 @@ mod loads;
 mod service;
 mod shared_got;
 mod tally;
+mod unseen;
 mod workers;
 
 pub use cache::LoadingCache;
@@ -32,3 +33,4 @@ pub use loader::Loader;
 pub use service::{Service, serve};
 pub use shared_got::SharedGot;
 pub use tally::{Countable, Tally};
+pub use unseen::Unseen;

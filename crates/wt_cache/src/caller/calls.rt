@@ -20,6 +20,7 @@ use crate::followers::Followers;
 use crate::got::Got;
 use crate::loader::Loader;
 use crate::shared_got::SharedGot;
+use crate::unseen::Unseen;
 use std::sync::Wait;
 use wt_core::{Notices, Reply, Stats};
 use wt_keys::{CacheKey, Fault};
@@ -238,5 +239,30 @@ impl<'c, K: CacheKey, V: Value<K>, L: Loader<K, V> + Drop, B: Books, R: Wait> Ca
         self.left.empty();
         let cache = self.callers.cache();
         followers.follow(self.rt, cache, &mut self.pass, key, now, &mut self.left)
+    }
+
+    /// Lets the window of the key's shard follow a look-up of the key, and shows the keys to the shard's
+    /// adviser sixteen at a time: `Followers::follow_by` has the rest.
+    ///
+    /// `now` is in milliseconds. First the list of entries that left is emptied. `unseen` is this
+    /// caller's alone, and made for as many shards as the cache has.
+    ///
+    /// In use: `uses::callers::follow_by`.
+    pub fn follow_by(
+        &mut self,
+        followers: &Followers<K>,
+        unseen: &mut Unseen<K>,
+        key: K,
+        now: u64,
+    ) -> Result<u32, Fault>
+        ensures made { IsFollowed (members_of K.CacheKey V.Value)
+            (home_at K.word key self.old.cache.layout) now self.old.pass self.new.pass
+            (emptied self.old.left) self.new.left result }
+        ensures same { self.new.cache ≡ self.old.cache }
+    {
+        self.left.empty();
+        let cache = self.callers.cache();
+        let pass = &mut self.pass;
+        followers.follow_by(self.rt, cache, pass, unseen, key, now, &mut self.left)
     }
 }
