@@ -5,27 +5,22 @@ ghost use Rattle.examples.specs.Check.{check_of};
 mod check;
 
 use crate::pure::check::{Check, Checks};
+use rookdresser::{Cache, Config, Fault, Service, World, serve};
 use std::alloc::Global;
 use std::io::Print;
 use std::sync::Wait;
 use std::thread::Threads;
-use wt_cache::{Caller, Service, serve};
-use wt_core::Config;
-use wt_keys::Fault;
-use wt_shards::Books;
 
 /// Returns the check number of an account, by the cache. The number is right in every schedule: if
 /// it was there, loaded, shared with another caller's load or due for a refresh. Earlier refusals
 /// of memory don't change it.
-fn check_number<B: Books, R: Wait>(
-    caller: &mut Caller<u64, Check, Checks, B, R>,
+fn check_number<W: World<u64, Check>>(
+    cache: &mut Cache<u64, Check, W>,
     account: u64,
-    now: u64,
 ) -> Result<u64, Fault>
     ensures { IfOk result (λ number. number ≡ check_of account) }
 {
-    let got = caller.get(account, now)?;
-    Ok(got.value.number)
+    Ok(cache.get(account)?.number)
 }
 
 impl Service<u64, Check> for Checks {
@@ -37,19 +32,19 @@ impl Service<u64, Check> for Checks {
     // Each thread asks for the account of its own number.
     ghost gives = { λ _ thread result. IfOk result (λ number. number ≡ check_of thread) };
 
-    fn work<B: Books, R: Wait>(
+    fn work<W: World<u64, Check>>(
         &self,
         thread: usize,
-        caller: &mut Caller<u64, Check, Checks, B, R>,
+        cache: &mut Cache<u64, Check, W>,
     ) -> Result<u64, Fault> {
-        check_number(caller, thread as u64, 0)
+        check_number(cache, thread as u64)
     }
 }
 
 /// Prints the check numbers that three threads get.
 pub fn show<R: Print + Threads + Wait + Sync>(rt: &R, alloc: Global) -> anyhow::Result<()> {
     let config = Config::of(64).with_refresh(1000);
-    for number in serve(rt, alloc, &config, 4, 3, Checks {})? {
+    for number in serve(rt, alloc, &config, 4, 3, &Checks {}, &0)?.answers {
         println!(rt; "check number {}", number?)?;
     }
     Ok(())

@@ -1,5 +1,5 @@
 // The function, as a source, and its values.
-use wt_cache::Loader;
+use rookdresser::Loader;
 use wt_core::{Measure, Weighs};
 use wt_keys::{Answers, NoMemory, Share};
 
