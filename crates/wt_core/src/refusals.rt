@@ -1,6 +1,6 @@
 // The checks that refuse a step: the core's calls make them before they change anything, and a
 // shard makes them before it records the step.
-ghost use Rattle.std.specs.Prelude.{◌≡◌, ◌<◌, ◌≤◌, ◌^◌, Some, None, IfOk, IfErr, OnOk, length, true};
+ghost use Rattle.std.specs.Prelude.{◌≡◌, ◌<◌, ◌≤◌, ◌^◌, Some, None, IfOk, IfErr, IfSome, IsSome, OnOk, length, true};
 ghost use Rattle.wt_keys.specs.declared.fault.Fault.TheVariants as fault;
 ghost use Rattle.wt_core.specs.declared.calls.Call.TheVariants.{Seek};
 ghost use Rattle.wt_core.specs.Faults.{is_fault_of, is_seek_fault};
@@ -38,7 +38,7 @@ pub(crate) fn check_weight(weight: u32, bound: u64) -> Result<(), Fault>
 }
 
 impl<K: CacheKey, V: Share + Weighs> Core<K, V> {
-    ghost use Rattle.wt_core.specs.Contract.{Allows, Forbids};
+    ghost use Rattle.wt_core.specs.Contract.{Allows, AllowsSeeks, Forbids};
     ghost use Rattle.wt_core.specs.Seek.{foreseen_at};
     ghost use Rattle.wt_core.specs.Step.{spent};
 
@@ -51,6 +51,25 @@ impl<K: CacheKey, V: Share + Weighs> Core<K, V> {
     {
         unspent(self.step)?;
         Ok(self.open_flights())
+    }
+
+    /// Returns how many loads are open, or None if the state may refuse a seek: if no step is left, or no
+    /// further load may be opened.
+    ///
+    /// Takes no memory. O(1).
+    #[inline(always)]
+    pub fn open_unless_full(&self) -> Option<usize>
+        ensures rows { IfSome result (λ rows. (rows ≡ length self.now.flights.rows)
+            × (rows < self.now.flights.limit)) }
+        ensures allowed { IsSome result → AllowsSeeks K.eq K.word V.measure self.now }
+    {
+        let Ok(open) = self.open_unless_spent() else {
+            return None;
+        };
+        if open >= self.limit as usize {
+            return None;
+        }
+        Some(open)
     }
 
     /// Returns how many loads are open after a seek that meets `met`, as `foresee` returned it, or

@@ -1,5 +1,5 @@
 // The three regions and their weight, with the calls that change them.
-ghost use Rattle.std.specs.Prelude.{◌≡◌, ◌≤◌, false, None, IfOk, IfErr, OnOk, OnErr, IsOk, IsTrue};
+ghost use Rattle.std.specs.Prelude.{◌≡◌, ◌≤◌, false, None, IfOk, IfErr, IfSome, OnOk, OnErr, IsOk, IsNone, IsSome, IsTrue};
 ghost use Rattle.std.specs.List.Sorted.{IsPermutation};
 ghost use Rattle.std.specs.Map.{lookup};
 ghost use Rattle.wt_regions.specs.Lawful.{FailsByField, caps_fault, store_fault};
@@ -9,6 +9,7 @@ ghost use Rattle.wt_regions.specs.Notices.{appended};
 ghost use Rattle.wt_regions.specs.Slide.{can_slide, slid};
 ghost use Rattle.wt_regions.specs.Steps.{cleaned, cleared, removed};
 ghost use Rattle.wt_regions.specs.Touch.{looked_at};
+ghost use Rattle.wt_regions.specs.declared.touch.Found.TheVariants as found;
 
 mod reads;
 
@@ -98,6 +99,27 @@ impl<K: CacheKey, V: Share + Weighs> Regions<K, V> {
         ensures err { OnErr result (self.new ≡ self.old) }
     {
         Ok(self.caches.get(key, now, self.lives)?)
+    }
+
+    /// Uses the key's entry as `get` does, if it is in protected, a share is a copy and no entry
+    /// expires. Else returns None, and nothing changes: then `get` says the rest.
+    ///
+    /// `now` is in milliseconds. Takes no memory. Expected O(1), unless an attacker chooses the keys
+    /// (see `Seeded`): one search.
+    #[inline(always)]
+    pub fn use_protected(&mut self, key: K, now: u64) -> Option<V>
+        ensures found { IfSome result (λ v. found_at K.eq key now self.old ≡ found.Hit v) }
+        ensures state { IsSome result → self.new ≡ looked_at K.eq key now self.old }
+        ensures same { self.new.caps ≡ self.old.caps }
+        ensures missed { IsNone result → self.new ≡ self.old }
+    {
+        if !V::is_copied() || self.lives || !self.caches.caps.never_expires() {
+            return None;
+        }
+        let Some(value) = self.caches.use_protected(key, now) else {
+            return None;
+        };
+        Some(value)
     }
 
     /// Stores the value under the key, at the moment `now` and by the step of number `stamp`.

@@ -5,12 +5,13 @@
 //   protected  ──► protected's front
 //
 // A look first finds the region, and makes the shares that the move needs; then the entry moves.
-ghost use Rattle.std.specs.Prelude.{◌≡◌, false, None, IfOk, OnOk, OnErr, IsOk, IsSome, IsTrue, is_some, ◌||◌};
+ghost use Rattle.std.specs.Prelude.{◌≡◌, false, None, IfOk, IfSome, OnOk, OnErr, IsOk, IsNone, IsSome, IsTrue, is_some, ◌||◌};
 ghost use Rattle.std.specs.List.{IsDistinct};
 ghost use Rattle.std.specs.Map.{keys_of, lookup};
 ghost use Rattle.wt_regions.specs.Lists.{all_entries, found_at, has_at};
 ghost use Rattle.wt_regions.specs.Moves.{HasNoLives, IsPlaced, seen_at};
 ghost use Rattle.wt_regions.specs.Touch.{looked_at, touched};
+ghost use Rattle.wt_regions.specs.declared.touch.Found.TheVariants as found;
 
 use crate::caches::Caches;
 use crate::held::Held;
@@ -118,8 +119,7 @@ impl<K: CacheKey, V: Share + Weighs> Caches<K, V> {
         }
     }
 
-    // The same if a share is a copy and no entry expires: the look itself brings an entry of
-    // protected to the front.
+    // The same if a share is a copy and no entry expires.
     #[inline(always)]
     fn get_copied(&mut self, key: K, now: u64) -> Result<Found<V>, NoMemory>
         requires placed { IsPlaced K.eq V.measure self.old }
@@ -133,10 +133,30 @@ impl<K: CacheKey, V: Share + Weighs> Caches<K, V> {
         ensures hit_succeeds { lookup (K.eq key) self.old.probation ≡ None → IsOk result }
         ensures err { OnErr result (self.new ≡ self.old) }
     {
-        if let Some(value) = use_in(&mut self.protected, key, now) {
+        if let Some(value) = self.use_protected(key, now) {
             return Ok(Found::Hit(value));
         }
         self.get_unprotected(key, now)
+    }
+
+    // Uses the key's entry if it is in protected: the look itself brings it to the front. Takes no
+    // memory.
+    #[inline(always)]
+    pub(crate) fn use_protected(&mut self, key: K, now: u64) -> Option<V>
+        requires placed { IsPlaced K.eq V.measure self.old }
+        requires copied { IsTrue V.Share.is_copied }
+        requires lasting { HasNoLives self.old }
+        requires unaging { is_some self.old.caps.after_write || is_some self.old.caps.after_access
+            ≡ false }
+        ensures found { IfSome result (λ v. found_at K.eq key now self.old ≡ found.Hit v) }
+        ensures state { IsSome result → self.new ≡ looked_at K.eq key now self.old }
+        ensures missed { IsNone result → self.new ≡ self.old }
+        ensures unprotected { IsNone result → lookup (K.eq key) self.old.protected ≡ None }
+    {
+        let Some(value) = use_in(&mut self.protected, key, now) else {
+            return None;
+        };
+        Some(value)
     }
 
     // The same of a key that isn't in protected.

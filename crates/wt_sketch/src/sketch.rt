@@ -144,6 +144,7 @@ impl Sketch {
     /// halved, rounding down (the reset of TinyLFU; that a count at four full counters is no
     /// addition is ours). Never fails and takes no memory. O(1), and O(width) at a halving.
     #[tactic(auto, unfolding(crate::specs::Sketch::counted))]
+    #[inline(always)]
     pub fn count(&mut self, places: &[usize; 4]) -> bool
         requires within { All (λ p. p < 2 ^ bits_for self.old.entries) places.now }
         ensures counted { self.new ≡ counted places.now self.old }

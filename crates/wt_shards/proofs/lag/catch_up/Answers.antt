@@ -21,19 +21,10 @@ loop-i-preserved g c =
     sym (slice_get-drop xs i) ∙ ap (λ (b : Buffer (Call g.row.K.Denot Shade)). slice_get b.items 0)
     (sym c.loop-i.invariant.1) ∙ sym c.in-Some.ensures in
     let here = run-take eq word shade_measure c.args.lagging.now xs i called at in (
-      c.in_ok-take.ensures.state ∙ ap
-          (λ (x : Call g.row.K.Denot Shade). (taken eq word shade_measure c.loop-i.lagging x).state)
-          c.again-call.ensures ∙ ap (λ (s : State g.row.K.Denot Shade).
+      c.in_ok-step_again.ensures.state ∙ ap (λ (s : State g.row.K.Denot Shade).
           (taken eq word shade_measure s called).state) c.loop-i.invariant.0 ∙ sym (rw add-one here),
       c.pop_front.ensures.items ∙ ap (λ (b : Buffer (Call g.row.K.Denot Shade)). buffer
           (drop 1 b.items) b.capacity) c.loop-i.invariant.1
           ∙ rw add-one (ap (λ ys. buffer ys c.args.ring.now.capacity) (drop-suc xs i)),
-      omega (
-        arith,
-        ap (λ (x : Caps). x.entries) c.in_ok-take.ensures.same,
-        c.in_ok-take.ensures.whole,
-        ap (λ (n : NoticeList g.row.K.Denot Shade). n.room) c.empty.ensures,
-        ap (λ (n : NoticeList g.row.K.Denot Shade). length n.list) c.empty.ensures,
-        c.loop-i.invariant.2,
-      ),
+      c.in_ok-step_again.ensures.room,
     )
