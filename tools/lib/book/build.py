@@ -12,7 +12,7 @@ from .tree import Tree, only_tests
 # The groups of hand-written pages, in the order of the contents: the pages, or what their paths begin with. The pages of crates that only
 # test are in a group of their own, the last.
 GROUPS = {
-    "Guides": ("README.md", "docs/GUIDE.md", "docs/COMING_FROM.md", "docs/POLICY.md"),
+    "Guides": ("README.md", "docs/GUIDE.md", "docs/COMING_FROM.md", "docs/POLICY.md", "docs/PROVING.md"),
     "Languages": ("embed/README.md", "embed/python/README.md", "embed/rust/README.md", "embed/go/README.md", "embed/c/README.md", "embed/"),
     "Behind it": ("docs/",),
     "Measured": ("bench/",),
