@@ -5,6 +5,7 @@ mod apart;
 mod at_once;
 mod compare;
 mod dropping;
+mod following;
 mod late;
 mod lender;
 mod lending;

@@ -1,15 +1,15 @@
 // The seek of a shard: a look-up that opens or joins a load.
 ghost use Rattle.std.specs.Prelude.{◌≡◌, ◌<◌, ◌⊎◌, None, Ok, IfOk, IfSome, IsNone, OnErr};
+ghost use Rattle.wt_regions.specs.Notices.{NoticeList};
 ghost use Rattle.wt_core.specs.Step.{refusal_of};
 ghost use Rattle.wt_core.specs.declared.calls.Call.TheVariants as call;
-ghost use Rattle.wt_regions.specs.Notices.{NoticeList};
 ghost use Rattle.wt_shards.specs.Asked.{IsAsked, MayAsk, ReplyAnswers};
 ghost use Rattle.wt_shards.specs.Audited.{IsReadied, excess};
 ghost use Rattle.wt_shards.specs.Contract.{IsShardCall, owned};
-ghost use Rattle.wt_shards.specs.Peeks.{FoundAnswers};
-ghost use Rattle.wt_shards.specs.declared.sought.Sought.TheVariants as sought;
 ghost use Rattle.wt_shards.specs.Members.{members_by};
+ghost use Rattle.wt_shards.specs.Peeks.{FoundAnswers};
 ghost use Rattle.wt_shards.specs.Sought.{reply_of};
+ghost use Rattle.wt_shards.specs.declared.sought.Sought.TheVariants as sought;
 
 use crate::kept::{Kept, find_kept};
 use crate::shard::Shard;
@@ -71,7 +71,7 @@ impl<K: CacheKey, V: Share + Weighs + Answers<K>, S: ShardLedger, H: Ledger> Sha
     ) -> Result<Option<V>, NoMemory>
         requires asked { IsAsked V.answers K.word S.ShardLedger.place.shards
             S.ShardLedger.place.index (call.Seek key now) }
-        ensures hit { IfOk result (λ found. IfSome found (λ value. (list : NoticeList K V)
+        ensures made { IfOk result (λ found. IfSome found (λ value. (list : NoticeList K V)
             → IsShardCall (members_by K.eq K.word V.measure V.answers) V.Share.is_copied
             S.ShardLedger.place.config.entries (call.Seek key now) reply_of opened_by
             (owned self.old shares.old list) (owned self.new shares.new list)

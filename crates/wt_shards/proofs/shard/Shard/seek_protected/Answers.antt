@@ -197,8 +197,8 @@ invariant_of-self-2 g c =
       inv.10,
     )
 
-pub returns-clause-hit : goal.returns-clause-hit
-returns-clause-hit g c = λ list.
+pub returns-clause-made : goal.returns-clause-made
+returns-clause-made g c = λ list.
     let K = g.row.K.Denot in
     let V = g.row.V.Denot in
     let eq = g.K.PartialEq.eq in
