@@ -5,7 +5,7 @@ import logging
 import os
 from collections.abc import ItemsView, KeysView, Mapping, MutableMapping, ValuesView
 from datetime import timedelta
-from typing import Any, Callable, Dict, Hashable, Iterable, Optional, Tuple, TypeVar, Union
+from typing import Any, Callable, Dict, Hashable, Iterable, Iterator, Optional, Tuple, TypeVar, Union
 
 from . import _fork, _keys
 from ._faults import Closed, Refused
@@ -13,7 +13,7 @@ from ._loads import Loads
 from ._native import Load
 from ._settings import by_name, setup_of
 from ._stats import Stats
-from ._views import Items, Keys, Values
+from ._views import Items, Keys, Values, each
 from ._waits import waits
 
 K = TypeVar("K", bound=Hashable)
@@ -62,7 +62,7 @@ class Cache(Loads[K, V]):
             "entries": entries, "shards": shards, "window": window, "flights": flights, "bound": bound, "after_write": after_write,
             "after_access": after_access, "refresh": refresh}, adaptive)
         self._open(setup, parts, self._entries if follows else 0, os.urandom(24) if seeded else None, _keys.SECRET, weigh, clock, on_leave,
-                   _log, _keys.plain, _keys.secret_prime(), Load, Refused, timedelta, waits)
+                   _pause, _log, _keys.plain, _keys.secret_prime(), Load, Refused, timedelta, waits)
         _fork.watch(self)
 
     def __enter__(self) -> Cache[K, V]:
@@ -84,8 +84,16 @@ class Cache(Loads[K, V]):
         """Raises TypeError: a cache is neither copied nor pickled."""
         raise TypeError("a cache can't be copied or pickled")
 
+    def __iter__(self) -> Iterator[K]:
+        """Returns an iterator over the keys, as that of keys()."""
+        return each(self._keys())
+
     def keys(self) -> KeysView[K]:
-        """Returns a view of the keys. To iterate is over those of one moment, without any that has expired, and is no use of the entries.
+        """Returns a view of the keys. To iterate is over those that there are, without any that has expired, and is no use of the entries.
+
+        They are read before the first is handed out, so the loop may change the cache. Other threads may change it while they are read: an
+        entry that is there all the time is among them once, and one that comes or leaves meanwhile may be. Up to 1,000 entries or so are
+        read at one moment. Raises Closed if the cache is closed before all are read.
 
         A key may be asked for as in the cache: also that is no use. `len` of a view is that of the cache.
 
@@ -105,7 +113,7 @@ class Cache(Loads[K, V]):
         return Values(self)
 
     def items(self) -> ItemsView[K, V]:
-        """Returns a view of the pairs of key and value, as keys does. dict(cache.items()) is a copy of one moment.
+        """Returns a view of the pairs of key and value, as keys does. dict(cache.items()) is a copy.
 
         >>> cache.update(a=1, b=2)
         >>> dict(cache.items()) == {"a": 1, "b": 2}, ("a", 2) in cache.items()
@@ -162,6 +170,10 @@ def _pairs_of(values: Any) -> Iterable[Tuple[Any, Any]]:
     if hasattr(values, "keys"):
         return ((key, values[key]) for key in values.keys())
     return values  # type: ignore[no-any-return]
+
+
+def _pause() -> None:
+    """Lets other threads run: as a function begins, the interpreter looks whether one wants to."""
 
 
 def _log(key: object, error: BaseException) -> None:

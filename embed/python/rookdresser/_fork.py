@@ -20,6 +20,7 @@ def watch(cache: Table[Any, Any]) -> None:
 def _after_in_child() -> None:
     ended = SystemExit("the thread that made the load is not in this process")
     for cache in list(_caches.values()):
+        cache._end_sweeps()
         for _, _, load in cache._uses():
             if load is not None and load.thread != threading.get_ident():
                 # A task of this thread that waits for it asks again.

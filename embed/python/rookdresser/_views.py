@@ -2,18 +2,26 @@
 from __future__ import annotations
 
 from collections.abc import ItemsView, KeysView, ValuesView
-from typing import TYPE_CHECKING, Any, Hashable, Iterator, Tuple, TypeVar, cast
+from typing import TYPE_CHECKING, Any, Hashable, Iterator, List, Tuple, TypeVar, cast
 
 if TYPE_CHECKING:
     from ._native import Table
 
 K = TypeVar("K", bound=Hashable)
 V = TypeVar("V")
+T = TypeVar("T")
 _ABSENT = object()
 
 
+def each(lists: List[List[T]]) -> Iterator[T]:
+    """Yields what is in these lists, of which each is freed once it was yielded. Other threads may run between two of them."""
+    lists.reverse()
+    while lists:
+        yield from lists.pop()
+
+
 class Keys(KeysView[K]):
-    """The keys. To iterate is over those of one moment, and to ask for one is no use of its entry."""
+    """The keys. To iterate reads them first, and to ask for one is no use of its entry."""
 
     __slots__ = ()
     _mapping: Table[K, Any]
@@ -37,7 +45,7 @@ class Items(ItemsView[K, V]):
 
     def __iter__(self) -> Iterator[Tuple[K, V]]:
         """Iterates over the pairs that the cache has now."""
-        return iter(self._mapping._pairs())
+        return each(self._mapping._pairs())
 
 
 class Values(ValuesView[V]):
@@ -52,4 +60,4 @@ class Values(ValuesView[V]):
 
     def __iter__(self) -> Iterator[V]:
         """Iterates over the values that the cache has now."""
-        return iter([value for _, value in self._mapping._pairs()])
+        return (value for _, value in each(self._mapping._pairs()))

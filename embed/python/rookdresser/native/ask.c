@@ -133,6 +133,35 @@ int tell(Table *self, Use *left) {
     return type ? -1 : 0;
 }
 
+/* Keeps the exception that is raised for the end of the call, unless there is one. */
+void keep_raised(Raised *raised) {
+    if (raised->type) PyErr_Clear();
+    else PyErr_Fetch(&raised->type, &raised->error, &raised->trace);
+}
+
+/* Lets other threads run between two slices, if one wants to: as a function of Python begins, the interpreter looks for that. To release its
+ * lock here wouldn't do, as whoever waits is then woken too late and waits from the beginning. -1 if a signal handler raised. */
+int make_way(Table *self) {
+    PyObject *of = self->pause;
+    if (!of) return 0;
+    Py_INCREF(of);
+    PyObject *paused = PyObject_CallObject(of, NULL);
+    Py_DECREF(of);
+    Py_XDECREF(paused);
+    if (paused) return 0;
+    if (!PyErr_ExceptionMatches(PyExc_MemoryError)) return -1;
+    PyErr_Clear(); /* there was none for the call: then nobody else runs yet */
+    return 0;
+}
+
+/* The same where nothing may be raised. It takes a tenth of a millisecond, in which whoever waits is woken. */
+void rest(void) {
+    const struct timespec time = {0, 50000};
+    Py_BEGIN_ALLOW_THREADS
+    nanosleep(&time, NULL);
+    Py_END_ALLOW_THREADS
+}
+
 /* True or False, of a call that returned 1 or 0; null of one that raised. */
 PyObject *truth_of(int is_true) { return is_true < 0 ? NULL : PyBool_FromLong(is_true); }
 

@@ -5,7 +5,7 @@ Py_ssize_t table_length(Table *self) {
     Py_ssize_t entries;
     int is_open;
     STEP
-    entries = self->entries, is_open = self->caches->is_open;
+    entries = self->entries - self->swept_entries, is_open = self->caches->is_open;
     END_STEP
     if (!is_open) refuse(self, RD_CLOSED);
     return is_open ? entries : -1;
@@ -85,25 +85,48 @@ static PyObject *table_kept(Table *self, PyObject *none) {
 
 static int has_expired(Table *self, const Use *use, uint64_t now) {
     rd_answer answer;
-    return rd_peek(shard_of(self, use->number), use->number, now, &answer) || answer.kind != RD_HIT;
+    if (rd_peek(shard_of(self, use->number), use->number, now, &answer) || answer.kind != RD_HIT) return 1;
+    return answer.token != (uintptr_t)use; /* it has left, and the key was stored again */
 }
 
-/* Copies each use with references to what it has, as far as there is room; with a moment, the entries alone that haven't expired by then.
- * Returns how many there are. */
-static Py_ssize_t copy_uses(Table *self, const uint64_t *now, Use *all, Py_ssize_t room) {
-    Py_ssize_t count = 0;
+/* Copies of uses, with references to what each has. */
+typedef struct {
+    Use *uses;
+    Py_ssize_t count, room;
+    uint64_t from, end; /* of which buckets */
+} Copies;
+
+/* Copies the next uses; with a moment, the entries alone that haven't expired by then. Returns for how many there has to be room: if there is
+ * less, nothing is copied. */
+static Py_ssize_t copy_slice(Table *self, const uint64_t *now, Copies *to) {
+    Py_ssize_t wanted = 0;
+    to->count = 0;
     STEP
-    for (uint64_t i = 0; i <= self->mask; i++)
+    for (to->end = to->from; to->end <= self->mask && to->end < to->from + SLICE_BUCKETS && wanted <= SLICE; to->end++)
+        for (Use *use = self->buckets[to->end]; use; use = use->next) wanted++;
+    for (uint64_t i = to->from; wanted <= to->room && i < to->end; i++)
         for (Use *use = self->buckets[i]; use; use = use->next) {
             if (now && (use->load || has_expired(self, use, *now))) continue;
-            if (count++ >= room) continue;
-            all[count - 1] = *use;
+            to->uses[to->count++] = *use;
             Py_INCREF(use->key);
             Py_XINCREF(use->value);
             Py_XINCREF((PyObject *)use->load);
         }
     END_STEP
-    return count;
+    return wanted;
+}
+
+/* The same with as much room as there has to be: 0, or -1 if memory is refused. */
+static int copied(Table *self, const uint64_t *now, Copies *to) {
+    Py_ssize_t wanted;
+    while ((wanted = copy_slice(self, now, to)) > to->room) {
+        PyMem_Free(to->uses);
+        to->room = wanted + wanted / 4;
+        to->uses = PyMem_Malloc((size_t)to->room * sizeof(Use));
+        if (!to->uses) return to->room = 0, no_memory(self);
+    }
+    to->from = to->end;
+    return 0;
 }
 
 static PyObject *key_of(const Use *use) {
@@ -118,43 +141,52 @@ static PyObject *row_of(const Use *use) {
     return Py_BuildValue("KKO", use->hash, use->number, load);
 }
 
-/* A list of what `of` makes of each use at one moment: of all, or with a moment of the entries alone that haven't expired by then. */
-static PyObject *list_of(Table *self, const uint64_t *now, PyObject *of(const Use *use)) {
-    Py_ssize_t room = self->entries + self->loads;
-    Use *all = zeroed(((size_t)room + 1) * sizeof(Use));
-    if (!all) return no_memory(self), NULL;
-    Py_ssize_t count = copy_uses(self, now, all, room);
-    PyObject *list = PyList_New(0);
-    for (Py_ssize_t i = 0; i < count && i < room; i++) {
-        PyObject *one = list ? of(&all[i]) : NULL;
-        if (one && PyList_Append(list, one) < 0) Py_CLEAR(list);
+/* Appends what `of` makes of each copy to the list, and gives the copies' references up: 0, or -1. */
+static int append(PyObject *list, PyObject *of(const Use *use), Copies *copies) {
+    for (Py_ssize_t i = 0; i < copies->count; i++) {
+        Use *use = &copies->uses[i];
+        PyObject *one = list ? of(use) : NULL;
+        if (!one || PyList_Append(list, one) < 0) list = NULL;
         Py_XDECREF(one);
-        if (PyErr_Occurred()) Py_CLEAR(list);
-        Py_DECREF(all[i].key);
-        Py_XDECREF(all[i].value);
-        Py_XDECREF((PyObject *)all[i].load);
+        Py_DECREF(use->key);
+        Py_XDECREF(use->value);
+        Py_XDECREF((PyObject *)use->load);
     }
-    PyMem_Free(all);
-    return list;
+    return list && !PyErr_Occurred() ? 0 : -1;
 }
 
-static PyObject *table_uses(Table *self, PyObject *none) { return (void)none, list_of(self, NULL, row_of); }
+/* A list of what `of` makes of each use; or with a moment, of each entry that hasn't expired by then, in a list for each slice. Other threads
+ * may run between two slices. */
+static PyObject *lists_of(Table *self, const uint64_t *now, PyObject *of(const Use *use)) {
+    Copies copies = {NULL, 0, 0, 0, 0};
+    PyObject *lists = PyList_New(0);
+    while (lists && copies.from <= self->mask) {
+        if ((copies.from && make_way(self) < 0) || copied(self, now, &copies) < 0) {
+            Py_CLEAR(lists);
+            break;
+        }
+        PyObject *list = now ? PyList_New(0) : lists;
+        if (append(list, of, &copies) < 0 || (now && PyList_Append(lists, list) < 0)) Py_CLEAR(lists);
+        if (now) Py_XDECREF(list);
+    }
+    PyMem_Free(copies.uses);
+    return lists;
+}
 
-/* The same of the entries now, unless the cache is closed. */
-static PyObject *list_of_entries(Table *self, PyObject *of(const Use *use)) {
+static PyObject *table_uses(Table *self, PyObject *none) { return (void)none, lists_of(self, NULL, row_of); }
+
+/* The same of the entries now, unless the cache is closed before the end. */
+static PyObject *lists_of_entries(Table *self, PyObject *of(const Use *use)) {
     uint64_t now;
     if (now_of(self, &now) < 0) return NULL;
-    if (!self->caches->is_open) return refuse(self, RD_CLOSED), NULL;
-    return list_of(self, &now, of);
+    PyObject *lists = self->caches->is_open ? lists_of(self, &now, of) : NULL;
+    if (PyErr_Occurred() || self->caches->is_open) return lists;
+    Py_XDECREF(lists);
+    return refuse(self, RD_CLOSED), NULL;
 }
 
-static PyObject *table_pairs(Table *self, PyObject *none) { return (void)none, list_of_entries(self, item_of); }
-
-PyObject *table_iter(Table *self) {
-    PyObject *keys = list_of_entries(self, key_of), *iterator = keys ? PyObject_GetIter(keys) : NULL;
-    Py_XDECREF(keys);
-    return iterator;
-}
+static PyObject *table_keys(Table *self, PyObject *none) { return (void)none, lists_of_entries(self, key_of); }
+static PyObject *table_pairs(Table *self, PyObject *none) { return (void)none, lists_of_entries(self, item_of); }
 
 PyMethodDef held_methods[] = {
     {"kept", METHOD(table_kept), METH_NOARGS,
@@ -181,7 +213,8 @@ PyMethodDef held_methods[] = {
      "(100, 10)"},
     {"_numbers", METHOD(table_numbers), METH_NOARGS, "The numbers of the library, of all shards together."},
     {"_counts", METHOD(table_counts), METH_NOARGS, "What this side counted, in the order of Stats."},
-    {"_pairs", METHOD(table_pairs), METH_NOARGS, "(key, value) of each entry of one moment that hasn't expired."},
+    {"_keys", METHOD(table_keys), METH_NOARGS, "The key of each entry that hasn't expired, in lists."},
+    {"_pairs", METHOD(table_pairs), METH_NOARGS, "(key, value) of each entry that hasn't expired, in lists."},
     {"_uses", METHOD(table_uses), METH_NOARGS, "(hash, number, load or None) of each key of an entry or an open load."},
     {NULL, NULL, 0, NULL},
 };

@@ -78,7 +78,7 @@ static uint64_t open_all(Table *self, const rd_setup *setup, uint32_t advised) {
         fault = rd_open(&part, &self->caches[i]);
         self->windows += part.window;
     }
-    if (fault) close_all(self);
+    for (uint64_t i = 0; fault && i <= self->shards; i++) close_one(self, i);
     return fault;
 }
 
@@ -91,13 +91,13 @@ static PyObject *given_or_null(PyObject *given) {
 static PyObject *opened_once(void) { return PyErr_Format(PyExc_ValueError, "a cache is opened once, by Cache(..)"); }
 
 static PyObject *table_open(Table *self, PyObject *args) {
-    PyObject *given, *of_shards, *seed, *weigh, *clock, *on_leave, *log, *plain, *prime, *load_type, *refusal, *timedelta, *waits;
+    PyObject *given, *of_shards, *seed, *weigh, *clock, *on_leave, *pauses, *log, *plain, *prime, *load_type, *refusal, *timedelta, *waits;
     int hash_is_secret;
     unsigned int advised;
     uint64_t shards, fault;
     rd_setup setup;
-    if (!PyArg_ParseTuple(args, "O!OIOpOOOOOO!O!OO!O", &PyTuple_Type, &given, &of_shards, &advised, &seed, &hash_is_secret, &weigh, &clock,
-                          &on_leave, &log, &plain, &PyLong_Type, &prime, &PyType_Type, &load_type, &refusal, &PyType_Type, &timedelta, &waits))
+    if (!PyArg_ParseTuple(args, "O!OIOpOOOOOOO!O!OO!O", &PyTuple_Type, &given, &of_shards, &advised, &seed, &hash_is_secret, &weigh, &clock,
+                          &on_leave, &pauses, &log, &plain, &PyLong_Type, &prime, &PyType_Type, &load_type, &refusal, &PyType_Type, &timedelta, &waits))
         return NULL;
     if (PyTuple_Size(given) != 7 || PyType_GetSlot((PyTypeObject *)load_type, Py_tp_new) != (void *)load_new
         || !is_of(waits, Py_tp_methods, waits_methods))
@@ -111,10 +111,12 @@ static PyObject *table_open(Table *self, PyObject *args) {
     if (take_seed(self, seed) < 0) return NULL;
     if (take_memory(self, &setup, shards, advised != 0) < 0) return raise_fault(refusal, RD_OUT_OF_MEMORY), NULL;
     self->hash_is_secret = (char)hash_is_secret;
+    self->room = share(setup.entries, 0, shards);
     self->load_type = given_or_null(load_type), self->refusal = given_or_null(refusal), self->waits = (Waits *)given_or_null(waits);
     self->log = given_or_null(log), self->plain = given_or_null(plain), self->prime = given_or_null(prime);
     self->timedelta = given_or_null(timedelta);
     self->weigh = given_or_null(weigh), self->clock = given_or_null(clock), self->on_leave = given_or_null(on_leave);
+    self->pause = given_or_null(pauses);
     if ((fault = open_all(self, &setup, advised))) return refuse(self, fault), NULL;
     Py_RETURN_NONE;
 }
@@ -124,6 +126,7 @@ static int table_traverse(Table *self, visitproc visit, void *arg) {
     Py_VISIT(self->weigh);
     Py_VISIT(self->clock);
     Py_VISIT(self->on_leave);
+    Py_VISIT(self->pause);
     Py_VISIT(self->log);
     Py_VISIT(self->plain);
     Py_VISIT(self->load_type);
@@ -140,17 +143,35 @@ static int table_traverse(Table *self, visitproc visit, void *arg) {
     return 0;
 }
 
-/* What is there is reported to nobody. A finalizer may still call a table that gc has cleared, and is refused. */
+/* What is there is reported to nobody. A finalizer may still call a table that gc has cleared, and is refused. Other threads may run
+ * between two slices. */
 static int table_clear(Table *self) {
-    Use *left = take_all(self, 1);
+    PyObject *on_leave = self->on_leave;
     Load *spare = self->spare;
-    self->spare = NULL;
-    free_uses(left);
+    self->on_leave = NULL, self->spare = NULL;
+    for (uint64_t i = 0; i <= self->shards; i++) {
+        close_one(self, i);
+        if (self->room > SLICE) rest();
+    }
+    for (uint64_t at = 0, slices = 1; at <= self->mask; slices++) {
+        free_uses(take_slice(self, &at, 1));
+        if (slices % 4 == 0) rest();
+    }
     Py_XDECREF((PyObject *)spare);
+    Py_XDECREF(on_leave);
     Py_CLEAR(self->weigh);
     Py_CLEAR(self->clock);
-    Py_CLEAR(self->on_leave);
+    Py_CLEAR(self->pause);
     return 0;
+}
+
+/* Of calls of threads that a forked child hasn't. */
+static void free_swept(Table *self) {
+    while (self->swept) {
+        Swept *next = self->swept->next;
+        PyMem_Free(self->swept);
+        self->swept = next;
+    }
 }
 
 static void table_dealloc(Table *self) {
@@ -168,6 +189,7 @@ static void table_dealloc(Table *self) {
     if (self->buckets != &self->one_bucket) PyMem_Free(self->buckets);
     if (self->caches != &self->one_cache) PyMem_Free(self->caches);
     PyMem_Free(self->advice);
+    free_swept(self);
     ((freefunc)PyType_GetSlot(type, Py_tp_free))(self);
     Py_DECREF(type);
 }
@@ -195,7 +217,6 @@ static PyType_Slot table_slots[] = {
     {Py_tp_traverse, (void *)table_traverse},
     {Py_tp_clear, (void *)table_clear},
     {Py_tp_methods, all_methods},
-    {Py_tp_iter, (void *)table_iter},
     {Py_sq_contains, (void *)table_contains},
     {Py_mp_length, (void *)table_length},
     {Py_mp_subscript, (void *)table_item},

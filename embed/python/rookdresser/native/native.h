@@ -19,6 +19,8 @@
 enum { FAULTS = 16, NUMBERS = sizeof(rd_numbers) / sizeof(uint64_t) };
 /* The adviser sees so many look-ups at a time, and a window moves by so many entries at most ahead of a call. */
 enum { BATCH = 64, SLIDES = 4 };
+/* A call on the whole table takes out or lists so many uses, or goes by so many buckets, before it lets other threads run. */
+enum { SLICE = 1000, SLICE_BUCKETS = 50000 };
 
 /* Of a function that is seldom called: it stays out of its caller, which needs fewer instructions then. */
 #define SELDOM __attribute__((noinline))
@@ -38,6 +40,22 @@ typedef struct Use {
     uint64_t serial; /* uses are counted as they are linked */
     uint32_t cause;  /* an rd_cause, once it has left */
 } Use;
+
+/* What left a shard in a call that took out many. The library has it no more, and it is taken out of the table a slice at a time. */
+typedef struct Swept {
+    struct Swept *next;   /* of the table's */
+    unsigned long thread; /* whose call it is */
+    uint64_t at, count;   /* which is taken out next, and how many left */
+    struct {
+        Use *use;
+        uint32_t cause;
+    } left[];
+} Swept;
+
+/* The first exception that isn't logged, of several calls of on_leave. */
+typedef struct {
+    PyObject *type, *error, *trace;
+} Raised;
 
 /* A load that one thread or task makes. */
 struct Load {
@@ -103,11 +121,15 @@ typedef struct {
     uint64_t displaced, reach; /* how many uses have another number than their hash, and how far that is at most */
     uint64_t serial;           /* of the use that was linked last */
     uint64_t at_bucket;        /* where popitem goes on */
+    uint64_t room;             /* how many entries a shard may hold at most */
+    Swept *swept;              /* what calls are about to take out */
+    Py_ssize_t swept_entries;  /* and how many of `entries` that are */
     Py_ssize_t entries, loads; /* how many uses of each kind there are */
     Load *spare;               /* for the next load, so that no memory is asked for after its seek */
     uint64_t seed[2], mark;
     char is_seeded, hash_is_secret;
     PyObject *weigh, *clock, *on_leave; /* or null */
+    PyObject *pause; /* lets other threads run */
     PyObject *log, *plain, *prime, *refusal, *load_type, *timedelta;
     Waits *waits;
     Counts counts;
@@ -127,10 +149,12 @@ void unlink_use(Table *self, Use *use);
 void free_uses(Use *use);
 int find(Table *self, PyObject *key, uint64_t hash, uint64_t *number);
 Load *load_of(Table *self, uint64_t number, uint64_t id);
-void take_left(Table *self, rd_cache *cache, const rd_answer *answer, const rd_notice *first, Use **left);
+Use **take_left(Table *self, rd_cache *cache, const rd_answer *answer, const rd_notice *first, Use **left);
+void note_left(Table *self, rd_cache *cache, const rd_answer *answer, Swept *swept);
+Use *take_swept(Table *self, Swept *swept);
 PyObject *keep_first_key(Use *entry, const Use *left);
-void close_all(Table *self);
-Use *take_all(Table *self, int with_loads);
+void close_one(Table *self, uint64_t i);
+Use *take_slice(Table *self, uint64_t *at, int with_loads);
 
 /* advice.c: how the windows follow the look-ups. All but windows_of need self->advice. */
 uint64_t open_adviser(Table *self, uint32_t entries);
@@ -151,6 +175,9 @@ void raise_fault(PyObject *refusal, uint64_t fault);
 void refuse(Table *self, uint64_t fault);
 int no_memory(Table *self);
 int tell(Table *self, Use *left);
+void keep_raised(Raised *raised);
+int make_way(Table *self);
+void rest(void);
 PyObject *truth_of(int is_true);
 int refuse_coroutine(Table *self, PyObject *value, const char *why);
 
@@ -185,7 +212,6 @@ extern PyType_Spec table_spec, load_spec, waits_spec, task_wait_spec, function_s
 PyObject *table_item(Table *self, PyObject *key);
 int table_set_item(Table *self, PyObject *key, PyObject *value);
 int table_contains(Table *self, PyObject *key);
-PyObject *table_iter(Table *self);
 Py_ssize_t table_length(Table *self);
 
 /* The flags of a type that may be a base, and whose objects gc visits. */

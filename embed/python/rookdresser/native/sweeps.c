@@ -3,22 +3,101 @@
 
 typedef uint64_t SweepCall(rd_cache *cache, uint64_t now, rd_answer *answer);
 
-static PyObject *sweep(Table *self, SweepCall *sweep_call) {
-    uint64_t now, fault = 0;
+/* Room for what leaves a shard, known to the table. Null of a table that holds few, and if memory is refused: then what leaves a shard is
+ * taken out in one step. */
+static Swept *begin_swept(Table *self) {
+    Swept *swept = self->room > SLICE ? PyMem_Malloc(sizeof *swept + self->room * sizeof *swept->left) : NULL;
+    if (!swept) return NULL;
+    swept->thread = PyThread_get_thread_ident();
+    swept->at = swept->count = 0;
+    STEP
+    swept->next = self->swept;
+    self->swept = swept;
+    END_STEP
+    return swept;
+}
+
+static void end_swept(Table *self, Swept *swept) {
+    if (!swept) return;
+    STEP
+    Swept **at = &self->swept;
+    while (*at != swept) at = &(*at)->next;
+    *at = swept->next;
+    END_STEP
+    PyMem_Free(swept);
+}
+
+/* The next slice of what a call has taken out of the library, or null. */
+static Use *next_slice(Table *self, Swept *swept) {
+    Use *left;
+    STEP
+    left = take_swept(self, swept);
+    END_STEP
+    return left;
+}
+
+/* The same of another call, of another thread; or of this one, if the other call's on_leave makes this one. */
+static Use *slice_of_others(Table *self, int of_this_thread) {
+    const unsigned long thread = PyThread_get_thread_ident();
+    Use *left;
+    STEP
+    Swept *swept = self->swept;
+    while (swept && (swept->at == swept->count || (swept->thread == thread && !of_this_thread))) swept = swept->next;
+    left = take_swept(self, swept);
+    END_STEP
+    return left;
+}
+
+static void tell_slice(Table *self, Use *left, Raised *raised) {
+    if (tell(self, left) < 0) keep_raised(raised);
+}
+
+static void make_way_between(Table *self, Raised *raised) {
+    if (make_way(self) < 0) keep_raised(raised);
+}
+
+/* One call of the library on a shard, and a slice at a time the report of what left. */
+static uint64_t sweep_shard(Table *self, rd_cache *cache, SweepCall *sweep_call, uint64_t now, Swept *swept, Raised *raised) {
     rd_answer answer;
     Use *left = NULL;
-    if (now_of(self, &now) < 0) return NULL;
+    uint64_t fault;
     STEP
-    for (uint64_t i = 0; i < self->shards && !fault; i++) {
-        rd_cache *cache = &self->caches[i];
-        fault = sweep_call(cache, now, &answer);
-        if (!fault) take_left(self, cache, &answer, NULL, &left);
-    }
+    fault = sweep_call(cache, now, &answer);
+    if (!fault && swept) note_left(self, cache, &answer, swept);
+    else if (!fault) take_left(self, cache, &answer, NULL, &left);
     END_STEP
-    int reported = tell(self, left);
-    if (fault && reported == 0) refuse(self, fault);
-    if (fault || reported < 0) return NULL;
-    Py_RETURN_NONE;
+    tell_slice(self, left, raised);
+    while ((left = next_slice(self, swept))) {
+        make_way_between(self, raised);
+        tell_slice(self, left, raised);
+    }
+    return fault;
+}
+
+/* None, of a call on the whole table; null if it was refused, or if on_leave or a signal handler raised. */
+static PyObject *ended(Table *self, uint64_t fault, Raised *raised) {
+    if (raised->type) PyErr_Restore(raised->type, raised->error, raised->trace);
+    else if (fault) refuse(self, fault);
+    else Py_RETURN_NONE;
+    return NULL;
+}
+
+/* One call of the library on each shard, all at one moment. If the cache is closed meanwhile, that takes out the rest. */
+static PyObject *sweep(Table *self, SweepCall *sweep_call) {
+    uint64_t now, made = 0, fault = 0;
+    Raised raised = {NULL, NULL, NULL};
+    if (now_of(self, &now) < 0) return NULL;
+    for (;;) {
+        /* Anew for each shard: glibc joins what the library has freed as a large block is asked for or freed, which for all shards at once
+         * takes a tenth of a second. */
+        Swept *swept = begin_swept(self);
+        if (swept) make_way_between(self, &raised);
+        fault = sweep_shard(self, &self->caches[made], sweep_call, now, swept, &raised);
+        end_swept(self, swept);
+        if (fault || ++made == self->shards) break;
+        make_way_between(self, &raised);
+    }
+    return ended(self, made && fault == RD_CLOSED ? 0 : fault, &raised);
 }
 
 /* The next entry, from the bucket on at which the last search ended, that hasn't expired at this moment; null if there is none. */
@@ -26,7 +105,9 @@ static Use *next_entry(Table *self, uint64_t now) {
     rd_answer answer;
     for (uint64_t i = 0; i <= self->mask; i++, self->at_bucket++)
         for (Use *use = self->buckets[self->at_bucket & self->mask]; use; use = use->next)
-            if (!use->load && !rd_peek(shard_of(self, use->number), use->number, now, &answer) && answer.kind == RD_HIT) return use;
+            if (!use->load && !rd_peek(shard_of(self, use->number), use->number, now, &answer) && answer.kind == RD_HIT
+                && answer.token == (uintptr_t)use)
+                return use;
     return NULL;
 }
 
@@ -62,11 +143,25 @@ static PyObject *table_clean(Table *self, PyObject *none) { return (void)none, s
 
 static PyObject *table_close(Table *self, PyObject *none) {
     (void)none;
+    Raised raised = {NULL, NULL, NULL};
     Use *left;
-    STEP
-    left = take_all(self, 0);
-    END_STEP
-    if (tell(self, left) < 0) return NULL;
+    for (uint64_t i = 0; i <= self->shards; i++) {
+        close_one(self, i);
+        if (self->room > SLICE) make_way_between(self, &raised);
+    }
+    while ((left = slice_of_others(self, 1))) tell_slice(self, left, &raised);
+    for (uint64_t at = 0; at <= self->mask;) {
+        if (at) make_way_between(self, &raised);
+        tell_slice(self, take_slice(self, &at, 0), &raised);
+    }
+    return ended(self, 0, &raised);
+}
+
+/* In a forked child nobody goes on with the calls of threads that aren't there: what they were about to take out is freed. */
+static PyObject *table_end_sweeps(Table *self, PyObject *none) {
+    (void)none;
+    Use *left;
+    while ((left = slice_of_others(self, 0))) free_uses(left);
     Py_RETURN_NONE;
 }
 
@@ -74,6 +169,7 @@ PyMethodDef sweep_methods[] = {
     {"clear", METHOD(table_clear), METH_NOARGS,
      "clear($self)\n--\n\n"
      "Takes every entry out; the open loads will store nothing.\n\n"
+     "It goes shard by shard, and lets other threads run between: what is stored meanwhile may stay.\n\n"
      ">>> cache.put(\"a\", 1)\n"
      ">>> cache.clear()\n"
      ">>> len(cache)\n"
@@ -81,6 +177,7 @@ PyMethodDef sweep_methods[] = {
     {"clean", METHOD(table_clean), METH_NOARGS,
      "clean($self)\n--\n\n"
      "Takes every expired entry out.\n\n"
+     "It goes shard by shard, and lets other threads run between. It costs time for every entry, also for those that stay.\n\n"
      ">>> now = 0\n"
      ">>> cache = Cache(entries=10, after_write=5, clock=lambda: now)\n"
      ">>> cache.put(\"a\", 1)\n"
@@ -102,5 +199,6 @@ PyMethodDef sweep_methods[] = {
      ">>> cache.put(\"a\", 1)\n"
      ">>> cache.close()\n"
      "a 1 explicit"},
+    {"_end_sweeps", METHOD(table_end_sweeps), METH_NOARGS, "Ends the calls of threads that aren't in this process, which took entries out."},
     {NULL, NULL, 0, NULL},
 };

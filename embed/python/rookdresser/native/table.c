@@ -103,20 +103,48 @@ Load *load_of(Table *self, uint64_t number, uint64_t id) {
     return use ? use->load : NULL;
 }
 
-/* Takes what left in the call out of the table, and appends it to `left`. `first` is the first notice, or null if the call doesn't write
- * it. */
-void take_left(Table *self, rd_cache *cache, const rd_answer *answer, const rd_notice *first, Use **left) {
+/* Takes what left in the call out of the table, and appends it to the list, whose end it returns: there the next list is appended with no
+ * walk over this one. `first` is the first notice, or null if the call doesn't write it. */
+Use **take_left(Table *self, rd_cache *cache, const rd_answer *answer, const rd_notice *first, Use **left) {
     rd_notice notice;
-    if (!answer->notices) return;
+    if (!answer->notices) return left;
     while (*left) left = &(*left)->next;
     for (uint64_t i = 0; i < answer->notices; i++, left = &(*left)->next) {
         if (first && i == 0) notice = *first;
-        else if (rd_get_notice(cache, i, &notice)) return;
+        else if (rd_get_notice(cache, i, &notice)) return left;
         Use *use = (Use *)(uintptr_t)notice.token;
         unlink_use(self, use);
         use->cause = notice.cause, *left = use;
         self->counts.left[notice.cause - 1]++;
     }
+    return left;
+}
+
+/* Notes what left in a call that may have taken out a whole shard. The uses aren't touched: take_swept does that, a slice at a time. */
+void note_left(Table *self, rd_cache *cache, const rd_answer *answer, Swept *swept) {
+    rd_notice notice;
+    swept->at = swept->count = 0;
+    while (swept->count < answer->notices && !rd_get_notice(cache, swept->count, &notice)) {
+        swept->left[swept->count].use = (Use *)(uintptr_t)notice.token;
+        swept->left[swept->count].cause = notice.cause;
+        swept->count++;
+        self->counts.left[notice.cause - 1]++;
+    }
+    self->swept_entries += (Py_ssize_t)swept->count;
+}
+
+/* Takes the next slice of what was noted out of the table; of null, and once there is none, null. */
+Use *take_swept(Table *self, Swept *swept) {
+    Use *left = NULL, **end = &left;
+    for (int i = 0; swept && i < SLICE && swept->at < swept->count; i++) {
+        Use *use = swept->left[swept->at].use;
+        unlink_use(self, use);
+        use->cause = swept->left[swept->at++].cause;
+        self->swept_entries--;
+        *end = use;
+        end = &use->next;
+    }
+    return left;
 }
 
 /* Gives the entry the key of the one that it has replaced, if that is among what left: a store under an equal key keeps the first key, as in
@@ -130,24 +158,32 @@ PyObject *keep_first_key(Use *entry, const Use *left) {
     return own;
 }
 
-/* Closes the library's side. */
-void close_all(Table *self) {
-    for (uint64_t i = 0; i < self->shards; i++) rd_close(&self->caches[i]);
-    if (self->advice) rd_close_adviser(&self->advice->adviser);
+/* Closes the library's side of a shard; or behind the last one the adviser, which the calls of an open shard need. Once the first shard is
+ * closed, the table is. */
+void close_one(Table *self, uint64_t i) {
+    STEP
+    if (i < self->shards) rd_close(&self->caches[i]);
+    else if (self->advice) rd_close_adviser(&self->advice->adviser);
+    END_STEP
 }
 
-/* Closes the library's side. All entries have left, and the loads too if they are to. */
-Use *take_all(Table *self, int with_loads) {
+/* Of a closed table, takes the next entries from a bucket on, in a step of its own, and with_loads the loads too. */
+Use *take_slice(Table *self, uint64_t *at, int with_loads) {
     Use *left = NULL, *use, *next;
-    for (uint64_t i = 0; i <= self->mask; i++)
-        for (use = self->buckets[i]; use; use = next) {
+    const uint64_t end = *at + SLICE_BUCKETS;
+    STEP
+    for (int taken = 0; *at <= self->mask && *at < end && taken <= SLICE; ++*at)
+        for (use = self->buckets[*at]; use; use = next) {
             next = use->next;
             if (use->load && !with_loads) continue;
             unlink_use(self, use);
             if (use->load) use->load->use = NULL, use->load->is_open = 0;
             else self->counts.left[RD_EXPLICIT - 1]++;
-            use->cause = RD_EXPLICIT, use->next = left, left = use;
+            use->cause = RD_EXPLICIT;
+            use->next = left;
+            left = use;
+            taken++;
         }
-    close_all(self);
+    END_STEP
     return left;
 }
