@@ -3,15 +3,15 @@ from __future__ import annotations
 
 import logging
 import os
-from collections.abc import ItemsView, KeysView, Mapping, MutableMapping, ValuesView
+from collections.abc import Coroutine, ItemsView, KeysView, Mapping, MutableMapping, ValuesView
 from datetime import timedelta
 from typing import Any, Callable, Dict, Hashable, Iterable, Iterator, Optional, Tuple, TypeVar, Union
 
-from . import _fork, _keys
+from . import _cleaner, _fork, _keys
 from ._faults import Closed, Refused
 from ._loads import Loads
 from ._native import Load
-from ._settings import by_name, setup_of
+from ._settings import by_name, duration_of, setup_of
 from ._stats import Stats
 from ._views import Items, Keys, Values, each
 from ._waits import waits
@@ -42,7 +42,8 @@ class Cache(Loads[K, V]):
     `flights`       how many loads each shard may have open at a time; at most 4,096
     `bound`         how much the entries may weigh together
     `weigh`         weigh(key, value) returns a value's weight, a whole number; by default each weighs 1
-    `after_write`   an entry expires so long after it was written
+    `after_write`   an entry expires so long after it was written. It is never returned from then on, but stays until something removes it:
+                    docs/GUIDE.md, 'Entries that have expired', and clean_every
     `after_access`  an entry expires so long after it was used
     `refresh`       an entry is due for a further load so long after it was written, less than `after_write`
     `on_leave`      on_leave(key, value, cause) is called for each entry that leaves, in the thread whose call made it leave, after that
@@ -52,16 +53,18 @@ class Cache(Loads[K, V]):
     `seeded`        False: the library gets hash(key) as it is. Then strangers may not choose the keys
     """
 
+    _every: Optional[_cleaner.Every] = None
+
     @by_name
     def __init__(self, entries: int, *, window: Optional[int] = None, flights: int = 1024, bound: int = 1 << 48,
                  after_write: Duration = 0, after_access: Duration = 0, refresh: Duration = 0,
                  weigh: Optional[Callable[[K, V], int]] = None, on_leave: Optional[Callable[[K, V, str], object]] = None,
                  clock: Optional[Callable[[], int]] = None, seeded: bool = True, shards: Optional[int] = None,
                  adaptive: Optional[bool] = None) -> None:
-        setup, parts, self._entries, follows = setup_of({
+        setup, self._shards, self._entries, follows = setup_of({
             "entries": entries, "shards": shards, "window": window, "flights": flights, "bound": bound, "after_write": after_write,
             "after_access": after_access, "refresh": refresh}, adaptive)
-        self._open(setup, parts, self._entries if follows else 0, os.urandom(24) if seeded else None, _keys.SECRET, weigh, clock, on_leave,
+        self._open(setup, self._shards, self._entries if follows else 0, os.urandom(24) if seeded else None, _keys.SECRET, weigh, clock, on_leave,
                    _pause, _log, _keys.plain, _keys.secret_prime(), Load, Refused, timedelta, waits)
         _fork.watch(self)
 
@@ -142,6 +145,38 @@ class Cache(Loads[K, V]):
         """
         for key, value in _pairs_of(values):
             self.put(key, value)
+
+    def clean_every(self, duration: Duration) -> None:
+        """Has the cache cleaned every so often by a thread, until it is closed or dropped; 0: no longer.
+
+        `duration` is a whole number of milliseconds or a timedelta, in real time. The process has one such thread for all its caches, and a
+        forked child one of its own. on_leave runs in it, and so does `clock`: one that blocks lets all caches wait for it. What they raise is
+        logged. Each cleaning costs time for every entry, as clean() does. Raises BadSetup, TypeError, or RuntimeError if no thread can be
+        started. In a loop of asyncio use aclean_every.
+
+        >>> from datetime import timedelta
+        >>> cache.clean_every(timedelta(seconds=30))
+        >>> cache.clean_every(0)
+        """
+        milliseconds = duration_of("clean_every", duration)
+        self._every = _cleaner.Every(self, milliseconds / 1000) if milliseconds else None
+        if self._every is not None:
+            _cleaner.cleaner.ask(self._every)
+
+    def aclean_every(self, duration: Duration) -> Coroutine[Any, Any, None]:
+        """Returns a coroutine that cleans the cache every so often, until it is closed or dropped, or its task is cancelled.
+
+        It goes shard by shard, and other tasks run between. on_leave and `clock` run in the loop's thread.
+
+        >>> async def main():
+        ...     task = asyncio.create_task(cache.aclean_every(30_000))
+        ...     task.cancel()
+        >>> asyncio.run(main())
+        """
+        milliseconds = duration_of("aclean_every", duration)
+        if not milliseconds:
+            raise ValueError("aclean_every is 0, and has to be a duration")
+        return _cleaner.clean_in_loop(_cleaner.Every(self, milliseconds / 1000))
 
     def numbers(self) -> Dict[str, int]:
         """Returns the numbers of the library, by name, of all shards together.

@@ -4,7 +4,7 @@ from __future__ import annotations
 import os
 import threading
 import weakref
-from typing import Any
+from typing import Any, List
 
 from ._native import Table
 
@@ -17,9 +17,14 @@ def watch(cache: Table[Any, Any]) -> None:
     _caches[id(cache)] = cache
 
 
+def caches() -> List[Table[Any, Any]]:
+    """Returns the caches of this process."""
+    return list(_caches.values())
+
+
 def _after_in_child() -> None:
     ended = SystemExit("the thread that made the load is not in this process")
-    for cache in list(_caches.values()):
+    for cache in caches():
         cache._end_sweeps()
         for _, _, load in cache._uses():
             if load is not None and load.thread != threading.get_ident():

@@ -46,7 +46,7 @@ def setup_of(given: Dict[str, Any], adaptive: Any) -> Tuple[Tuple[int, ...], int
     Raises BadSetup with the name, the value and the range of a setting that is out of its range, and TypeError if one is no whole number
     (or timedelta, of a duration), or `adaptive` no truth value. The native part shares entries, window and bound out; parts differ by one at most.
     """
-    of = {name: _whole(name, number) for name, number in given.items() if number is not None or name not in MAY_BE_NONE}
+    of = {name: _whole(name, number, name in DURATIONS) for name, number in given.items() if number is not None or name not in MAY_BE_NONE}
     entries, shards, window = of["entries"], of.get("shards"), of.get("window")
     if shards is None:
         _check("entries", entries, 1, MOST_SHARDS * MOST_ENTRIES)
@@ -68,6 +68,13 @@ def setup_of(given: Dict[str, Any], adaptive: Any) -> Tuple[Tuple[int, ...], int
     return setup, shards, entries, follows
 
 
+def duration_of(name: str, given: Any) -> int:
+    """Returns the milliseconds of a duration. Raises BadSetup or TypeError, as setup_of does of a setting."""
+    number = _whole(name, given, True)
+    _check(name, number, 0, MOST_MILLISECONDS)
+    return number
+
+
 def _follows(adaptive: Any, entries: int, window: Optional[int]) -> bool:
     """Whether the windows follow the look-ups: as it is given, or by default if they can."""
     can = window is None and LEAST_ADVISED <= entries <= MOST_ADVISED
@@ -82,8 +89,7 @@ def _follows(adaptive: Any, entries: int, window: Optional[int]) -> bool:
     return adaptive
 
 
-def _whole(name: str, given: Any) -> int:
-    is_duration = name in DURATIONS
+def _whole(name: str, given: Any, is_duration: bool) -> int:
     if is_duration and isinstance(given, timedelta):
         return milliseconds(given)
     try:

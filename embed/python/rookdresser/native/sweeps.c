@@ -82,9 +82,9 @@ static PyObject *ended(Table *self, uint64_t fault, Raised *raised) {
     return NULL;
 }
 
-/* One call of the library on each shard, all at one moment. If the cache is closed meanwhile, that takes out the rest. */
-static PyObject *sweep(Table *self, SweepCall *sweep_call) {
-    uint64_t now, made = 0, fault = 0;
+/* One call of the library on each of these shards, all at one moment. If the cache is closed meanwhile, that takes out the rest. */
+static PyObject *sweep(Table *self, uint64_t first, uint64_t end, SweepCall *sweep_call) {
+    uint64_t now, fault = 0, at = first;
     Raised raised = {NULL, NULL, NULL};
     if (now_of(self, &now) < 0) return NULL;
     for (;;) {
@@ -92,12 +92,12 @@ static PyObject *sweep(Table *self, SweepCall *sweep_call) {
          * takes a tenth of a second. */
         Swept *swept = begin_swept(self);
         if (swept) make_way_between(self, &raised);
-        fault = sweep_shard(self, &self->caches[made], sweep_call, now, swept, &raised);
+        fault = sweep_shard(self, &self->caches[at], sweep_call, now, swept, &raised);
         end_swept(self, swept);
-        if (fault || ++made == self->shards) break;
+        if (fault || ++at == end) break;
         make_way_between(self, &raised);
     }
-    return ended(self, made && fault == RD_CLOSED ? 0 : fault, &raised);
+    return ended(self, at > first && fault == RD_CLOSED ? 0 : fault, &raised);
 }
 
 /* The next entry, from the bucket on at which the last search ended, that hasn't expired at this moment; null if there is none. */
@@ -138,8 +138,16 @@ static PyObject *table_popitem(Table *self, PyObject *none) {
     return item;
 }
 
-static PyObject *table_clear(Table *self, PyObject *none) { return (void)none, sweep(self, rd_clear); }
-static PyObject *table_clean(Table *self, PyObject *none) { return (void)none, sweep(self, rd_clean); }
+static PyObject *table_clear(Table *self, PyObject *none) { return (void)none, sweep(self, 0, self->shards, rd_clear); }
+static PyObject *table_clean(Table *self, PyObject *none) { return (void)none, sweep(self, 0, self->shards, rd_clean); }
+
+static PyObject *table_clean_shard(Table *self, PyObject *given) {
+    uint64_t shard;
+    Py_INCREF(given);
+    if (whole(given, 32, "the shard", &shard) < 0) return NULL;
+    if (shard >= self->shards) return PyErr_Format(PyExc_ValueError, "there is no such shard");
+    return sweep(self, shard, shard + 1, rd_clean);
+}
 
 static PyObject *table_close(Table *self, PyObject *none) {
     (void)none;
@@ -199,6 +207,7 @@ PyMethodDef sweep_methods[] = {
      ">>> cache.put(\"a\", 1)\n"
      ">>> cache.close()\n"
      "a 1 explicit"},
+    {"_clean_shard", METHOD(table_clean_shard), METH_O, "Takes every expired entry of a shard out."},
     {"_end_sweeps", METHOD(table_end_sweeps), METH_NOARGS, "Ends the calls of threads that aren't in this process, which took entries out."},
     {NULL, NULL, 0, NULL},
 };
