@@ -66,7 +66,8 @@ static inline rd_name rd_name_of(const void *bytes, size_t length) {
 }
 
 /* The settings of a cache. Each duration may be any number. A refresh that isn't below after_write never happens, since the
- * entry has expired by then. */
+ * entry has expired by then. An entry that has expired is never returned, but stays until something removes it:
+ * docs/GUIDE.md, 'Entries that have expired', says what does. */
 typedef struct rd_setup {
     uint32_t entries;      /* at most so many entries: 1 to 65,536 */
     uint32_t window;       /* so many of them in the window: 1 to entries; a hundredth is a good choice if the same keys stay popular */

@@ -21,7 +21,8 @@ type Setup struct {
 	Window  uint32 // how many of the entries the windows may hold, for good: 1 to Entries; 0 leaves it to Adaptive
 	Flights uint32 // how many loads may be open in a shard: 1 to 4,096; 0 stands for 1,024
 	Bound   uint64 // how much the entries may weigh together: 1 to 2^48 for each shard; 0 stands for 2^48 each
-	// How long after its last write, and after its last use, an entry expires.
+	// How long after its last write, and after its last use, an entry expires. It is never returned from then on, but stays until
+	// something removes it: docs/GUIDE.md, 'Entries that have expired', says what does.
 	AfterWrite, AfterAccess time.Duration
 	// How long after its last write an entry is due for another load: less than AfterWrite, if both are set.
 	Refresh time.Duration

@@ -44,6 +44,7 @@ impl Setup {
     }
 
     /// This setup with entries that expire so long after they were written, or never if that is zero. So it is of the other durations.
+    /// docs/GUIDE.md, 'Entries that have expired', says when they leave.
     ///
     /// ```
     /// use rookdresser::Setup;

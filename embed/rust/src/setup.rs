@@ -25,9 +25,10 @@ pub struct Setup {
     pub flights: u32,
     /// How much the entries may weigh together: 1 to 2^48.
     pub bound: u64,
-    /// An entry expires so long after it was written.
+    /// An entry expires so long after it was written. It is never returned from then on, but stays until something removes it:
+    /// docs/GUIDE.md, 'Entries that have expired', says what does.
     pub after_write: Duration,
-    /// An entry expires so long after it was used.
+    /// An entry expires so long after it was used; then as above.
     pub after_access: Duration,
     /// An entry is due for a further load so long after it was written: below `after_write`, if both are set.
     pub refresh: Duration,
