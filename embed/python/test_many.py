@@ -56,7 +56,7 @@ class Many(CacheTest):
         raise error
 
     def test_many_with_one_that_can_t_be_hashed_leaves_no_load_open(self):
-        with Cache(entries=100, flights=2) as cache:
+        with Cache(entries=100, flights=2, refuse_at_limit=True) as cache:
             with self.assertRaises(TypeError):
                 cache.get_many(["a", []], never)
             with self.assertRaises(Refused):
@@ -355,7 +355,7 @@ class ManyInTasks(CacheTest):
                     await cache.aget_many(keys, load)
                 self.assertEqual(cache.kept(), (0, 0))
 
-        with Cache(entries=100, flights=2) as cache:
+        with Cache(entries=100, flights=2, refuse_at_limit=True) as cache:
             self.run_in_loop(lambda: work(cache))
             with self.assertRaises(RuntimeError):
                 cache.aget_many(["a"], never).send(None)

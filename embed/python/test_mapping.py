@@ -107,7 +107,7 @@ class Mapping(CacheTest):
         closed.close()
         used = native.Load()
         cache._seek("a", used, None, None)
-        opened = (10, 1, 1, 1, 0, 0, 0), 1, 0, None, True, None, None, None, None, None, None, 7, native.Load, Refused, timedelta
+        opened = (10, 1, 1, 1, 0, 0, 0), 1, 0, None, True, False, None, None, None, None, None, None, 7, native.Load, Refused, timedelta
         calls = [
             lambda: native.Table().get_or_load("a", None), lambda: native.Table().look("a"), lambda: native.Table().put("a", 1), lambda: native.Table().pop("a"),
             lambda: native.Table().clear(), lambda: len(native.Table()), lambda: iter(native.Table()), lambda: iter(closed), lambda: native.Table()._numbers(), lambda: native.Table().window(), lambda: native.Table()._seek("a", used, None, None),

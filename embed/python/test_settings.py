@@ -45,7 +45,7 @@ class Settings(CacheTest):
     def test_the_signature_has_the_settings_by_name(self):
         kinds = {name: one.kind.name for name, one in inspect.signature(Cache).parameters.items()}
         self.assertEqual(kinds.pop("entries"), "POSITIONAL_OR_KEYWORD")
-        self.assertEqual((set(kinds.values()), list(kinds)[:2], len(kinds)), ({"KEYWORD_ONLY"}, ["window", "flights"], 12))
+        self.assertEqual((set(kinds.values()), list(kinds)[:2], len(kinds)), ({"KEYWORD_ONLY"}, ["window", "flights"], 13))
 
     def test_a_subclass_passes_settings_on(self):
         class Mine(Cache):
@@ -181,7 +181,7 @@ class Faults(CacheTest):
         """Each fault that a call can be brought to raise, with the calls."""
         closed = Cache(entries=10)
         closed.close()
-        heavy, narrow = Cache(entries=10, bound=5, weigh=lambda key, value: value), Cache(entries=10, flights=1)
+        heavy, narrow = Cache(entries=10, bound=5, weigh=lambda key, value: value), Cache(entries=10, flights=1, refuse_at_limit=True)
         for call in (lambda: Cache(entries=0), lambda: Cache(entries=10, refresh=5, after_write=5), lambda: Cache(entries=10, adaptive=True)):
             yield 2, call
         for call in (lambda: heavy.put("a", 6), lambda: heavy.setdefault("a", 6), lambda: heavy.update(a=6), lambda: heavy.__setitem__("a", 6)):

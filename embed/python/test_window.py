@@ -297,7 +297,7 @@ class Rules(WindowTest):
             rule.shard_of(number).call_land(rule.moment, as_key(number), load, "failed", ())
 
     def test_a_seek_that_is_refused_is_not_shown(self):
-        cache, rule, faults = Cache(entries=512, seeded=False, flights=1), Ruled(512), set()
+        cache, rule, faults = Cache(entries=512, seeded=False, flights=1, refuse_at_limit=True), Ruled(512), set()
 
         def load(key):
             opened = rule.seek(key)

@@ -40,6 +40,8 @@ class Cache(Loads[K, V]):
     `adaptive`      True: the window follows the look-ups, which takes 64 to 4,194,304 entries and no `window`. False: if no `window` is
                     given, it holds a hundredth of the entries. By default it follows them if it can
     `flights`       how many loads each shard may have open at a time; at most 4,096
+    `refuse_at_limit` True: a miss beyond that raises TooManyFlights. By default its caller loads without the cache: the value isn't shared
+                    with other callers, and isn't stored
     `bound`         how much the entries may weigh together
     `weigh`         weigh(key, value) returns a value's weight, a whole number; by default each weighs 1
     `after_write`   an entry expires so long after it was written. It is never returned from then on, but stays until something removes it:
@@ -60,12 +62,12 @@ class Cache(Loads[K, V]):
                  after_write: Duration = 0, after_access: Duration = 0, refresh: Duration = 0,
                  weigh: Optional[Callable[[K, V], int]] = None, on_leave: Optional[Callable[[K, V, str], object]] = None,
                  clock: Optional[Callable[[], int]] = None, seeded: bool = True, shards: Optional[int] = None,
-                 adaptive: Optional[bool] = None) -> None:
+                 adaptive: Optional[bool] = None, refuse_at_limit: bool = False) -> None:
         setup, self._shards, self._entries, follows = setup_of({
             "entries": entries, "shards": shards, "window": window, "flights": flights, "bound": bound, "after_write": after_write,
             "after_access": after_access, "refresh": refresh}, adaptive)
-        self._open(setup, self._shards, self._entries if follows else 0, os.urandom(24) if seeded else None, _keys.SECRET, weigh, clock, on_leave,
-                   _pause, _log, _keys.plain, _keys.secret_prime(), Load, Refused, timedelta, waits)
+        self._open(setup, self._shards, self._entries if follows else 0, os.urandom(24) if seeded else None, _keys.SECRET, refuse_at_limit, weigh, clock,
+                   on_leave, _pause, _log, _keys.plain, _keys.secret_prime(), Load, Refused, timedelta, waits)
         _fork.watch(self)
 
     def __enter__(self) -> Cache[K, V]:

@@ -73,9 +73,9 @@ class TooHeavy(Refused, ValueError):
 
 
 class TooManyFlights(Refused):
-    """As many loads are open in the key's shard as `flights` allows. Ask again once one has ended.
+    """As many loads are open in the key's shard as `flights` allows, and the cache has refuse_at_limit. Ask again once one has ended.
 
-    >>> cache = Cache(entries=10, flights=1)
+    >>> cache = Cache(entries=10, flights=1, refuse_at_limit=True)
     >>> try:
     ...     cache.get_many(["a", "b"], dict.fromkeys)
     ... except TooManyFlights as refused:

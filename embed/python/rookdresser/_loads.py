@@ -22,12 +22,14 @@ class LeftOut(KeyError):
 
 
 class Asked(Generic[K, V]):
-    """What a call for several keys has found, and the loads that it has begun: those that it makes, and those of others."""
+    """What a call for several keys has found, and the loads that it has begun: those that it makes, and those of others. The keys beside
+    are loaded without the cache."""
 
     def __init__(self) -> None:
         self.found: Dict[K, V] = {}
         self.mine: Dict[K, Load[V]] = {}
         self.others: Dict[K, Load[V]] = {}
+        self.beside: List[K] = []
         self.begun: List[Load[V]] = []
 
 
@@ -56,6 +58,8 @@ class Loads(Table[K, V]):
                     value, of = self._seek(key, mine, task, loop)
                     if of is None:
                         return value  # type: ignore[return-value]
+                    if of is False:
+                        return await _loaded(load, key)
                     if of is mine:
                         return await self._make(key, mine, load, ttl)
                 except BaseException as error:
@@ -85,9 +89,7 @@ class Loads(Table[K, V]):
     async def _make(self, key: K, mine: Load[V], load: Callable[[K], Union[V, Awaitable[V]]], ttl: Ttl[K, V]) -> V:
         """Makes a load in this task."""
         try:
-            loaded = load(key)
-            value: V = await loaded if inspect.isawaitable(loaded) else loaded
-            return self._land(mine, value, ttl)
+            return self._land(mine, await _loaded(load, key), ttl)
         except BaseException as error:
             if self._fail(mine, error):
                 return mine.old  # type: ignore[return-value]
@@ -106,7 +108,8 @@ class Loads(Table[K, V]):
     def get_many(self, keys: Iterable[K], load_many: Callable[[List[K]], Mapping[K, V]], timeout: Any = None) -> Dict[K, V]:
         """Returns the values of the keys that there are, by key. load_many(list of keys) is called once, for all that have none.
 
-        If these are more than may be loading (`flights`), it raises TooManyFlights and calls nothing: ask for fewer keys at a time.
+        If these are more than may be loading (`flights`), the rest is loaded in the same call, and neither shared nor stored; with
+        refuse_at_limit it raises TooManyFlights and calls nothing: ask for fewer keys at a time.
 
         A key that load_many leaves out isn't in what is returned, and nothing is stored for it. What load_many raises is raised here,
         and in all who share one of its loads. Loads that others make of these keys are waited for last, each for at most `timeout`
@@ -122,7 +125,7 @@ class Loads(Table[K, V]):
         try:
             try:
                 self._seek_many(keys, asked, None, waits.running_loop())
-                if asked.mine:
+                if asked.mine or asked.beside:
                     self._make_many(asked, load_many)
             except BaseException as error:
                 self._fail_all(asked.begun, error)
@@ -157,7 +160,7 @@ class Loads(Table[K, V]):
         try:
             try:
                 self._seek_many(keys, asked, task, loop)
-                if asked.mine:
+                if asked.mine or asked.beside:
                     await self._make_many_in_task(asked, load_many)
             except BaseException as error:
                 self._fail_all(asked.begun, error)
@@ -184,6 +187,8 @@ class Loads(Table[K, V]):
                 value, of = self._seek(key, asked.begun[-1], task, loop)
                 if of is None:
                     asked.found[key] = value  # type: ignore[assignment]
+                elif of is False:
+                    asked.beside.append(key)
                 else:
                     (asked.mine if of is asked.begun[-1] else asked.others)[key] = of
         finally:
@@ -192,7 +197,7 @@ class Loads(Table[K, V]):
     def _make_many(self, asked: Asked[K, V], load_many: Callable[[List[K]], Mapping[K, V]]) -> None:
         """Makes these loads together. If that fails, due entries keep their old values, and if there are others it is raised."""
         try:
-            loaded = load_many(list(asked.mine))
+            loaded = load_many([*asked.mine, *asked.beside])
             self._refuse_coroutine(loaded, "load_many returned a coroutine, and has to return a mapping: use aget_many")
         except Exception as error:
             if self._keeps_old(asked, error):
@@ -204,7 +209,7 @@ class Loads(Table[K, V]):
                                  load_many: Callable[[List[K]], Union[Mapping[K, V], Awaitable[Mapping[K, V]]]]) -> None:
         """Does the same in this task."""
         try:
-            told = load_many(list(asked.mine))
+            told = load_many([*asked.mine, *asked.beside])
             loaded = await told if inspect.isawaitable(told) else told
         except Exception as error:
             if self._keeps_old(asked, error):
@@ -215,7 +220,7 @@ class Loads(Table[K, V]):
     def _keeps_old(self, asked: Asked[K, V], error: Exception) -> bool:
         """Ends the loads with what load_many raised. Returns whether all were of entries that are due, whose values are returned then."""
         self._fail_all(asked.begun, error)
-        if not all(load.is_refresh for load in asked.mine.values()):
+        if asked.beside or not all(load.is_refresh for load in asked.mine.values()):
             return False
         asked.found.update((key, load.old) for key, load in asked.mine.items())  # type: ignore[misc]
         return True
@@ -227,6 +232,9 @@ class Loads(Table[K, V]):
                 asked.found[key] = self._land(asked.mine[key], loaded[key])
             elif self._fail(asked.mine[key], LeftOut(key)):
                 asked.found[key] = asked.mine[key].old  # type: ignore[assignment]
+        for key in asked.beside:
+            if key in loaded:
+                asked.found[key] = loaded[key]
 
     def _is_left(self, key: K, of: Load[V], found: Dict[K, V]) -> bool:
         """Takes the value of another's load that has ended. Returns whether the key has to be asked for again."""
@@ -245,6 +253,11 @@ class Loads(Table[K, V]):
         if isinstance(value, Coroutine):
             value.close()
             raise TypeError(why)
+
+
+async def _loaded(load: Callable[[K], Union[V, Awaitable[V]]], key: K) -> V:
+    told = load(key)
+    return await told if inspect.isawaitable(told) else told  # type: ignore[return-value]
 
 
 def _this_task() -> Tuple[asyncio.Task[Any], asyncio.AbstractEventLoop]:

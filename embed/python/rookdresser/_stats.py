@@ -17,3 +17,4 @@ class Stats(NamedTuple):
     replaced: int = 0
     expired: int = 0
     size: int = 0
+    beside: int = 0

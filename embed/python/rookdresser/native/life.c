@@ -92,12 +92,12 @@ static PyObject *opened_once(void) { return PyErr_Format(PyExc_ValueError, "a ca
 
 static PyObject *table_open(Table *self, PyObject *args) {
     PyObject *given, *of_shards, *seed, *weigh, *clock, *on_leave, *pauses, *log, *plain, *prime, *load_type, *refusal, *timedelta, *waits;
-    int hash_is_secret;
+    int hash_is_secret, refuses;
     unsigned int advised;
     uint64_t shards, fault;
     rd_setup setup;
-    if (!PyArg_ParseTuple(args, "O!OIOpOOOOOOO!O!OO!O", &PyTuple_Type, &given, &of_shards, &advised, &seed, &hash_is_secret, &weigh, &clock,
-                          &on_leave, &pauses, &log, &plain, &PyLong_Type, &prime, &PyType_Type, &load_type, &refusal, &PyType_Type, &timedelta, &waits))
+    if (!PyArg_ParseTuple(args, "O!OIOppOOOOOOO!O!OO!O", &PyTuple_Type, &given, &of_shards, &advised, &seed, &hash_is_secret, &refuses, &weigh,
+                          &clock, &on_leave, &pauses, &log, &plain, &PyLong_Type, &prime, &PyType_Type, &load_type, &refusal, &PyType_Type, &timedelta, &waits))
         return NULL;
     if (PyTuple_Size(given) != 7 || PyType_GetSlot((PyTypeObject *)load_type, Py_tp_new) != (void *)load_new
         || !is_of(waits, Py_tp_methods, waits_methods))
@@ -111,6 +111,7 @@ static PyObject *table_open(Table *self, PyObject *args) {
     if (take_seed(self, seed) < 0) return NULL;
     if (take_memory(self, &setup, shards, advised != 0) < 0) return raise_fault(refusal, RD_OUT_OF_MEMORY), NULL;
     self->hash_is_secret = (char)hash_is_secret;
+    self->refuses_at_limit = (char)refuses;
     self->room = share(setup.entries, 0, shards);
     self->load_type = given_or_null(load_type), self->refusal = given_or_null(refusal), self->waits = (Waits *)given_or_null(waits);
     self->log = given_or_null(log), self->plain = given_or_null(plain), self->prime = given_or_null(prime);

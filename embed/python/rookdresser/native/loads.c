@@ -16,8 +16,20 @@ static void open_load(Table *self, Load *load, PyObject *key, uint64_t hash, uin
     self->counts.refreshes += entry != NULL;
 }
 
-/* Looks the key up, and joins or opens a load. Returns RD_HIT, RD_JOIN or RD_LEAD, or -1 with an exception. `found` is the value, or the
- * load; of RD_LEAD it is `mine`, or else the table's spare one. */
+/* A miss that may open no load: it is looked up, so that it counts as any other, and its caller loads beside the cache. Returns a fault. */
+static SELDOM uint64_t miss_beside(Table *self, rd_cache *cache, uint64_t number, uint64_t now, Use **left) {
+    rd_answer answer;
+    uint64_t fault = rd_look(cache, number, now, &answer);
+    if (fault) return fault;
+    self->counts.misses++;
+    self->counts.beside++;
+    if (self->advice) note(self, number);
+    take_left(self, cache, &answer, NULL, left);
+    return 0;
+}
+
+/* Looks the key up, and joins or opens a load. Returns RD_HIT, RD_JOIN or RD_LEAD; or BESIDE; or -1 with an exception. `found` is the value,
+ * or the load, or null; of RD_LEAD it is `mine`, or else the table's spare one. */
 int seek(Table *self, PyObject *key, Load *mine, PyObject **found) {
     uint64_t now, hash, number, fault = 0;
     rd_answer answer;
@@ -53,13 +65,17 @@ int seek(Table *self, PyObject *key, Load *mine, PyObject **found) {
         }
         Py_INCREF(*found);
         take_left(self, cache, &answer, NULL, kind == RD_LEAD ? &load->left : &left);
+    } else if (fault == RD_TOO_MANY_FLIGHTS && !self->refuses_at_limit) {
+        *found = NULL;
+        fault = miss_beside(self, cache, number, now, &left);
+        if (!fault) kind = BESIDE;
     }
     if (!mine && !load->is_open && !self->spare) self->spare = load, load = NULL;
     END_STEP
     Py_XDECREF((PyObject *)load);
     if (fault) refuse(self, fault);
     if (kind >= 0 && left && tell(self, left) < 0) {
-        Py_DECREF(*found);
+        Py_XDECREF(*found);
         return -1;
     }
     return kind;
@@ -184,19 +200,35 @@ static PyObject *loaded(PyObject *key, const Loader *loader) {
                         : PyObject_CallFunctionObjArgs(loader->function, key, NULL);
 }
 
+static int not_callable(void) {
+    PyErr_SetString(PyExc_TypeError, "load has to be callable; for a default call get(key, default)");
+    return -1;
+}
+
+/* What the loader returns, which may be no coroutine. */
+static PyObject *loaded_once(Table *self, PyObject *key, const Loader *loader) {
+    const char *why = loader->args ? "the function returned a coroutine, and isn't an async function" : "load returned a coroutine: use aget_or_load";
+    PyObject *value = loaded(key, loader);
+    if (value && refuse_coroutine(self, value, why) < 0) Py_CLEAR(value);
+    return value;
+}
+
 static PyObject *made(Table *self, PyObject *key, Load *load, const Loader *loader) {
     if (!PyCallable_Check(loader->function)) {
-        if (abandon(self, load, "its caller had nothing to call") == 0)
-            PyErr_SetString(PyExc_TypeError, "load has to be callable; for a default call get(key, default)");
+        if (abandon(self, load, "its caller had nothing to call") == 0) not_callable();
         return NULL;
     }
     PyObject *loop = PyObject_CallMethod((PyObject *)self->waits, "running_loop", NULL);
     load->is_below_loop = loop == Py_None;
-    PyObject *value = loop ? loaded(key, loader) : NULL;
+    PyObject *value = loop ? loaded_once(self, key, loader) : NULL;
     Py_XDECREF(loop);
-    const char *why = loader->args ? "the function returned a coroutine, and isn't an async function" : "load returned a coroutine: use aget_or_load";
-    if (value && (refuse_coroutine(self, value, why) < 0 || land(self, load, value, loader->ttl) < 0)) Py_CLEAR(value);
+    if (value && land(self, load, value, loader->ttl) < 0) Py_CLEAR(value);
     return value ? value : failed(self, load);
+}
+
+/* Of a load that nobody shares, and whose value isn't stored. */
+static SELDOM PyObject *made_beside(Table *self, PyObject *key, const Loader *loader) {
+    return PyCallable_Check(loader->function) || not_callable() == 0 ? loaded_once(self, key, loader) : NULL;
 }
 
 /* The value of another's load that has ended, or null with its exception; null with none if the caller is to ask again.
@@ -222,6 +254,7 @@ PyObject *get(Table *self, PyObject *key, const Loader *loader, PyObject *timeou
         int kind = seek(self, key, NULL, &found);
         if (kind < 0) return NULL;
         if (kind == RD_HIT) return found;
+        if (kind == BESIDE) return made_beside(self, key, loader);
         if (kind == RD_LEAD) value = made(self, key, (Load *)found, loader);
         else if (wait_for(self, (Load *)found, timeout) == 0) value = shared((Load *)found);
         Py_DECREF(found);

@@ -25,6 +25,9 @@ enum { SLICE = 1000, SLICE_BUCKETS = 50000 };
 /* Of a function that is seldom called: it stays out of its caller, which needs fewer instructions then. */
 #define SELDOM __attribute__((noinline))
 
+/* What a seek returns, beside the kinds of the library's answers: the caller loads without the cache, since as many loads as may be are open. */
+enum { BESIDE = 100 };
+
 typedef struct Load Load;
 typedef struct Wait Wait;
 typedef struct Waits Waits;
@@ -97,7 +100,7 @@ struct Waits {
 
 /* The fields of _stats.py, in their order. */
 typedef struct {
-    uint64_t hits, misses, joins, loads, failed, refreshes, load_ns, loose, left[4];
+    uint64_t hits, misses, joins, loads, failed, refreshes, load_ns, loose, left[4], beside;
 } Counts;
 
 /* What lets the windows follow the look-ups. */
@@ -127,7 +130,7 @@ typedef struct {
     Py_ssize_t entries, loads; /* how many uses of each kind there are */
     Load *spare;               /* for the next load, so that no memory is asked for after its seek */
     uint64_t seed[2], mark;
-    char is_seeded, hash_is_secret;
+    char is_seeded, hash_is_secret, refuses_at_limit;
     PyObject *weigh, *clock, *on_leave; /* or null */
     PyObject *pause; /* lets other threads run */
     PyObject *log, *plain, *prime, *refusal, *load_type, *timedelta;

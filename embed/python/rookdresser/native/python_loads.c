@@ -21,6 +21,7 @@ static PyObject *table_seek(Table *self, PyObject *args) {
     mine->is_below_loop = task == Py_None && loop == Py_None;
     int kind = seek(self, key, mine, &found);
     if (kind < 0) return NULL;
+    if (kind == BESIDE) return PyTuple_Pack(2, Py_None, Py_False);
     pair = kind == RD_HIT ? PyTuple_Pack(2, found, Py_None) : PyTuple_Pack(2, Py_None, found);
     Py_DECREF(found);
     return pair;
@@ -77,7 +78,7 @@ static PyObject *table_shared(Table *self, PyObject *given) {
 PyMethodDef python_load_methods[] = {
     {"_seek", METHOD(table_seek), METH_VARARGS,
      "Looks the key up, and joins a load or opens the given one, of this task or else of this thread, with the loop that runs in it:\n"
-     "(value, None), or (None, the load)."},
+     "(value, None), or (None, the load); or (None, False) if the caller is to load beside the cache."},
     {"_land", METHOD(table_land), METH_VARARGS, "Ends an open load with a value, which has a ttl or None, and returns that."},
     {"_fail", METHOD(table_fail), METH_FASTCALL,
      "Ends a load, if it is open, with an exception. Returns whether the caller gets the old value."},
