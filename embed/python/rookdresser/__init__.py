@@ -13,10 +13,10 @@ except ModuleNotFoundError as error:
 from ._cache import Cache
 from ._decorator import CacheInfo, cached
 from ._faults import BadSetup, Closed, OutOfMemory, Refused, StepsSpent, TooHeavy, TooManyFlights
-from ._loads import LeftOut
+from ._loads import Abandoned, LeftOut, TimedOut
 from ._stats import Stats
 from ._waits import WaitsForItself
 
-__all__ = ["BadSetup", "Cache", "CacheInfo", "Closed", "LeftOut", "OutOfMemory", "Refused", "Stats", "StepsSpent", "TooHeavy", "TooManyFlights",
-           "WaitsForItself", "cached"]
+__all__ = ["Abandoned", "BadSetup", "Cache", "CacheInfo", "Closed", "LeftOut", "OutOfMemory", "Refused", "Stats", "StepsSpent", "TimedOut", "TooHeavy",
+           "TooManyFlights",            "WaitsForItself", "cached"]
 __version__ = "0.2.0.dev0"

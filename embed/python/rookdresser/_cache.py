@@ -9,7 +9,7 @@ from typing import Any, Callable, Dict, Hashable, Iterable, Iterator, Optional, 
 
 from . import _cleaner, _fork, _keys
 from ._faults import Closed, Refused
-from ._loads import Loads
+from ._loads import Abandoned, Loads, TimedOut
 from ._native import Load
 from ._settings import by_name, duration_of, setup_of
 from ._stats import Stats
@@ -42,6 +42,7 @@ class Cache(Loads[K, V]):
     `flights`       how many loads each shard may have open at a time; at most 4,096
     `refuse_at_limit` True: a miss beyond that raises TooManyFlights. By default its caller loads without the cache: the value isn't shared
                     with other callers, and isn't stored
+    `load_timeout`  a load is given up so long after the call that began it, by `clock`: all who wait for it get TimedOut. By default never
     `bound`         how much the entries may weigh together
     `weigh`         weigh(key, value) returns a value's weight, a whole number; by default each weighs 1
     `after_write`   an entry expires so long after it was written. It is never returned from then on, but stays until something removes it:
@@ -62,12 +63,14 @@ class Cache(Loads[K, V]):
                  after_write: Duration = 0, after_access: Duration = 0, refresh: Duration = 0,
                  weigh: Optional[Callable[[K, V], int]] = None, on_leave: Optional[Callable[[K, V, str], object]] = None,
                  clock: Optional[Callable[[], int]] = None, seeded: bool = True, shards: Optional[int] = None,
-                 adaptive: Optional[bool] = None, refuse_at_limit: bool = False) -> None:
+                 adaptive: Optional[bool] = None, refuse_at_limit: bool = False,
+                 load_timeout: Duration = 0) -> None:
         setup, self._shards, self._entries, follows = setup_of({
             "entries": entries, "shards": shards, "window": window, "flights": flights, "bound": bound, "after_write": after_write,
             "after_access": after_access, "refresh": refresh}, adaptive)
-        self._open(setup, self._shards, self._entries if follows else 0, os.urandom(24) if seeded else None, _keys.SECRET, refuse_at_limit, weigh, clock,
-                   on_leave, _pause, _log, _keys.plain, _keys.secret_prime(), Load, Refused, timedelta, waits)
+        self._open(setup, self._shards, self._entries if follows else 0, os.urandom(24) if seeded else None, _keys.SECRET, refuse_at_limit,
+                   duration_of("load_timeout", load_timeout), weigh, clock, on_leave, _pause, _log, _keys.plain, _keys.secret_prime(), Load, Refused, timedelta, waits,
+                   TimedOut, Abandoned)
         _fork.watch(self)
 
     def __enter__(self) -> Cache[K, V]:

@@ -21,6 +21,34 @@ class LeftOut(KeyError):
     """The function that get_many was given returned nothing for the key. Callers that share the key's load by another call get this."""
 
 
+class TimedOut(TimeoutError):
+    """The load took longer than `load_timeout`, and was given up. The next caller loads anew.
+
+    >>> now = 0
+    >>> cache = Cache(entries=10, load_timeout=5, clock=lambda: now)
+    >>> def load(key):
+    ...     global now
+    ...     now = 5
+    ...     return cache.get_or_load(key, str.upper)
+    >>> try:
+    ...     cache.get_or_load("a", load)
+    ... except TimedOut as error:
+    ...     print(error, cache["a"])
+    the load of the key took longer than load_timeout A
+    """
+
+
+class Abandoned(RuntimeError):
+    """The load was given up by abandon(key). The next caller loads anew.
+
+    >>> try:
+    ...     cache.get_or_load("a", cache.abandon)
+    ... except Abandoned as error:
+    ...     print(error)
+    the load of the key was abandoned
+    """
+
+
 class Asked(Generic[K, V]):
     """What a call for several keys has found, and the loads that it has begun: those that it makes, and those of others. The keys beside
     are loaded without the cache."""
@@ -89,7 +117,9 @@ class Loads(Table[K, V]):
     async def _make(self, key: K, mine: Load[V], load: Callable[[K], Union[V, Awaitable[V]]], ttl: Ttl[K, V]) -> V:
         """Makes a load in this task."""
         try:
-            return self._land(mine, await _loaded(load, key), ttl)
+            loaded = load(key)
+            value: V = await loaded if inspect.isawaitable(loaded) else loaded
+            return self._land(mine, value, ttl)
         except BaseException as error:
             if self._fail(mine, error):
                 return mine.old  # type: ignore[return-value]
@@ -100,7 +130,7 @@ class Loads(Table[K, V]):
     async def _wait_in_loop(self, of: Load[V], task: asyncio.Task[Any]) -> None:
         """Waits in this task until another's load ends. One that nobody will end ends here."""
         try:
-            if await wait_in_loop(of, task):
+            if await wait_in_loop(of, task, self._time_left):
                 self._fail(of, SystemExit("the task that made the load is done, or its loop is closed"))
         finally:
             del task, of
@@ -226,15 +256,25 @@ class Loads(Table[K, V]):
         return True
 
     def _land_many(self, asked: Asked[K, V], loaded: Mapping[K, V]) -> None:
-        """Ends each load with its key's value, or as left out."""
+        """Ends each load with its key's value, or as left out. If one was given up, that is raised once all have ended."""
+        given_up: List[Exception] = []
         for key in asked.mine:
             if key in loaded:
-                asked.found[key] = self._land(asked.mine[key], loaded[key])
+                try:
+                    asked.found[key] = self._land(asked.mine[key], loaded[key])
+                except (TimedOut, Abandoned) as error:
+                    given_up.append(error)
             elif self._fail(asked.mine[key], LeftOut(key)):
                 asked.found[key] = asked.mine[key].old  # type: ignore[assignment]
         for key in asked.beside:
             if key in loaded:
                 asked.found[key] = loaded[key]
+        if given_up:
+            try:
+                raise given_up[0]
+            finally:
+                # The exception's traceback keeps this frame.
+                given_up.clear()
 
     def _is_left(self, key: K, of: Load[V], found: Dict[K, V]) -> bool:
         """Takes the value of another's load that has ended. Returns whether the key has to be asked for again."""

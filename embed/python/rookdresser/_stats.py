@@ -18,3 +18,5 @@ class Stats(NamedTuple):
     expired: int = 0
     size: int = 0
     beside: int = 0
+    given_up: int = 0
+    late: int = 0

@@ -6,7 +6,7 @@ import functools
 import weakref
 from sys import is_finalizing
 from threading import get_ident
-from typing import Any, Iterator, List, Optional, Set, Tuple, Union
+from typing import Any, Callable, Iterator, List, Optional, Set, Tuple, Union
 
 from . import _native
 
@@ -112,8 +112,11 @@ class TaskWait(_native.TaskWait):
 waits = Waits()
 
 
-async def wait_in_loop(load: _native.Load[Any], task: asyncio.Future[Any]) -> bool:
+async def wait_in_loop(load: _native.Load[Any], task: asyncio.Future[Any],
+                       time_left: Callable[[_native.Load[Any]], Optional[float]] = lambda load: None) -> bool:
     """Waits in this task until the load ends, while the loop goes on. Returns True if nobody will ever end it.
+
+    time_left(load) returns for how many seconds it may go on, or None for ever; if it is 0, the load has ended.
 
     The task looks again after one second, two, four, and so on up to a minute: a circle may close, or a loop be closed, later on.
     """
@@ -123,7 +126,9 @@ async def wait_in_loop(load: _native.Load[Any], task: asyncio.Future[Any]) -> bo
         while not load.is_over:
             if waits.check(load, task, serial):
                 return True
-            await wait.pause(seconds)
+            left = time_left(load)
+            if left is None or left > 0:
+                await wait.pause(seconds if left is None else min(seconds, left))
             seconds = min(60.0, 2 * seconds)
         return False
     finally:

@@ -25,7 +25,7 @@ static int look(Table *self, PyObject *key, int takes, PyObject **value) {
         *value = is_there ? ((Use *)(uintptr_t)answer.token)->value : NULL;
         Py_XINCREF(*value);
         if (self->advice) note(self, number);
-        take_left(self, cache, &answer, NULL, &left);
+        if (answer.notices) take_left(self, cache, &answer, NULL, &left);
         if (takes && !rd_drop_key(cache, number, now, &answer)) take_left(self, cache, &answer, NULL, &left);
     }
     END_STEP

@@ -91,13 +91,15 @@ static PyObject *given_or_null(PyObject *given) {
 static PyObject *opened_once(void) { return PyErr_Format(PyExc_ValueError, "a cache is opened once, by Cache(..)"); }
 
 static PyObject *table_open(Table *self, PyObject *args) {
-    PyObject *given, *of_shards, *seed, *weigh, *clock, *on_leave, *pauses, *log, *plain, *prime, *load_type, *refusal, *timedelta, *waits;
+    PyObject *given, *of_shards, *seed, *weigh, *clock, *on_leave, *pauses, *log, *plain, *prime, *load_type, *refusal, *timedelta, *waits, *timed_out, *abandoned;
     int hash_is_secret, refuses;
+    unsigned long long load_timeout;
     unsigned int advised;
     uint64_t shards, fault;
     rd_setup setup;
-    if (!PyArg_ParseTuple(args, "O!OIOppOOOOOOO!O!OO!O", &PyTuple_Type, &given, &of_shards, &advised, &seed, &hash_is_secret, &refuses, &weigh,
-                          &clock, &on_leave, &pauses, &log, &plain, &PyLong_Type, &prime, &PyType_Type, &load_type, &refusal, &PyType_Type, &timedelta, &waits))
+    if (!PyArg_ParseTuple(args, "O!OIOppKOOOOOOO!O!OO!OOO", &PyTuple_Type, &given, &of_shards, &advised, &seed, &hash_is_secret, &refuses, &load_timeout,
+                          &weigh, &clock, &on_leave, &pauses, &log, &plain, &PyLong_Type, &prime, &PyType_Type, &load_type, &refusal,
+                          &PyType_Type, &timedelta, &waits, &timed_out, &abandoned))
         return NULL;
     if (PyTuple_Size(given) != 7 || PyType_GetSlot((PyTypeObject *)load_type, Py_tp_new) != (void *)load_new
         || !is_of(waits, Py_tp_methods, waits_methods))
@@ -112,6 +114,8 @@ static PyObject *table_open(Table *self, PyObject *args) {
     if (take_memory(self, &setup, shards, advised != 0) < 0) return raise_fault(refusal, RD_OUT_OF_MEMORY), NULL;
     self->hash_is_secret = (char)hash_is_secret;
     self->refuses_at_limit = (char)refuses;
+    self->load_timeout = load_timeout;
+    self->timed_out = given_or_null(timed_out), self->abandoned = given_or_null(abandoned);
     self->room = share(setup.entries, 0, shards);
     self->load_type = given_or_null(load_type), self->refusal = given_or_null(refusal), self->waits = (Waits *)given_or_null(waits);
     self->log = given_or_null(log), self->plain = given_or_null(plain), self->prime = given_or_null(prime);
@@ -132,6 +136,8 @@ static int table_traverse(Table *self, visitproc visit, void *arg) {
     Py_VISIT(self->plain);
     Py_VISIT(self->load_type);
     Py_VISIT(self->timedelta);
+    Py_VISIT(self->timed_out);
+    Py_VISIT(self->abandoned);
     Py_VISIT(self->refusal);
     Py_VISIT((PyObject *)self->waits);
     Py_VISIT((PyObject *)self->spare);
@@ -185,6 +191,8 @@ static void table_dealloc(Table *self) {
     Py_CLEAR(self->prime);
     Py_CLEAR(self->load_type);
     Py_CLEAR(self->timedelta);
+    Py_CLEAR(self->timed_out);
+    Py_CLEAR(self->abandoned);
     Py_CLEAR(self->refusal);
     Py_XDECREF((PyObject *)self->waits);
     if (self->buckets != &self->one_bucket) PyMem_Free(self->buckets);
@@ -209,7 +217,7 @@ static PyMethodDef life_methods[] = {
 };
 
 /* All methods, in one list: module.c joins them before it makes the type. */
-static PyMethodDef all_methods[40];
+static PyMethodDef all_methods[60];
 
 static PyType_Slot table_slots[] = {
     {Py_tp_doc, "What a cache keeps, and its calls."},
@@ -228,7 +236,7 @@ static PyType_Slot table_slots[] = {
 PyType_Spec table_spec = {"rookdresser._native.Table", sizeof(Table), 0, BASE_WITH_GC, table_slots};
 
 void join_methods(void) {
-    PyMethodDef *const parts[] = {call_methods, sweep_methods, python_load_methods, held_methods, life_methods}, *to = all_methods;
+    PyMethodDef *const parts[] = {call_methods, given_up_methods, sweep_methods, python_load_methods, held_methods, life_methods}, *to = all_methods;
     for (size_t i = 0; i < sizeof parts / sizeof *parts; i++)
         for (PyMethodDef *from = parts[i]; from->ml_name; from++) *to++ = *from;
     *to = (PyMethodDef){NULL, NULL, 0, NULL};

@@ -13,19 +13,28 @@ static void open_load(Table *self, Load *load, PyObject *key, uint64_t hash, uin
     Py_INCREF(key);
     Py_INCREF((PyObject *)load);
     link_use(self, load->use, hash, number);
+    link_load(self, load);
     self->counts.refreshes += entry != NULL;
 }
 
-/* A miss that may open no load: it is looked up, so that it counts as any other, and its caller loads beside the cache. Returns a fault. */
-static SELDOM uint64_t miss_beside(Table *self, rd_cache *cache, uint64_t number, uint64_t now, Use **left) {
+/* What a seek returns that the library has refused: -1; or BESIDE if as many loads as may be are open. Such a miss is looked up, so that it
+ * counts as any other. */
+static SELDOM int seek_refused(Table *self, uint64_t fault, uint64_t number, uint64_t now, PyObject **found) {
     rd_answer answer;
-    uint64_t fault = rd_look(cache, number, now, &answer);
-    if (fault) return fault;
-    self->counts.misses++;
-    self->counts.beside++;
-    if (self->advice) note(self, number);
-    take_left(self, cache, &answer, NULL, left);
-    return 0;
+    Use *left = NULL;
+    if (fault != RD_TOO_MANY_FLIGHTS || self->refuses_at_limit) return refuse(self, fault), -1;
+    *found = NULL;
+    STEP
+    rd_cache *cache = shard_of(self, number);
+    if (!(fault = rd_look(cache, number, now, &answer))) {
+        self->counts.misses++;
+        self->counts.beside++;
+        if (self->advice) note(self, number);
+        take_left(self, cache, &answer, NULL, &left);
+    }
+    END_STEP
+    if (fault) return refuse(self, fault), -1;
+    return tell(self, left) < 0 ? -1 : BESIDE;
 }
 
 /* Looks the key up, and joins or opens a load. Returns RD_HIT, RD_JOIN or RD_LEAD; or BESIDE; or -1 with an exception. `found` is the value,
@@ -36,6 +45,7 @@ int seek(Table *self, PyObject *key, Load *mine, PyObject **found) {
     Use *left = NULL;
     int kind = -1;
     if (now_of(self, &now) < 0 || hash_of(self, key, &hash) < 0) return -1;
+    if (self->load_timeout && give_up_overdue(self, now) < 0) return -1;
     Load *load = mine;
     Py_XINCREF((PyObject *)mine);
     STEP
@@ -64,18 +74,14 @@ int seek(Table *self, PyObject *key, Load *mine, PyObject **found) {
             kind = RD_LEAD;
         }
         Py_INCREF(*found);
-        take_left(self, cache, &answer, NULL, kind == RD_LEAD ? &load->left : &left);
-    } else if (fault == RD_TOO_MANY_FLIGHTS && !self->refuses_at_limit) {
-        *found = NULL;
-        fault = miss_beside(self, cache, number, now, &left);
-        if (!fault) kind = BESIDE;
+        if (answer.notices) take_left(self, cache, &answer, NULL, kind == RD_LEAD ? &load->left : &left);
     }
     if (!mine && !load->is_open && !self->spare) self->spare = load, load = NULL;
     END_STEP
     Py_XDECREF((PyObject *)load);
-    if (fault) refuse(self, fault);
+    if (fault) return seek_refused(self, fault, number, now, found);
     if (kind >= 0 && left && tell(self, left) < 0) {
-        Py_XDECREF(*found);
+        Py_DECREF(*found);
         return -1;
     }
     return kind;
@@ -85,6 +91,7 @@ int seek(Table *self, PyObject *key, Load *mine, PyObject **found) {
 static Use *end_load(Table *self, Load *load) {
     Use *use = load->use;
     unlink_use(self, use);
+    unlink_load(self, load);
     use->load = NULL, load->use = NULL, load->is_open = 0, load->is_over = 1;
     self->counts.load_ns += (uint64_t)(nanoseconds() - load->begun);
     return use;
@@ -101,8 +108,8 @@ static int told_of(Table *self, Load *load, Use *left) {
     return rang < 0 || told < 0 ? -1 : 0;
 }
 
-/* Ends the load without a value, if it is open. Returns 1 if it was a refresh, whose caller gets the old value, else 0; -1 if on_leave or
- * an interrupt raised. */
+/* Ends the load without a value, if it is open. Returns 1 if it was a refresh, whose caller gets the old value, also if it was given up
+ * before; else 0; -1 if on_leave or an interrupt raised. */
 int fail(Table *self, Load *load, PyObject *error) {
     Use *use = NULL, *left = NULL;
     PyObject *trace = PyExceptionInstance_Check(error) ? PyException_GetTraceback(error) : NULL;
@@ -120,14 +127,14 @@ int fail(Table *self, Load *load, PyObject *error) {
     }
     END_STEP
     Py_XDECREF(trace);
-    if (!use) return 0;
+    if (!use) return load->is_given_up && load->is_refresh && PyErr_GivenExceptionMatches(error, PyExc_Exception);
     int is_old = load->is_refresh && PyErr_GivenExceptionMatches(error, PyExc_Exception);
     free_uses(use);
     return told_of(self, load, left) < 0 ? -1 : is_old;
 }
 
-/* Ends the load with a value, which is stored if it may be. -1 with an exception: of weigh or ttl, and the load is open; or else of
- * on_leave. */
+/* Ends the load with a value, which is stored if it may be: 0; 1 if the load was given up before. -1 with an exception: of weigh or ttl, and
+ * the load is open; or else of on_leave. */
 int land(Table *self, Load *load, PyObject *value, PyObject *ttl) {
     Use *use = NULL, *stored = NULL, *left = NULL;
     PyObject *key = NULL, *own = NULL;
@@ -138,7 +145,7 @@ int land(Table *self, Load *load, PyObject *value, PyObject *ttl) {
     if (load->is_open && load->table == self) key = load->use->key;
     Py_XINCREF(key);
     END_STEP
-    if (!key) return 0; /* it has ended already */
+    if (!key) return load->is_given_up; /* it has ended already */
     int asked = weight_of(self, key, value, &weight);
     if (asked == 0 && ttl) asked = life_of(self, ttl, key, value, &life);
     Py_DECREF(key);
@@ -174,7 +181,7 @@ int land(Table *self, Load *load, PyObject *value, PyObject *ttl) {
     END_STEP
     Py_XDECREF(own);
     free_uses(use);
-    return has_ended ? told_of(self, load, left) : 0;
+    return has_ended ? told_of(self, load, left) : load->is_given_up;
 }
 
 /* Ends this caller's load with the exception that is raised. Returns what the caller then returns. */
@@ -215,15 +222,17 @@ static PyObject *loaded_once(Table *self, PyObject *key, const Loader *loader) {
 
 static PyObject *made(Table *self, PyObject *key, Load *load, const Loader *loader) {
     if (!PyCallable_Check(loader->function)) {
-        if (abandon(self, load, "its caller had nothing to call") == 0) not_callable();
+        if (forsake(self, load, "its caller had nothing to call") == 0) not_callable();
         return NULL;
     }
     PyObject *loop = PyObject_CallMethod((PyObject *)self->waits, "running_loop", NULL);
     load->is_below_loop = loop == Py_None;
     PyObject *value = loop ? loaded_once(self, key, loader) : NULL;
     Py_XDECREF(loop);
-    if (value && land(self, load, value, loader->ttl) < 0) Py_CLEAR(value);
-    return value ? value : failed(self, load);
+    int landed = value ? land(self, load, value, loader->ttl) : -1;
+    if (landed == 0) return value;
+    Py_XDECREF(value);
+    return landed < 0 ? failed(self, load) : dropped(self, load);
 }
 
 /* Of a load that nobody shares, and whose value isn't stored. */

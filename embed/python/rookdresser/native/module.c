@@ -12,6 +12,7 @@
  *     held.c    what a table holds                        calls.c         the calls by key
  *     advice.c  how the windows follow the look-ups       sweeps.c        what takes entries out of the whole table
  *     life.c    how a table is opened, and its end        function.c      a cached function
+ *     given_up.c  loads that take too long, or are abandoned
  *     durations.c  lives and time-outs, which are numbers or timedeltas */
 #include "native.h"
 

@@ -75,7 +75,9 @@ struct Load {
     Waits *graph;
     Wait *waits;         /* all who wait for it */
     Load *next, *before; /* of the loads that somebody waits for */
+    Load *older, *newer; /* of the table's open loads */
     char is_open, is_over, is_refresh;
+    char is_given_up;    /* before its loader returned, by load_timeout or abandon */
     char is_below_loop;  /* a thread makes it, in which no loop ran as it began: so one that runs there now was begun by its loader */
 };
 
@@ -100,7 +102,7 @@ struct Waits {
 
 /* The fields of _stats.py, in their order. */
 typedef struct {
-    uint64_t hits, misses, joins, loads, failed, refreshes, load_ns, loose, left[4], beside;
+    uint64_t hits, misses, joins, loads, failed, refreshes, load_ns, loose, left[4], beside, given_up, late;
 } Counts;
 
 /* What lets the windows follow the look-ups. */
@@ -128,12 +130,14 @@ typedef struct {
     Swept *swept;              /* what calls are about to take out */
     Py_ssize_t swept_entries;  /* and how many of `entries` that are */
     Py_ssize_t entries, loads; /* how many uses of each kind there are */
+    Load *oldest, *newest;     /* of the open loads, by when they were opened */
+    uint64_t load_timeout;     /* how many milliseconds one may take; 0: any */
     Load *spare;               /* for the next load, so that no memory is asked for after its seek */
     uint64_t seed[2], mark;
     char is_seeded, hash_is_secret, refuses_at_limit;
     PyObject *weigh, *clock, *on_leave; /* or null */
     PyObject *pause; /* lets other threads run */
-    PyObject *log, *plain, *prime, *refusal, *load_type, *timedelta;
+    PyObject *log, *plain, *prime, *refusal, *load_type, *timedelta, *timed_out, *abandoned;
     Waits *waits;
     Counts counts;
     uint64_t refused[FAULTS];
@@ -200,17 +204,24 @@ PyObject *failed(Table *self, Load *load);
 PyObject *shared(Load *load);
 PyObject *get(Table *self, PyObject *key, const Loader *loader, PyObject *timeout);
 
+/* given_up.c: loads that take too long, or are abandoned. */
+void link_load(Table *self, Load *load);
+void unlink_load(Table *self, Load *load);
+int give_up_overdue(Table *self, uint64_t now);
+long long time_left(Table *self, Load *load, long long most);
+PyObject *dropped(Table *self, Load *load);
+
 /* waits.c: who waits for which load. */
 void link_wait(Waits *self, Load *load, Wait *wait);
 void unlink_wait(Wait *wait);
 int ring(Load *load);
-int abandon(Table *self, Load *load, const char *why);
+int forsake(Table *self, Load *load, const char *why);
 int wait_for(Table *self, Load *load, PyObject *timeout);
 
 /* The methods and types, for module.c. */
 PyObject *load_new(PyTypeObject *type, PyObject *args, PyObject *names);
 PyObject *table_new(PyTypeObject *type, PyObject *args, PyObject *names);
-extern PyMethodDef call_methods[], sweep_methods[], python_load_methods[], held_methods[], waits_methods[], duration_functions[];
+extern PyMethodDef call_methods[], given_up_methods[], sweep_methods[], python_load_methods[], held_methods[], waits_methods[], duration_functions[];
 extern PyType_Spec table_spec, load_spec, waits_spec, task_wait_spec, function_spec;
 PyObject *table_item(Table *self, PyObject *key);
 int table_set_item(Table *self, PyObject *key, PyObject *value);

@@ -31,7 +31,9 @@ static PyObject *table_land(Table *self, PyObject *args) {
     PyObject *load, *value, *ttl = NULL;
     static const char why[] = "the loaded value is a coroutine, which could be awaited once";
     if (!PyArg_ParseTuple(args, "OO|O", &load, &value, &ttl) || !own(self, load)) return NULL;
-    if (refuse_coroutine(self, value, why) < 0 || land(self, (Load *)load, value, ttl) < 0) return NULL;
+    if (refuse_coroutine(self, value, why) < 0) return NULL;
+    int landed = land(self, (Load *)load, value, ttl);
+    if (landed) return landed < 0 ? NULL : dropped(self, (Load *)load);
     Py_INCREF(value);
     return value;
 }
@@ -79,7 +81,8 @@ PyMethodDef python_load_methods[] = {
     {"_seek", METHOD(table_seek), METH_VARARGS,
      "Looks the key up, and joins a load or opens the given one, of this task or else of this thread, with the loop that runs in it:\n"
      "(value, None), or (None, the load); or (None, False) if the caller is to load beside the cache."},
-    {"_land", METHOD(table_land), METH_VARARGS, "Ends an open load with a value, which has a ttl or None, and returns that."},
+    {"_land", METHOD(table_land), METH_VARARGS, "Ends an open load with a value, which has a ttl or None, and returns that. Of a load that was given up it raises why, or returns the old\n"
+     "value of a refresh."},
     {"_fail", METHOD(table_fail), METH_FASTCALL,
      "Ends a load, if it is open, with an exception. Returns whether the caller gets the old value."},
     {"_fail_all", METHOD(table_fail_all), METH_FASTCALL, "Ends each load of a list that is open with an exception."},

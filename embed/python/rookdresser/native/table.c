@@ -167,6 +167,13 @@ void close_one(Table *self, uint64_t i) {
     END_STEP
 }
 
+/* A load that nobody will end. */
+static void forget_load(Table *self, Load *load) {
+    unlink_load(self, load);
+    load->use = NULL;
+    load->is_open = 0;
+}
+
 /* Of a closed table, takes the next entries from a bucket on, in a step of its own, and with_loads the loads too. */
 Use *take_slice(Table *self, uint64_t *at, int with_loads) {
     Use *left = NULL, *use, *next;
@@ -177,7 +184,7 @@ Use *take_slice(Table *self, uint64_t *at, int with_loads) {
             next = use->next;
             if (use->load && !with_loads) continue;
             unlink_use(self, use);
-            if (use->load) use->load->use = NULL, use->load->is_open = 0;
+            if (use->load) forget_load(self, use->load);
             else self->counts.left[RD_EXPLICIT - 1]++;
             use->cause = RD_EXPLICIT;
             use->next = left;

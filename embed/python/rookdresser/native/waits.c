@@ -109,7 +109,7 @@ static int sleep_on(PyThread_type_lock lock, long long microseconds) {
 }
 
 /* Ends a load that nobody will end. Those who wait for it ask again. */
-int abandon(Table *self, Load *load, const char *why) {
+int forsake(Table *self, Load *load, const char *why) {
     PyObject *ended = PyObject_CallFunction(PyExc_SystemExit, "s", why);
     if (!ended) return -1;
     int failed = fail(self, load, ended);
@@ -123,9 +123,10 @@ static int wait_linked(Table *self, Load *load, Wait *wait, PyObject *timeout) {
     if (end == -2) return -1;
     while (!load->is_over) {
         int left = checked(load->graph, load, wait);
-        if (left) return left < 0 ? -1 : abandon(self, load, "the task that made the load is done, or its loop is closed");
+        if (left) return left < 0 ? -1 : forsake(self, load, "the task that made the load is done, or its loop is closed");
         long long rest = end < 0 ? pause : (end - nanoseconds()) / 1000 + 1;
-        int woken = sleep_on(wait->lock, rest < 0 ? 0 : rest < pause ? rest : pause);
+        if ((rest = time_left(self, load, rest < 0 ? 0 : rest < pause ? rest : pause)) < 0) return -1;
+        int woken = sleep_on(wait->lock, rest);
         if (woken) return woken < 0 ? -1 : 0;
         if (end >= 0 && nanoseconds() >= end && !load->is_over) {
             PyErr_Format(PyExc_TimeoutError, "the load of the key took longer than %S%s", timeout, is_timedelta(self, timeout) > 0 ? "" : " s");
