@@ -178,3 +178,14 @@ func TestAPutInPlaceBesideOtherCallsHasAnOrder(t *testing.T) {
 		t.Fatal(orders)
 	}
 }
+
+// A put in place leaves the word as it was, so a hit that moves the time can't tell whether one came in between. If the hit returned the
+// value of before, it would come before the put, and key 3 would have expired for the look-up after the put.
+func TestAHitOfALaterMomentBesideAPutInPlaceHasAnOrder(t *testing.T) {
+	defer tellMore()()
+	looks, puts := []call{{"put for 10 ms", 3, 8}, {"look", 1, 20}}, []call{{"put", 1, 8}, {"look", 3, 8}}
+	orders := haveAnOrder(t, Setup{Entries: 64}, 0, [2][]call{looks, puts}, 3)
+	if t.Log(orders, "orders"); orders < 20 {
+		t.Fatal(orders)
+	}
+}
