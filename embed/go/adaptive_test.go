@@ -245,11 +245,11 @@ func TestCallsThatLookUpSeekPutOrLandMakeUpToFourSlides(t *testing.T) {
 	n.moves("a put where nothing is to do", 0, 1, put)
 	wants(c, 77)
 	n.moves("a put", 4, 5, put)
-	n.moves("a look that misses", 4, 5, func() { _, _, _ = c.Look(2) })
+	n.moves("a look that misses, which is kept,", 0, 1, func() { _, _, _ = c.Look(2) })
 	n.moves("a get, which seeks and lands,", 8, 10, func() { _, _ = c.Get(ctx, 3, got("three")) })
 	n.moves("a get that fails", 8, 10, func() { _, _ = c.Get(ctx, 4, fails) })
 	n.moves("60 hits, which are kept,", 0, 60, hits(60))
-	n.moves("64 hits", 2, 66, hits(64))
+	n.moves("64 hits", 4, 68, hits(64))
 	// It is shown these look-ups, and wants what it wanted at first, 51.
 	n.moves("the next put", -4, 5, put)
 	wants(c, 1)
@@ -259,7 +259,7 @@ func TestCallsThatLookUpSeekPutOrLandMakeUpToFourSlides(t *testing.T) {
 	n.moves("what counts no look-up", 0, 0, func() { _, _, _ = c.Contains(1), c.Keys(), c.Stats() })
 	n.moves("a clear", 0, 1, func() { _ = c.Clear() })
 	n.moves("a put, narrower,", -4, 5, put)
-	n.moves("many puts", -68, 168, func() {
+	n.moves("many puts", -66, 166, func() {
 		for i := 0; i < 100; i++ {
 			put()
 		}
@@ -357,15 +357,16 @@ func TestNoCallFailsForASlideThatIsRefusedMemory(t *testing.T) {
 	n, refused := counter{t, c}, 0
 	for key := uint64(1000); key < 1100; key++ {
 		wants(c, 1+uint32(key%2)*511)
-		missed := func() {
-			if _, found, err := c.Look(key); found || err != nil {
-				t.Error(found, err)
+		fails := func() {
+			if _, err := c.Get(ctx, key, fails); err != errDown {
+				t.Error(err)
 			}
 		}
-		if refusing.After(0, func() { n.moves("a look whose first slide is refused memory", 0, 1, missed) }) {
+		four := 4 - 8*int(1-key%2)
+		if refusing.After(0, func() { n.moves("a get whose first slide is refused memory", four, 6, fails) }) {
 			refused++
 		}
-		n.moves("the next look", 4-8*int(1-key%2), 5, missed)
+		n.moves("the next get", 2*four, 10, fails)
 	}
 	if refused != 100 {
 		t.Fatal(refused)

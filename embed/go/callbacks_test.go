@@ -307,9 +307,12 @@ func TestALoadOutlivesTheContextOfItsCaller(t *testing.T) {
 func TestALoadThatIsOverIsNoPartOfACircle(t *testing.T) {
 	c := open(t, setup)
 	var ended *load[uint64, string]
-	_, _ = c.Get(ctx, 1, func(context.Context) (string, uint32, error) {
-		ended = c.shards[0].table.walk(1, 1).load
-		return "one", 1, nil
+	together(2, func(int) {
+		_, _ = c.Get(ctx, 1, func(context.Context) (string, uint32, error) {
+			ended = c.shards[0].table.walk(1, 1).load
+			waitForJoins(c, 1)
+			return "one", 1, nil
+		})
 	})
 	const me, other = 1, 2
 	w, theirs := waiting{of: map[uintptr]*leader{other: &ended.leader}}, leader{goroutine: other}

@@ -111,6 +111,9 @@ static uint64_t put(side *s, uint64_t key, uint64_t token, uint32_t weight, uint
 
 static void tell_hits(side *s) { at_border(s); }
 
+// Makes the seek of a load of which the cache hasn't heard, and opens it.
+static uint64_t open_load(side *s, uint64_t key, uint64_t now) { return rd_seek(at_look(s, key), key, now, &s->answer); }
+
 static uint64_t land_failed(side *s, uint64_t id, uint64_t key, uint64_t now) {
 	return told(s, rd_land_failed(at_border(s), id, key, now, &s->answer));
 }
@@ -119,6 +122,17 @@ static uint64_t land_failed(side *s, uint64_t id, uint64_t key, uint64_t now) {
 static uint64_t land(side *s, uint64_t id, uint64_t key, uint64_t token, uint32_t weight, uint32_t life, uint64_t now) {
 	if (!rd_land_for(at_border(s), id, key, (rd_token){token, weight}, life, now, &s->answer, s->notices)) return told_with_notice(s, 0);
 	return told(s, rd_land_loose(at(s), id, key, now, &s->answer));
+}
+
+// The same of a load of which the cache hasn't heard: its seek, and then its landing. A seek that is refused leaves nothing to land.
+static uint64_t open_and_land_failed(side *s, uint64_t key, uint64_t now) {
+	uint64_t fault = open_load(s, key, now);
+	return fault ? told(s, fault) : land_failed(s, s->answer.number, key, now);
+}
+
+static uint64_t open_and_land(side *s, uint64_t key, uint64_t token, uint32_t weight, uint32_t life, uint64_t now) {
+	uint64_t fault = open_load(s, key, now);
+	return fault ? told(s, fault) : land(s, s->answer.number, key, token, weight, life, now);
 }
 */
 import "C"
@@ -177,7 +191,7 @@ func (l library) ready() *C.side {
 // window returns how many entries the window may hold now; none in a closed cache.
 func (l library) window() uint32 { return uint32(l.side.window) }
 
-// queue keeps a look-up of which the caller knows what it finds. There is no answer of it.
+// queue keeps a look-up of which the caller knows what it finds: an entry that stays, or none. There is no answer of it.
 func (l library) queue(key, now uint64) {
 	at := &l.side.hit[l.side.hits]
 	at.key, at.now = C.uint64_t(key), C.uint64_t(now)
@@ -206,6 +220,21 @@ func (l library) land(id, key, token uint64, weight, life uint32, now uint64) Fa
 
 func (l library) landFailed(id, key, now uint64) Fault {
 	return Fault(C.land_failed(l.ready(), C.uint64_t(id), C.uint64_t(key), C.uint64_t(now)))
+}
+
+// openLoad makes the seek of a load, which nothing joins and for which there is room.
+func (l library) openLoad(key, now uint64) Fault {
+	return Fault(C.open_load(l.ready(), C.uint64_t(key), C.uint64_t(now)))
+}
+
+// openAndLand is openLoad and then land, in one crossing.
+func (l library) openAndLand(key, token uint64, weight, life uint32, now uint64) Fault {
+	return Fault(C.open_and_land(l.ready(), C.uint64_t(key), C.uint64_t(token), C.uint32_t(weight), C.uint32_t(life), C.uint64_t(now)))
+}
+
+// openAndLandFailed is openLoad and then landFailed, in one crossing.
+func (l library) openAndLandFailed(key, now uint64) Fault {
+	return Fault(C.open_and_land_failed(l.ready(), C.uint64_t(key), C.uint64_t(now)))
 }
 
 func (l library) drop(key, now uint64) Fault {

@@ -12,14 +12,16 @@ import (
 // A load is one that a goroutine makes and others may wait for.
 type load[K comparable, V any] struct {
 	leader
-	shard           *shard[K, V]
-	ctx             lasting
-	id, number, now uint64
-	node            *node[K, V]
-	done            chan struct{} // there is one once another goroutine has joined
-	value           V
-	weight, life    uint32
-	err             error
+	shard        *shard[K, V]
+	before, next *load[K, V] // of those that are open
+	number, now  uint64
+	id           uint64 // the library's, if it has heard of the load; 0 if it refused it
+	isTold       bool   // whether the library has heard of it
+	node         *node[K, V]
+	done         chan struct{} // there is one once another goroutine has joined
+	value        V
+	weight, life uint32
+	err          error
 }
 
 // sought is what a seek found: a value, a load to make, with a value if it is a refresh, or a load to wait for.
@@ -72,12 +74,21 @@ func (c *Cache[K, V]) seek(key K) (found sought[K, V], err error) {
 		return sought[K, V]{value: v, isHit: true}, nil
 	}
 	defer s.release()
-	if err = s.made(s.lib.seek(number, now), now); err != nil {
+	if s.surelyLeads(n) {
+		s.missed(now)
+		found.lead = s.begin(s.table.hold(n, key, hash, number), now)
+		return found, nil
+	}
+	if err = s.seek(n, number, now); err != nil {
 		return found, err
 	}
 	found.value, found.isHit = s.looked(now)
 	if s.lib.leads() {
-		found.lead = s.begin(s.table.hold(n, key, hash, number), now, found.isHit)
+		found.lead = s.begin(s.table.hold(n, key, hash, number), now)
+		found.lead.id, found.lead.isTold = s.lib.number(), true
+		if found.isHit {
+			s.stats.Refreshes++
+		}
 	} else if !found.isHit {
 		found.join = s.join(n)
 	}
@@ -85,14 +96,24 @@ func (c *Cache[K, V]) seek(key K) (found sought[K, V], err error) {
 	return found, nil
 }
 
-// begin opens the load that the latest answer told to make. It has one of the node's uses.
-func (s *shard[K, V]) begin(n *node[K, V], now uint64, isRefresh bool) *load[K, V] {
-	of := &load[K, V]{shard: s, id: s.lib.number(), number: n.number, now: now, node: n, err: ErrPanicked}
+// seek makes a seek of the library. It has to know of the key's load, and of all loads if there are as many as there may be.
+func (s *shard[K, V]) seek(n *node[K, V], number, now uint64) error {
+	if s.loads.count == s.loads.most {
+		s.tellOfLoads()
+	}
+	fault := s.tellOfLoad(n)
+	if fault == 0 {
+		fault = s.lib.seek(number, now)
+	}
+	return s.made(fault, now)
+}
+
+// begin opens a load, which has one of the node's uses.
+func (s *shard[K, V]) begin(n *node[K, V], now uint64) *load[K, V] {
+	of := s.loads.begin()
+	of.shard, of.number, of.now, of.node, of.err = s, n.number, now, n, ErrPanicked
 	of.goroutine = goroutine.Current()
 	n.load = of
-	if isRefresh {
-		s.stats.Refreshes++
-	}
 	return of
 }
 
@@ -110,8 +131,7 @@ func (s *shard[K, V]) join(n *node[K, V]) *load[K, V] {
 func (c *Cache[K, V]) lead(ctx context.Context, found sought[K, V], fetch fetcher[V]) (V, error) {
 	of, left, begun := found.lead, found.left, c.clock.elapsed()
 	defer func() { c.tell(append(left, of.land(c.clock.elapsed()-begun, c.listener != nil)...)) }()
-	of.ctx = lasting{ctx}
-	of.value, of.weight, of.life, of.err = fetch(&of.ctx)
+	of.value, of.weight, of.life, of.err = fetch(&lasting{ctx})
 	if found.isHit && of.err != nil {
 		return found.value, nil
 	}
@@ -129,8 +149,7 @@ func (l *load[K, V]) land(took time.Duration, listens bool) []Left[K, V] {
 	s.stats.LoadTime += took
 	if l.err != nil {
 		s.stats.Failed++
-		_ = s.lib.landFailed(l.id, l.number, s.moment(l.now))
-		s.table.letGo(l.node)
+		s.fail(l)
 	} else {
 		s.stats.Loads++
 		s.store(l)
@@ -139,18 +158,36 @@ func (l *load[K, V]) land(took time.Duration, listens bool) []Left[K, V] {
 	if l.done != nil {
 		close(l.done)
 	}
+	s.loads.end(l)
 	return s.left(listens)
+}
+
+// fail lands no value.
+func (s *shard[K, V]) fail(of *load[K, V]) {
+	if now := s.moment(of.now); of.isTold {
+		_ = s.lib.landFailed(of.id, of.number, now)
+	} else {
+		_ = s.lib.openAndLandFailed(of.number, now)
+	}
+	s.table.letGo(of.node)
 }
 
 // store lands a value. If it is stored, the load's use of the node becomes the entry's. In a closed cache there is no load to close.
 func (s *shard[K, V]) store(of *load[K, V]) {
 	now := s.moment(of.now)
 	token := s.table.keep(s.newEntry(of.value, of.weight, of.life, now), of.life, now)
-	if s.lib.land(of.id, of.number, token, of.weight, of.life, now) == 0 && s.lib.isStored() {
+	if s.land(of, token, now) == 0 && s.lib.isStored() {
 		s.table.store(token, of.node)
 		return
 	}
 	s.stats.Loose++
 	s.table.drop(token)
 	s.table.letGo(of.node)
+}
+
+func (s *shard[K, V]) land(of *load[K, V], token, now uint64) Fault {
+	if of.isTold {
+		return s.lib.land(of.id, of.number, token, of.weight, of.life, now)
+	}
+	return s.lib.openAndLand(of.number, token, of.weight, of.life, now)
 }

@@ -104,9 +104,15 @@ func (c *Cache[K, V]) Close() {
 func (c *Cache[K, V]) Look(key K) (v V, found bool, err error) {
 	now := c.clock.now()
 	s, hash := c.of(key)
-	v, _, number, now, found := s.hit(key, hash, now)
+	v, n, number, now, found := s.hit(key, hash, now)
 	if found {
 		return v, true, nil
+	}
+	if s.surelyMisses(n) {
+		s.missed(now)
+		s.lib.queue(number, now)
+		s.release()
+		return v, false, nil
 	}
 	if err = s.made(s.lib.look(number, now), now); err == nil {
 		v, found = s.looked(now)
@@ -153,7 +159,8 @@ func (c *Cache[K, V]) put(key K, v V, weight, life uint32) error {
 // Drop removes the key's entry, and returns whether there was one. An open load of the key will store nothing. The error is ErrClosed.
 func (c *Cache[K, V]) Drop(key K) (bool, error) {
 	s, hash, now := c.enter(key)
-	_, number := s.find(key, hash)
+	n, number := s.find(key, hash)
+	_ = s.tellOfLoad(n)
 	err := s.made(s.lib.drop(number, now), now)
 	there := err == nil && s.lib.number() == 1
 	return there, c.leave(s, err)
@@ -163,7 +170,8 @@ func (c *Cache[K, V]) Drop(key K) (bool, error) {
 // error is ErrClosed.
 func (c *Cache[K, V]) Forget(key K) (bool, error) {
 	s, hash, now := c.enter(key)
-	_, number := s.find(key, hash)
+	n, number := s.find(key, hash)
+	_ = s.tellOfLoad(n)
 	err := s.made(s.lib.forget(number, now), now)
 	there := err == nil && s.lib.number() == 1
 	return there, c.leave(s, err)
@@ -181,6 +189,7 @@ func (c *Cache[K, V]) sweep(call func(library, uint64) Fault) (err error) {
 	for _, s := range c.shards {
 		s.take()
 		now := s.moment(now)
+		s.tellOfLoads()
 		if fault := s.made(call(s.lib, now), now); fault != nil {
 			err = fault
 		}

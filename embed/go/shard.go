@@ -22,6 +22,8 @@ type shard[K comparable, V any] struct {
 	stripes                          stripes // none if each hit takes the lock
 	latest                           latest  // of each call as it is made. The library needn't have heard of it.
 	table                            table[K, V]
+	loads                            openLoads[K, V]
+	isClosed                         bool
 }
 
 func newShard[K comparable, V any](s Setup, lib library) *shard[K, V] {
@@ -30,6 +32,7 @@ func newShard[K comparable, V any](s Setup, lib library) *shard[K, V] {
 		afterWrite: orNever(s.AfterWrite), afterAccess: orNever(s.AfterAccess), sureFor: orNever(s.Refresh),
 	}
 	of.table.open()
+	of.loads.most = s.Flights
 	if of.afterWrite < of.sureFor {
 		of.sureFor = of.afterWrite
 	}
@@ -124,6 +127,17 @@ func (s *shard[K, V]) sureHit(n *node[K, V], now uint64) (v V, sure bool) {
 	return n.entry.Load().value, true
 }
 
+// surelyMisses returns whether a look-up or a seek of the node's key, or of one without a node, surely finds no entry, and removes none.
+func (s *shard[K, V]) surelyMisses(n *node[K, V]) bool {
+	return !s.isClosed && (n == nil || n.token == none)
+}
+
+// missed counts a look-up or a seek that surely misses.
+func (s *shard[K, V]) missed(now uint64) {
+	s.latest.pass(now)
+	s.stats.Misses++
+}
+
 // looked counts what the latest look-up or seek found, and returns it.
 func (s *shard[K, V]) looked(now uint64) (v V, found bool) {
 	if !s.lib.isHit() {
@@ -151,6 +165,7 @@ func (s *shard[K, V]) newEntry(v V, weight, life uint32, now uint64) *entry[V] {
 
 func (s *shard[K, V]) put(key K, hash uint64, v V, weight, life uint32, now uint64) error {
 	n, number := s.find(key, hash)
+	_ = s.tellOfLoad(n)
 	token := s.table.keep(s.newEntry(v, weight, life, now), life, now)
 	if err := s.made(s.lib.put(number, token, weight, life, now), now); err != nil {
 		s.table.drop(token)
@@ -184,6 +199,7 @@ func (s *shard[K, V]) close(listens bool) []Left[K, V] {
 	left := s.left(listens)
 	_ = s.lib.close()
 	s.lib.by = nil
+	s.isClosed = true
 	return left
 }
 
@@ -202,6 +218,7 @@ func (s *shard[K, V]) keys(keys []K, now uint64) []K {
 
 // numbers returns the library's numbers, as if it had heard of each use. To it a put in place is a look-up that hits.
 func (s *shard[K, V]) numbers() (Numbers, Fault) {
+	s.tellOfLoads()
 	n, fault := s.lib.numbers()
 	if fault != 0 {
 		return n, fault

@@ -55,12 +55,19 @@ func (t *table[K, V]) open() {
 
 // find returns the key's node and its number, or nil and the number that it would get.
 func (t *table[K, V]) find(key K, hash uint64) (*node[K, V], uint64) {
-	if n := t.walk(key, hash); n != nil {
+	isTaken := false
+	n := t.chains.Load().of(hash).Load()
+	for n != nil && (n.hash != hash || n.key != key) {
+		isTaken = isTaken || n.hash == hash
+		n = n.next.Load()
+	}
+	if n != nil {
 		return n, n.number
 	}
 	number := hash
-	for t.isHash(number) || t.isMoved(number) {
+	for isTaken || t.isMoved(number) {
 		number++
+		isTaken = t.isHash(number)
 	}
 	return nil, number
 }
