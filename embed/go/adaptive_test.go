@@ -109,7 +109,7 @@ type witness struct {
 	changes int
 }
 
-// told is called after each call, with the keys that it looked up. What a shard no longer keeps, 64 at least, the adviser was shown.
+// told is called after each call, with the keys that it looked up. What a shard no longer keeps, 32 at least, the adviser was shown.
 func (w *witness) told(keys ...uint64) {
 	w.t.Helper()
 	for _, key := range keys {
@@ -123,7 +123,7 @@ func (w *witness) told(keys ...uint64) {
 			w.show(w.kept[s][:shown])
 			w.kept[s] = append([]uint64(nil), w.kept[s][shown:]...)
 		}
-		if shown < 0 || shown > 0 && shown < 64 || len(pending) > 128 || !reflect.DeepEqual(w.kept[s], pending) {
+		if shown < 0 || shown > 0 && shown < 32 || len(pending) > 64 || !reflect.DeepEqual(w.kept[s], pending) {
 			w.t.Fatal(shown, w.kept[s], pending)
 		}
 	}
@@ -248,8 +248,8 @@ func TestCallsThatLookUpSeekPutOrLandMakeUpToFourSlides(t *testing.T) {
 	n.moves("a look that misses, which is kept,", 0, 1, func() { _, _, _ = c.Look(2) })
 	n.moves("a get, which seeks and lands,", 8, 10, func() { _, _ = c.Get(ctx, 3, got("three")) })
 	n.moves("a get that fails", 8, 10, func() { _, _ = c.Get(ctx, 4, fails) })
-	n.moves("60 hits, which are kept,", 0, 60, hits(60))
-	n.moves("64 hits", 4, 68, hits(64))
+	n.moves("28 hits, which are kept,", 0, 28, hits(28))
+	n.moves("32 hits", 4, 36, hits(32))
 	// It is shown these look-ups, and wants what it wanted at first, 51.
 	n.moves("the next put", -4, 5, put)
 	wants(c, 1)
@@ -330,13 +330,13 @@ func TestAnAdviserThatIsRefusedMemoryIsOpenedLater(t *testing.T) {
 			continue
 		}
 		later++
-		for key := uint64(0); key < 63; key++ {
+		for key := uint64(0); key < 31; key++ {
 			look(t, c, key)
 		}
 		if c.Window() != 5 {
 			t.Fatal(n, c.Window())
 		}
-		for key := uint64(63); key < 90; key++ {
+		for key := uint64(31); key < 58; key++ {
 			look(t, c, key)
 		}
 		if c.Window() != 51 {

@@ -23,37 +23,43 @@ func (c *chains[K, V]) place(hash uint64) uint64 { return hash * 0xd6e8feb86659f
 // walk returns the key's node, if there is one. Without the shard's lock it may miss one while the table grows.
 func (t *table[K, V]) walk(key K, hash uint64) *node[K, V] {
 	n := t.chains.Load().of(hash).Load()
-	for n != nil && (n.hash != hash || n.key != key) {
+	for n != nil && !n.is(key, hash) {
 		n = n.next.Load()
 	}
 	return n
 }
 
-// isHash returns whether a key in use has the hash.
-func (t *table[K, V]) isHash(hash uint64) bool {
+// is returns whether the node is that of a key, in the chain of the key's hash.
+func (n *node[K, V]) is(key K, hash uint64) bool {
+	return (n.number == hash || n.isMoved) && n.key == key
+}
+
+// isNumber returns whether a key in use has its hash, this one, as its number.
+func (t *table[K, V]) isNumber(hash uint64) bool {
 	n := t.chains.Load().of(hash).Load()
-	for n != nil && n.hash != hash {
+	for n != nil && n.number != hash {
 		n = n.next.Load()
 	}
 	return n != nil
 }
 
 func (t *table[K, V]) link(n *node[K, V]) {
-	if t.nodes >= len(t.chains.Load().first) {
+	// An eighth more, since a cache of as many entries as chains has a few more keys in use.
+	if chains := len(t.chains.Load().first); t.nodes >= chains+chains/8 {
 		t.grow()
 	}
 	t.nodes++
-	t.chains.Load().put(n)
+	t.chains.Load().put(n, t.hashOf(n))
 }
 
-func (c *chains[K, V]) put(n *node[K, V]) {
-	first := c.of(n.hash)
+func (c *chains[K, V]) put(n *node[K, V], hash uint64) {
+	first := c.of(hash)
 	n.next.Store(first.Load())
 	first.Store(n)
 }
 
 func (t *table[K, V]) unlink(n *node[K, V]) {
-	at := t.chains.Load().of(n.hash)
+	at := t.chains.Load().of(t.hashOf(n))
 	for at.Load() != n {
 		at = &at.Load().next
 	}
@@ -69,7 +75,7 @@ func (t *table[K, V]) grow() {
 	for i := range old.first {
 		for n := old.first[i].Load(); n != nil; {
 			next := n.next.Load()
-			grown.put(n)
+			grown.put(n, t.hashOf(n))
 			n = next
 		}
 	}

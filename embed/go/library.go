@@ -7,37 +7,46 @@ package rookdresser
 #cgo CFLAGS: -O2
 #include "rookdresser.h"
 
-enum { COPIED = 16, HITS = 64, SHOWN = 64, SLIDES = 4 };
+enum { COPIED = 8, HITS = 32, SHOWN = 32, SLIDES = 4 };
 
-// A cache of the library, what its latest call told, and the hits that it isn't told yet. For Go the union is bytes, so that a call
-// needs no check of pointers.
+// A look-up that the library isn't told yet.
+typedef struct { uint64_t key, now; } kept_look;
+
+// A cache of the library, what its latest call told, and the look-ups that it isn't told yet. For Go the union is bytes, so that a call
+// needs no check of pointers. Each shard has one, so it is small.
 typedef struct {
 	union { rd_cache cache; } of;
 	rd_answer answer;
 	rd_notice notices[COPIED];
 	uint64_t hits;
-	rd_looked hit[HITS];
+	kept_look hit[HITS];
 	uint32_t window, wanted;     // how many entries the window may hold, and how many it should
 	bool follows;                // whether there is an adviser, which isn't shown yet:
 	uint64_t seens;              // so many look-ups and seeks, of which the cache was told
 	uint64_t seen[SHOWN + HITS]; // of these keys; before a call it is shown them if they are SHOWN or more
 } side;
 
-// Keeps the keys of the hits for the adviser.
+// Keeps the keys of the look-ups for the adviser.
 static void keep_hits(side *s) {
 	uint64_t n = s->hits, *seen = s->seen + s->seens;
 	for (uint64_t i = 0; i < n; i++) seen[i] = s->hit[i].key;
 	s->seens += n;
 }
 
-// Tells the hits in their order, before each other call. After one that is refused memory, which was served all the same, it goes on
-// with the next.
-static rd_cache *at(side *s) {
+// Tells the look-ups in their order. After one that is refused memory, which was served all the same, it goes on with the next.
+static void tell_looks(side *s) {
+	rd_looked looks[HITS];
 	uint64_t made = 0;
-	if (s->follows) keep_hits(s);
+	for (uint64_t i = 0; i < s->hits; i++) looks[i].key = s->hit[i].key, looks[i].now = s->hit[i].now;
 	for (uint64_t from = 0; from < s->hits; from += made)
-		if (rd_look_many(&s->of.cache, s->hit + from, s->hits - from, &made) >= RD_CLOSED) break;
+		if (rd_look_many(&s->of.cache, looks + from, s->hits - from, &made) >= RD_CLOSED) break;
 	s->hits = 0;
+}
+
+// Tells them before each other call.
+static rd_cache *at(side *s) {
+	if (s->follows) keep_hits(s);
+	if (s->hits) tell_looks(s);
 	return &s->of.cache;
 }
 

@@ -1,6 +1,7 @@
 package rookdresser
 
 import (
+	"runtime"
 	"testing"
 
 	"rookdresser/internal/refusing"
@@ -11,6 +12,33 @@ import (
 func TestRefusedMemoryKeepsTheCacheWhole(t *testing.T) {
 	keepsWholeWithoutMemory(t, open(t, Setup{Entries: 200, Adaptive: Off, Flights: 16}))
 	keepsWholeWithoutMemory(t, open(t, Setup{Entries: 512, Bound: 200, Flights: 16}))
+}
+
+// Of a cache with 8-byte keys and values, that is full. Most of it are the key, the entry and the slot; each shard takes 16 bytes an entry
+// for its look-ups, its notices, its stripes and itself.
+func TestAnEntryOfASmallCacheTakesAtMost146Bytes(t *testing.T) {
+	allocated := func() float64 {
+		var heap runtime.MemStats
+		runtime.GC()
+		runtime.GC()
+		runtime.ReadMemStats(&heap)
+		return float64(heap.HeapAlloc)
+	}
+	for _, shards := range []uint32{0, 1, 32} {
+		before := allocated()
+		c, err := Open[uint64, uint64](Setup{Entries: 4096, Shards: shards})
+		if err != nil {
+			t.Fatal(err)
+		}
+		for key := uint64(0); key < 16_384; key++ {
+			mustPut(t, c.Put(key, key, 1))
+		}
+		bytes := (allocated() - before) / 4096
+		if t.Log(len(c.shards), "shards:", bytes, "bytes an entry"); bytes > 146 {
+			t.Error(bytes)
+		}
+		c.Close()
+	}
 }
 
 func keepsWholeWithoutMemory(t *testing.T, c *Cache[uint64, string]) {

@@ -47,7 +47,7 @@ func (s *shard[K, V]) hit(key K, hash, moment uint64) (v V, n *node[K, V], numbe
 // hitBeside returns the value if the call surely hits, without the lock.
 func (s *shard[K, V]) hitBeside(key K, hash, now uint64) (v V, found bool) {
 	n := s.table.chains.Load().of(hash).Load() // as in walk, which isn't inlined
-	for n != nil && (n.hash != hash || n.key != key) {
+	for n != nil && !n.is(key, hash) {
 		n = n.next.Load()
 	}
 	if n == nil {
@@ -58,7 +58,7 @@ func (s *shard[K, V]) hitBeside(key K, hash, now uint64) (v V, found bool) {
 		return v, false
 	}
 	if stripe, before := s.stripes.countHit(); stripe.mayNote(before) {
-		s.note(stripe, before, note{n.number, of.token})
+		s.note(stripe, before, note{of.token, uint32(n.number)})
 	}
 	return of.value, true
 }
@@ -100,7 +100,7 @@ func (s *shard[K, V]) putInPlace(key K, hash uint64, v V, weight uint32, now uin
 		}
 		if n.entry.CompareAndSwap(was, &entry[V]{v, never, weight, was.token}) {
 			if stripe, before := s.stripes.countPut(); stripe.mayNote(before) {
-				s.note(stripe, before, note{n.number, was.token})
+				s.note(stripe, before, note{was.token, uint32(n.number)})
 			}
 			return was
 		}

@@ -14,7 +14,7 @@ import (
 // A Cache holds values of type V by keys of type K, for many goroutines.
 //
 // A call with a key locks the key's shard for one step, expected O(1), and up to four slides of its window's border. Most hits, and
-// puts in place of a value, take no lock: see Reads. Each 64 look-ups of which the library of a shard hears are shown to the cache's
+// puts in place of a value, take no lock: see Reads. Each 32 look-ups of which the library of a shard hears are shown to the cache's
 // adviser, under a lock of its own. The other calls lock all shards, one after another, so with several shards they
 // aren't one step. No code of yours runs while a lock is held. A call that returns a Fault has changed nothing in the shard that
 // refused it, but for the slides.

@@ -5,6 +5,7 @@ package rookdresser
 import (
 	"runtime"
 	"sync/atomic"
+	"unsafe"
 )
 
 // They are variables since a test has the library hear of more uses.
@@ -22,7 +23,7 @@ var (
 
 const (
 	mostStripes = 64
-	mostNotes   = 32 // of a stripe, kept while another goroutine has the library
+	mostNotes   = 12 // of a stripe, kept while another goroutine has the library
 	// A shard has a stripe for each so many entries at most: it takes as much memory as some of them.
 	entriesOfStripe = 32
 )
@@ -33,13 +34,15 @@ type stripe struct {
 	state         word          // of the notes
 	evictedBefore atomic.Uint32 // how many were evicted as the latest note was made
 	notes         [mostNotes]note
-	_             [96]byte
+	_             [4]byte
 }
+
+const _ uintptr = -(unsafe.Sizeof(stripe{}) % 128) // else it isn't compiled
 
 // A note is a use of which the library is still to be told. It keeps no value alive.
 type note struct {
-	number uint64
 	token  int32
+	number uint32 // the lower half of the key's, which tells most keys apart that had the token in turn
 }
 
 // The state of a stripe's notes is a word: whether a goroutine writes or tells them, how many there are, and how many of the next uses are
@@ -157,11 +160,11 @@ func (s *shard[K, V]) tell(notes []note) {
 	latest := s.latest.moment()
 	for _, use := range notes {
 		n := s.table.slots[use.token].node
-		if n == nil || n.token != use.token || n.number != use.number {
+		if n == nil || n.token != use.token || uint32(n.number) != use.number {
 			continue
 		}
 		if latest < n.entry.Load().until {
-			s.lib.queue(use.number, latest)
+			s.lib.queue(n.number, latest)
 			s.told++
 		}
 	}

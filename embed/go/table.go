@@ -5,15 +5,16 @@ package rookdresser
 // none is the token of no entry.
 const none = -1
 
-// A node is a key in use, with its number in the library. Goroutines that hit read it without a lock: its key, hash and number never
+// A node is a key in use, with its number in the library. Goroutines that hit read it without a lock: its key and its number never
 // change, and no node is used again for another key. The collector frees one once nobody can be at it.
 type node[K comparable, V any] struct {
-	next         pointer[node[K, V]] // of its chain
-	entry        pointer[entry[V]]   // nil if there is none
-	key          K
-	hash, number uint64
+	next    pointer[node[K, V]] // of its chain
+	entry   pointer[entry[V]]   // nil if there is none
+	key     K
+	number  uint64 // the key's hash, unless isMoved
+	isMoved bool
 	// Of whoever has the shard's lock:
-	uses  uint32 // one for its entry, and one for each load of it
+	uses  uint16 // one for its entry, and one for each load of it, of which there are at most 4,096
 	token int32  // that of its entry, or none
 	load  *load[K, V]
 }
@@ -45,11 +46,11 @@ type table[K comparable, V any] struct {
 	nodes     int
 	slots     []slot[K, V]
 	freeSlots []int32
-	moved     map[uint64]struct{} // the numbers in use that aren't their key's hash
+	moved     map[uint64]uint64 // the numbers in use that aren't their key's hash, each with that hash
 }
 
 func (t *table[K, V]) open() {
-	t.moved = map[uint64]struct{}{}
+	t.moved = map[uint64]uint64{}
 	t.chains.Store(newChains[K, V](3))
 }
 
@@ -57,22 +58,23 @@ func (t *table[K, V]) open() {
 func (t *table[K, V]) find(key K, hash uint64) (*node[K, V], uint64) {
 	isTaken := false
 	n := t.chains.Load().of(hash).Load()
-	for n != nil && (n.hash != hash || n.key != key) {
-		isTaken = isTaken || n.hash == hash
+	for n != nil && !n.is(key, hash) {
+		isTaken = isTaken || n.number == hash
 		n = n.next.Load()
 	}
 	if n != nil {
 		return n, n.number
 	}
 	number := hash
-	for isTaken || t.isMoved(number) {
+	for isTaken || t.isMovedTo(number) {
 		number++
-		isTaken = t.isHash(number)
+		isTaken = t.isNumber(number)
 	}
 	return nil, number
 }
 
-func (t *table[K, V]) isMoved(number uint64) bool {
+// isMovedTo returns whether a key whose hash is another one has the number.
+func (t *table[K, V]) isMovedTo(number uint64) bool {
 	if len(t.moved) == 0 {
 		return false
 	}
@@ -80,14 +82,22 @@ func (t *table[K, V]) isMoved(number uint64) bool {
 	return moved
 }
 
+// hashOf returns the hash of a node's key.
+func (t *table[K, V]) hashOf(n *node[K, V]) uint64 {
+	if n.isMoved {
+		return t.moved[n.number]
+	}
+	return n.number
+}
+
 // hold returns the key's node, which has one use more. find returned n and number.
 func (t *table[K, V]) hold(n *node[K, V], key K, hash, number uint64) *node[K, V] {
 	if n == nil {
-		n = &node[K, V]{key: key, hash: hash, number: number, token: none}
-		t.link(n)
-		if number != hash {
-			t.moved[number] = struct{}{}
+		n = &node[K, V]{key: key, number: number, isMoved: number != hash, token: none}
+		if n.isMoved {
+			t.moved[number] = hash
 		}
+		t.link(n)
 	}
 	n.uses++
 	return n
@@ -99,7 +109,7 @@ func (t *table[K, V]) letGo(n *node[K, V]) {
 		return
 	}
 	t.unlink(n)
-	if n.number != n.hash {
+	if n.isMoved {
 		delete(t.moved, n.number)
 	}
 }
