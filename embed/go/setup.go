@@ -14,9 +14,9 @@ import (
 // counts in whole milliseconds, rounded up; 0 means never.
 type Setup struct {
 	Entries uint32 // how many the cache may hold: 1 to 65,536 for each shard, and so at most 268,435,456
-	// How many parts it has, each with a lock of its own: 1 to 4,096. 0 stands for one for each 65,536 entries; or, if the windows follow and
-	// there is no Bound, for eight for each of GOMAXPROCS, but so few that each has 128 entries. A part that is full evicts though another
-	// may have room.
+	// How many parts it has, each with a lock of its own: 1 to 4,096. 0 stands for one for each 65,536 entries; or, if the windows follow, for
+	// eight for each of GOMAXPROCS, but so few that each has 128 entries and may weigh 128. A part that is full evicts though another may
+	// have room, and a value that weighs more than a part may isn't stored: Shards: 1 lets one value weigh all of Bound.
 	Shards  uint32
 	Window  uint32 // how many of the entries the windows may hold, for good: 1 to Entries; 0 leaves it to Adaptive
 	Flights uint32 // how many loads may be open in a shard: 1 to 4,096; 0 stands for 1,024
@@ -60,7 +60,7 @@ func (c Choice) String() string {
 
 const (
 	mostEntries  = 65_536 // of a shard
-	leastEntries = 128    // of one of several, by default
+	leastEntries = 128    // of one of several, by default, and the least that one may weigh
 	mostShards   = 4096
 	// By default, if there are as many entries.
 	shardsOfProcessor = 8
@@ -99,16 +99,19 @@ func (s Setup) shards() uint32 {
 }
 
 // shardsForProcessors returns in how many shards goroutines seldom meet, if that costs few hits; else 1. A window of a hundredth of a
-// small shard is too little for bursts. A Bound is divided too, and a value may weigh its shard's part alone.
+// small shard is too little for bursts. A Bound is divided too: if each entry weighs 1 or more, it may be what limits their number.
 func (s Setup) shardsForProcessors() uint32 {
-	if !s.adapts() || s.Bound != 0 {
+	if !s.adapts() {
 		return 1
 	}
-	n := uint32(runtime.GOMAXPROCS(0)) * shardsOfProcessor
-	if most := s.Entries / leastEntries; n > most {
-		return most
+	n := uint64(runtime.GOMAXPROCS(0)) * shardsOfProcessor
+	if most := uint64(s.Entries) / leastEntries; n > most {
+		n = most
 	}
-	return n
+	if most := s.Bound / leastEntries; s.Bound != 0 && n > most {
+		n = most
+	}
+	return uint32(n)
 }
 
 // check returns an error for the first setting that is out of its range. A setting on which ranges depend is checked before them.

@@ -1,6 +1,7 @@
 package rookdresser
 
 import (
+	"context"
 	"errors"
 	"math"
 	"runtime"
@@ -49,7 +50,9 @@ func TestACacheWhoseWindowFollowsHasShardsForItsProcessors(t *testing.T) {
 	}{
 		{Setup{Entries: 1}, 1}, {Setup{Entries: 255}, 1}, {Setup{Entries: 256}, 2}, {Setup{Entries: 511}, 3}, {Setup{Entries: 512}, 4}, {Setup{Entries: 1023}, 7}, {Setup{Entries: 4096}, 32},
 		{Setup{Entries: 1 << 20}, 32}, {Setup{Entries: 1 << 22}, 64}, {Setup{Entries: 1<<22 + 1}, 65}, {Setup{Entries: 1 << 28}, 4096},
-		{Setup{Entries: 4096, Adaptive: Off}, 1}, {Setup{Entries: 4096, Window: 9}, 1}, {Setup{Entries: 4096, Bound: 1 << 40}, 1},
+		{Setup{Entries: 4096, Adaptive: Off}, 1}, {Setup{Entries: 4096, Window: 9}, 1}, {Setup{Entries: 4096, Bound: 1 << 40}, 32},
+		{Setup{Entries: 4096, Bound: 4096}, 32}, {Setup{Entries: 4096, Bound: 4095}, 31}, {Setup{Entries: 4096, Bound: 127}, 1},
+		{Setup{Entries: 512, Bound: 1 << 40}, 4}, {Setup{Entries: 1 << 20, Bound: 1}, 16},
 		{Setup{Entries: 4096, Shards: 3}, 3}, {Setup{Entries: 65_537, Adaptive: Off}, 2},
 	} {
 		if got := row.s.shards(); got != row.shards {
@@ -59,6 +62,29 @@ func TestACacheWhoseWindowFollowsHasShardsForItsProcessors(t *testing.T) {
 	runtime.GOMAXPROCS(1)
 	if got := (Setup{Entries: 4096}).shards(); got != 8 {
 		t.Error(got)
+	}
+}
+
+// Each of four shards may weigh 250: a value of 251 is refused by name, or returned by a load that doesn't store it.
+func TestAValueMayWeighItsShardsPartOfTheBound(t *testing.T) {
+	defer runtime.GOMAXPROCS(runtime.GOMAXPROCS(4))
+	c := open(t, Setup{Entries: 512, Bound: 1000})
+	if len(c.shards) != 4 {
+		t.Fatal(len(c.shards))
+	}
+	for key := uint64(0); key < 100; key++ {
+		mustPut(t, c.Put(key, "fits", 250))
+		if err := c.Put(key, "too heavy", 251); err != ErrTooHeavy {
+			t.Fatal(err)
+		}
+		v, err := c.Get(ctx, 100+key, func(context.Context) (string, uint32, error) { return "too heavy", 251, nil })
+		if v != "too heavy" || err != nil {
+			t.Fatal(v, err)
+		}
+	}
+	s, n := c.Stats(), holds(t, c)
+	if n.Entries != 4 || n.Weight != 1000 || s.Refused[ErrTooHeavy] != 100 || s.Loose != 100 {
+		t.Fatal(n, s, s.Refused)
 	}
 }
 
