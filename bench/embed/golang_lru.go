@@ -16,6 +16,8 @@ func init() {
 
 type theirs struct{ c *lru.Cache }
 
+func (o theirs) holds(key uint64) bool { return o.c.Contains(key) }
+
 func (o theirs) hit(key uint64) { o.c.Get(key) }
 func (o theirs) put(key uint64) { o.c.Add(key, key) }
 func (o theirs) close()         {}
