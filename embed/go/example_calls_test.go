@@ -228,7 +228,7 @@ func ExampleStats_String() {
 	stats := c.Stats()
 	stats.LoadTime = 30 * time.Millisecond
 	fmt.Println(stats)
-	// Output: hits 1 misses 2 hit-ratio 0.333 joins 0 refreshes 0 loads 1 loose 0 failed 1 load-time 30ms explicit 0 replaced 0 expired 0 size 0 refused 0
+	// Output: hits 1 misses 2 hit-ratio 0.333 joins 0 refreshes 0 loads 1 loose 0 failed 1 load-time 30ms explicit 0 replaced 0 expired 0 size 0 refused 0 beside 0
 }
 
 func ExampleFault_Error() {
@@ -251,6 +251,11 @@ func ExampleCause_String() {
 func ExampleChoice_String() {
 	fmt.Println(rookdresser.Default, rookdresser.On, rookdresser.Off)
 	// Output: Default On Off
+}
+
+func ExampleAtLimit_String() {
+	fmt.Println(rookdresser.Setup{}.AtLimit, rookdresser.Refuse)
+	// Output: LoadBeside Refuse
 }
 
 func ExampleReads_String() {

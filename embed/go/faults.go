@@ -21,7 +21,7 @@ const (
 	ErrOutOfMemory    Fault = C.RD_OUT_OF_MEMORY    // the same call may succeed later
 	ErrBadSetup       Fault = C.RD_BAD_SETUP        // a setting is out of its range
 	ErrTooHeavy       Fault = C.RD_TOO_HEAVY        // the value weighs more than its shard's part of Bound
-	ErrTooManyFlights Fault = C.RD_TOO_MANY_FLIGHTS // as many loads are open in the shard as Flights allows
+	ErrTooManyFlights Fault = C.RD_TOO_MANY_FLIGHTS // as many loads are open in the shard as Flights allows, and AtLimit is Refuse
 	ErrStepsSpent     Fault = C.RD_STEPS_SPENT      // 2^60 steps were made
 	ErrClosed         Fault = C.RD_CLOSED           // the cache is closed
 )

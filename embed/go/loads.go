@@ -29,6 +29,7 @@ type sought[K comparable, V any] struct {
 	value      V
 	isHit      bool
 	lead, join *load[K, V]
+	beside     *besideLoad[K, V] // a load to make, which is none of the cache's
 	left       []Left[K, V]
 }
 
@@ -42,7 +43,7 @@ type sought[K comparable, V any] struct {
 // it, since others may share the load. To cut a load off, set a time-out in fetch.
 //
 // The error is fetch's, ctx's (context.Canceled if ctx has ended and gives none), ErrPanicked, ErrWaitsForItself, ErrNotLoaded,
-// ErrTooManyFlights, ErrOutOfMemory or ErrClosed.
+// ErrOutOfMemory or ErrClosed; and ErrTooManyFlights if the Setup's AtLimit is Refuse.
 func (c *Cache[K, V]) Get(ctx context.Context, key K, fetch func(context.Context) (V, uint32, error)) (V, error) {
 	return c.get(ctx, key, func(ctx context.Context) (v V, weight, life uint32, err error) {
 		v, weight, err = fetch(ctx)
@@ -54,10 +55,13 @@ func (c *Cache[K, V]) Get(ctx context.Context, key K, fetch func(context.Context
 type fetcher[V any] func(context.Context) (v V, weight, life uint32, err error)
 
 func (c *Cache[K, V]) get(ctx context.Context, key K, fetch fetcher[V]) (V, error) {
-	found, err := c.seek(key)
+	found, err := c.seek(key, true)
 	switch {
 	case found.lead != nil:
 		return c.lead(ctx, found, fetch)
+	case found.beside != nil:
+		c.tell(found.left)
+		return c.loadBeside(ctx, found.beside, fetch)
 	case found.join != nil:
 		c.tell(found.left)
 		return found.join.wait(ctx)
@@ -66,7 +70,8 @@ func (c *Cache[K, V]) get(ctx context.Context, key K, fetch fetcher[V]) (V, erro
 	return found.value, err
 }
 
-func (c *Cache[K, V]) seek(key K) (found sought[K, V], err error) {
+// seek counts a look-up, and says what is to do. At the limit of open loads, it may be to load beside the cache if mayBeBeside.
+func (c *Cache[K, V]) seek(key K, mayBeBeside bool) (found sought[K, V], err error) {
 	now := c.clock.now()
 	s, hash := c.of(key)
 	v, n, number, now, isHit := s.hit(key, hash, now)
@@ -79,11 +84,18 @@ func (c *Cache[K, V]) seek(key K) (found sought[K, V], err error) {
 		found.lead = s.begin(s.table.hold(n, key, hash, number), now)
 		return found, nil
 	}
-	if err = s.seek(n, number, now); err != nil {
+	fault := s.seek(n, number, now)
+	isBeside := fault == ErrTooManyFlights && mayBeBeside && !s.refuses
+	if isBeside {
+		fault = s.lib.look(number, now)
+	}
+	if err = s.made(fault, now); err != nil {
 		return found, err
 	}
 	found.value, found.isHit = s.looked(now)
-	if s.lib.leads() {
+	if isBeside {
+		found.beside, err = s.beginBeside(key)
+	} else if s.lib.leads() {
 		found.lead = s.begin(s.table.hold(n, key, hash, number), now)
 		found.lead.id, found.lead.isTold = s.lib.number(), true
 		if found.isHit {
@@ -93,19 +105,18 @@ func (c *Cache[K, V]) seek(key K) (found sought[K, V], err error) {
 		found.join = s.join(n)
 	}
 	found.left = s.left(c.listener != nil)
-	return found, nil
+	return found, err
 }
 
 // seek makes a seek of the library. It has to know of the key's load, and of all loads if there are as many as there may be.
-func (s *shard[K, V]) seek(n *node[K, V], number, now uint64) error {
+func (s *shard[K, V]) seek(n *node[K, V], number, now uint64) Fault {
 	if s.loads.count == s.loads.most {
 		s.tellOfLoads()
 	}
-	fault := s.tellOfLoad(n)
-	if fault == 0 {
-		fault = s.lib.seek(number, now)
+	if fault := s.tellOfLoad(n); fault != 0 {
+		return fault
 	}
-	return s.made(fault, now)
+	return s.lib.seek(number, now)
 }
 
 // begin opens a load, which has one of the node's uses.

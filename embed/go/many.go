@@ -5,6 +5,7 @@ package rookdresser
 import (
 	"context"
 	"errors"
+	"time"
 )
 
 // A Weighed is a value and its weight, as the fetch of a GetMany returns it.
@@ -15,7 +16,8 @@ type Weighed[V any] struct {
 
 // GetMany returns the values of several keys. One call of fetch loads all keys that are absent or due and that no other call loads,
 // or several calls do if they are more than Flights; goroutines that ask for these keys meanwhile share the loads. Then GetMany
-// waits for the keys that other calls load.
+// waits for the keys that other calls load. If other calls have as many loads open as may be, it loads the keys beside the cache,
+// unless the Setup's AtLimit is Refuse.
 //
 // If fetch returns no value for a key, the map doesn't have it, and an entry that was due stays. Others that wait for such a key get
 // ErrNotLoaded. The error is the first of those that Get may return; the map then has the values that were found all the same. ctx
@@ -61,7 +63,9 @@ type join[K comparable, V any] struct {
 type batch[K comparable, V any] struct {
 	found  map[K]V
 	absent []K
-	leads  []*load[K, V]
+	leads  []*load[K, V]       // of each absent key, or nil if it is loaded beside the cache
+	beside []*besideLoad[K, V] // or else this
+	opened int                 // how many aren't beside
 	left   []Left[K, V]
 	joined []join[K, V]
 }
@@ -71,14 +75,10 @@ type batch[K comparable, V any] struct {
 func (c *Cache[K, V]) makeBatch(ctx context.Context, b *batch[K, V], keys []K, fetch manyFetcher[K, V]) (rest []K, err error) {
 	begun := c.clock.elapsed()
 	defer func() {
-		took := c.clock.elapsed() - begun
-		for _, of := range b.leads {
-			b.left = append(b.left, of.land(took, c.listener != nil)...)
-			took = 0
-		}
+		b.end(c.clock.elapsed()-begun, c.listener != nil)
 		c.tell(b.left)
 	}()
-	if rest, err = c.begin(b, keys); len(b.leads) == 0 {
+	if rest, err = c.begin(b, keys); len(b.absent) == 0 {
 		return rest, err
 	}
 	if failed := b.load(fetch(&lasting{ctx}, append([]K(nil), b.absent...))); err == nil {
@@ -90,18 +90,25 @@ func (c *Cache[K, V]) makeBatch(ctx context.Context, b *batch[K, V], keys []K, f
 // begin seeks the keys, up to one that finds too many loads open if the batch has some, and returns the rest of them.
 func (c *Cache[K, V]) begin(b *batch[K, V], keys []K) ([]K, error) {
 	for i, key := range keys {
-		at, err := c.seek(key)
-		if errors.Is(err, ErrTooManyFlights) && len(b.leads) > 0 {
+		if b.loadsBeside(key) {
+			continue
+		}
+		at, err := c.seek(key, b.opened == 0)
+		if errors.Is(err, ErrTooManyFlights) && len(b.absent) > 0 {
 			return keys[i:], nil
-		} else if err != nil {
-			return nil, err
 		}
 		b.left = append(b.left, at.left...)
+		if err != nil {
+			return nil, err
+		}
 		if at.isHit {
 			b.found[key] = at.value
 		}
+		if at.lead != nil || at.beside != nil {
+			b.absent, b.leads, b.beside = append(b.absent, key), append(b.leads, at.lead), append(b.beside, at.beside)
+		}
 		if at.lead != nil {
-			b.absent, b.leads = append(b.absent, key), append(b.leads, at.lead)
+			b.opened++
 		} else if at.join != nil {
 			b.joined = append(b.joined, join[K, V]{key, at.join})
 		}
@@ -109,21 +116,50 @@ func (c *Cache[K, V]) begin(b *batch[K, V], keys []K) ([]K, error) {
 	return nil, nil
 }
 
+// loadsBeside returns whether the batch loads a key beside the cache already.
+func (b *batch[K, V]) loadsBeside(key K) bool {
+	for _, of := range b.beside {
+		if of != nil && of.key == key {
+			return true
+		}
+	}
+	return false
+}
+
+// end ends all loads, which took so long together.
+func (b *batch[K, V]) end(took time.Duration, listens bool) {
+	for _, of := range b.leads {
+		if of != nil {
+			b.left = append(b.left, of.land(took, listens)...)
+			took = 0
+		}
+	}
+	for i := len(b.beside) - 1; i >= 0; i-- {
+		if of := b.beside[i]; of != nil {
+			of.end(took)
+			took = 0
+		}
+	}
+}
+
 // load gives the loads what was fetched, and returns why it failed if a key has no old value either.
 func (b *batch[K, V]) load(fetched map[K]Weighed[V], lives map[K]uint32, failed error) (err error) {
-	for i, of := range b.leads {
-		key := b.absent[i]
+	for i, key := range b.absent {
 		got, there := fetched[key]
+		why := failed
 		if failed != nil {
-			of.err = failed
 			if _, old := b.found[key]; !old {
 				err = failed
 			}
 		} else if there {
-			of.value, of.weight, of.life, of.err = got.Value, got.Weight, lives[key], nil
 			b.found[key] = got.Value
 		} else {
-			of.err = ErrNotLoaded
+			why = ErrNotLoaded
+		}
+		if of := b.leads[i]; of != nil {
+			of.value, of.weight, of.life, of.err = got.Value, got.Weight, lives[key], why
+		} else {
+			b.beside[i].err = why
 		}
 	}
 	return err

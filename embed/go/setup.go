@@ -20,6 +20,8 @@ type Setup struct {
 	Shards  uint32
 	Window  uint32 // how many of the entries the windows may hold, for good: 1 to Entries; 0 leaves it to Adaptive
 	Flights uint32 // how many loads may be open in a shard: 1 to 4,096; 0 stands for 1,024
+	// AtLimit says what a miss does while as many loads are open in its shard: LoadBeside, the zero value, or Refuse.
+	AtLimit AtLimit
 	Bound   uint64 // how much the entries may weigh together: 1 to 2^48 for each shard; 0 stands for 2^48 each
 	// How long after its last write, and after its last use, an entry expires. It is never returned from then on, but stays until
 	// something removes it: docs/GUIDE.md, 'Entries that have expired', says what does.
@@ -56,6 +58,26 @@ func (c Choice) String() string {
 		return fmt.Sprintf("Choice(%d)", uint8(c))
 	}
 	return [...]string{"Default", "On", "Off"}[c]
+}
+
+// AtLimit says what a miss does while as many loads are open in its shard as Flights allows.
+type AtLimit uint8
+
+// What a miss may do then.
+const (
+	// LoadBeside has the caller load the value for itself: nobody shares the load, and its value isn't stored. So a source that hangs for
+	// some keys is no outage for the others. If all miss at once, as many calls reach the source as there are callers.
+	LoadBeside AtLimit = iota
+	// Refuse returns ErrTooManyFlights, and spares the source.
+	Refuse
+)
+
+// String returns the name.
+func (a AtLimit) String() string {
+	if a > Refuse {
+		return fmt.Sprintf("AtLimit(%d)", uint8(a))
+	}
+	return [...]string{"LoadBeside", "Refuse"}[a]
 }
 
 const (
@@ -145,6 +167,9 @@ func (s Setup) check() error {
 	}
 	if s.Reads > Exact {
 		return badSetup("Reads is %v, and has to be Shared or Exact", s.Reads)
+	}
+	if s.AtLimit > Refuse {
+		return badSetup("AtLimit is %v, and has to be LoadBeside or Refuse", s.AtLimit)
 	}
 	return s.checkDurations()
 }

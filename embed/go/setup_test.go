@@ -133,6 +133,7 @@ func TestEachSettingOutOfItsRangeIsNamedWithItsValueAndItsRange(t *testing.T) {
 		{Setup{Entries: 4_194_305, Adaptive: On}, "Adaptive is On, and has to be Default or Off unless Entries, which is 4194305, is from 64 to 4194304"},
 		{Setup{Entries: 512, Adaptive: 3}, "Adaptive is Choice(3), and has to be Default, On or Off"},
 		{Setup{Entries: 512, Reads: 2}, "Reads is Reads(2), and has to be Shared or Exact"},
+		{Setup{Entries: 512, AtLimit: 2}, "AtLimit is AtLimit(2), and has to be LoadBeside or Refuse"},
 	} {
 		_, err := Open[uint64, string](row.s)
 		if !errors.Is(err, ErrBadSetup) || err.Error() != "rookdresser: a setting is out of its range: "+row.said {

@@ -23,6 +23,8 @@ type shard[K comparable, V any] struct {
 	latest                           latest  // of each call as it is made. The library needn't have heard of it.
 	table                            table[K, V]
 	loads                            openLoads[K, V]
+	refuses                          bool                          // at the limit of open loads
+	beside                           map[uintptr]*besideLoad[K, V] // the latest one of each goroutine that loads beside the cache
 	isClosed                         bool
 }
 
@@ -33,6 +35,7 @@ func newShard[K comparable, V any](s Setup, lib library) *shard[K, V] {
 	}
 	of.table.open()
 	of.loads.most = s.Flights
+	of.refuses = s.AtLimit == Refuse
 	if of.afterWrite < of.sureFor {
 		of.sureFor = of.afterWrite
 	}

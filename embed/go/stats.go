@@ -21,6 +21,7 @@ type Stats struct {
 	Refreshes                         uint64 // loads of a key that was there but due
 	LoadTime                          time.Duration
 	Loose                             uint64 // values that were loaded and not stored
+	Beside                            uint64 // loads that were made beside the cache, since too many were open: of Loads and Failed
 	Explicit, Replaced, Expired, Size uint64 // entries that left, by their cause
 	Refused                           map[Fault]uint64
 }
@@ -40,8 +41,8 @@ func (s Stats) String() string {
 		refused += count
 	}
 	return fmt.Sprintf("hits %d misses %d hit-ratio %.3f joins %d refreshes %d loads %d loose %d failed %d load-time %v"+
-		" explicit %d replaced %d expired %d size %d refused %d", s.Hits, s.Misses, s.HitRatio(), s.Joins, s.Refreshes, s.Loads, s.Loose,
-		s.Failed, s.LoadTime, s.Explicit, s.Replaced, s.Expired, s.Size, refused)
+		" explicit %d replaced %d expired %d size %d refused %d beside %d", s.Hits, s.Misses, s.HitRatio(), s.Joins, s.Refreshes, s.Loads, s.Loose,
+		s.Failed, s.LoadTime, s.Explicit, s.Replaced, s.Expired, s.Size, refused, s.Beside)
 }
 
 func (s *Stats) refuse(f Fault) {
@@ -87,6 +88,7 @@ func (s *Stats) add(other *Stats) {
 	s.Refreshes += other.Refreshes
 	s.LoadTime += other.LoadTime
 	s.Loose += other.Loose
+	s.Beside += other.Beside
 	s.Explicit += other.Explicit
 	s.Replaced += other.Replaced
 	s.Expired += other.Expired
