@@ -50,12 +50,17 @@ impl<'d, 'c, 'f, K: CacheKey, V: Value<K>, W: World<K, V>> Cache<'d, 'c, 'f, K, 
         ensures made { IsReady (members_of K.CacheKey V.Value) key now self.old.caller.now
             self.new.caller.now }
     {
-        if let Some(followers) = self.followers {
-            // A fault is one of a slide or of memory, and the look-up stands without it.
-            let _ = match &mut self.unseen {
-                Some(unseen) => self.caller.follow_by(followers, unseen, key, now),
-                None => self.caller.follow(followers, key, now),
-            };
+        let Some(followers) = self.followers else {
+            return;
+        };
+        // A fault is one of a slide or of memory, and the look-up stands without it.
+        match &mut self.unseen {
+            Some(unseen) => {
+                let _ = self.caller.follow_by(followers, unseen, key, now);
+            }
+            None => {
+                let _ = self.caller.follow(followers, key, now);
+            }
         }
     }
 

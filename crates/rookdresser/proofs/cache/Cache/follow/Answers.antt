@@ -5,6 +5,16 @@ use Rattle.rookdresser.proofs.cache.Cache.follow.Goals as goal
 pub returns-in-Some : goal.returns-in-Some
 returns-in-Some g c = record {
   made = inr (record {
+    slides = c.follow_by.result;
+    made = c.follow_by.ensures.made;
+    same = c.follow_by.ensures.same;
+    more = followed-more _ _ _ _ _ _ _ _ c.follow_by.ensures.made;
+  });
+}
+
+pub returns-in-None : goal.returns-in-None
+returns-in-None g c = record {
+  made = inr (record {
     slides = c.follow.result;
     made = c.follow.ensures.made;
     same = c.follow.ensures.same;
