@@ -136,19 +136,19 @@ impl BuildHasher for Folded {
 }
 
 impl<S: BuildHasher> Work for Loading<u64, u64, (), S> {
-    fn look(&self, key: u64, now: u64) -> bool {
-        self.look_at(&key, now).expect("memory is there").is_some()
+    fn look(&self, key: u64, _: u64) -> bool {
+        Loading::look(self, &key).expect("memory is there").is_some()
     }
-    fn put(&self, key: u64, now: u64) {
-        self.store_at(&key, key, 1, now).expect("memory is there");
+    fn put(&self, key: u64, _: u64) {
+        self.store(&key, key, 1).expect("memory is there");
     }
-    fn read_through(&self, key: u64, now: u64) -> bool {
+    fn read_through(&self, key: u64, _: u64) -> bool {
         let mut there = true;
         let load = || {
             there = false;
             Ok((key, 1))
         };
-        self.get_at(&key, now, load).expect("loads land at once");
+        self.get(&key, load).expect("loads land at once");
         there
     }
 }
@@ -167,19 +167,19 @@ impl Wake for Nobody {
 }
 
 impl Work for Tasks {
-    fn look(&self, key: u64, now: u64) -> bool {
-        self.cache.look_at(&key, now).expect("memory is there").is_some()
+    fn look(&self, key: u64, _: u64) -> bool {
+        self.cache.look(&key).expect("memory is there").is_some()
     }
-    fn put(&self, key: u64, now: u64) {
-        self.cache.store_at(&key, key, 1, now).expect("memory is there");
+    fn put(&self, key: u64, _: u64) {
+        self.cache.store(&key, key, 1).expect("memory is there");
     }
-    fn read_through(&self, key: u64, now: u64) -> bool {
+    fn read_through(&self, key: u64, _: u64) -> bool {
         let mut there = true;
         let load = async {
             there = false;
             Ok((key, 1))
         };
-        let Poll::Ready(got) = pin!(self.cache.get_at(&key, now, load)).poll(&mut Context::from_waker(&self.waker))
+        let Poll::Ready(got) = pin!(self.cache.get(&key, load)).poll(&mut Context::from_waker(&self.waker))
         else {
             unreachable!("loads land at once")
         };

@@ -29,6 +29,7 @@ fn main() {
         );
         std::process::exit(1);
     };
+    println!("cargo:rustc-check-cfg=cfg(rookdresser_under_thread_sanitizer)");
     println!("cargo:rustc-link-search=native={folder}");
     println!("cargo:rustc-link-lib=static=rookdresser");
     write_front_page();

@@ -3,13 +3,14 @@ use crate::life::Life;
 use crate::panics::{Guarded, Panics};
 use crate::several::Several;
 use crate::store::{drop_each, Ended, Store};
-use crate::table::{hash_of, Place};
+use crate::table::{hash_of, place, InRows, Place};
 use crate::window::{Advice, Share};
 use crate::{Fault, Found, Landed, Left, Numbers, OpenError, Setup, Token};
 use std::borrow::Borrow;
 use std::collections::hash_map::RandomState;
 use std::fmt::{Debug, Formatter};
 use std::hash::{BuildHasher, Hash};
+use std::marker::PhantomData;
 use std::sync::Arc;
 use std::time::Duration;
 
@@ -22,7 +23,7 @@ type AllLeft<K, V> = Vec<Left<Arc<K>, V>>;
 /// The library gets a number for each key: its hash by `S`, whose random seed keeps strangers who choose keys from aiming at the
 /// cache's tables.
 pub struct Cache<K, V, S = RandomState> {
-    store: Store<K, V>,
+    store: Store<K, InRows<V>>,
     hasher: S,
 }
 
@@ -64,7 +65,7 @@ impl<K: Hash + Eq + Clone, V, S: BuildHasher> Cache<K, V, S> {
     pub fn with_hasher(setup: &Setup, hasher: S) -> Result<Self, OpenError> {
         setup.check_sharded(1)?;
         let advice = Advice::of(setup, std::slice::from_ref(setup));
-        Ok(Cache { store: Store::open(setup, Share::of(advice, 1, 0))?, hasher })
+        Ok(Cache { store: Store::open(setup, Share::of(advice, 1, 0), InRows(PhantomData))?, hasher })
     }
 
     /// The key's value, if it is there, with what left.
@@ -88,9 +89,9 @@ impl<K: Hash + Eq + Clone, V, S: BuildHasher> Cache<K, V, S> {
     {
         let hash = hash_of(&self.hasher, key);
         let at = self.found(hash, key);
-        let is_there = self.store.look(at, hash, now)?.is_some();
+        let is_there = self.store.look(at, hash, now)?;
         let left = self.left();
-        let value = at.filter(|_| is_there).and_then(|at| self.store.table.row(at).value.as_ref());
+        let value = at.filter(|_| is_there).and_then(|at| self.store.table.row(at).kept.as_ref());
         Ok((value, left))
     }
 
@@ -115,7 +116,7 @@ impl<K: Hash + Eq + Clone, V, S: BuildHasher> Cache<K, V, S> {
         let at = self.found(hash_of(&self.hasher, key), key)?;
         let number = self.store.table.row(at).number;
         self.store.library.peek(number, now)?;
-        self.store.table.row(at).value.as_ref()
+        self.store.table.row(at).kept.as_ref()
     }
 
     /// Looks the key up, and joins or opens a load, with what left. Whoever leads the load calls `land` or `fail`.
@@ -153,7 +154,7 @@ impl<K: Hash + Eq + Clone, V, S: BuildHasher> Cache<K, V, S> {
     /// # Ok::<(), Box<dyn std::error::Error>>(())
     /// ```
     pub fn value(&self, token: Token) -> &V {
-        self.store.value(token)
+        self.store.table.row(place(token.token)).kept.as_ref().expect("a token that is held has its value")
     }
 
     /// Stores the value under the key.

@@ -3,8 +3,8 @@ use crate::life::Life;
 use crate::loading::Loading;
 use crate::panics::{Guarded, Panics};
 use crate::plain::are_plain;
-use crate::shard::{AllGone, Gone};
-use crate::shared::Locked;
+use crate::reads::shared::Locked;
+use crate::shard::{AllGone, AllOut, Gone};
 use crate::Fault;
 use std::borrow::Borrow;
 use std::hash::{BuildHasher, Hash};
@@ -111,11 +111,10 @@ impl<K: Hash + Eq, V, E, S: BuildHasher> Loading<K, V, E, S> {
         let hash = self.hash(key);
         let (mut shard, at) = self.found(self.shard(hash).take(), hash, key);
         let number = shard.store.number(at, hash);
-        let mut left = AllGone::none();
+        let mut left = AllOut::none();
         let dropped = shard.store.drop_key(number, now, &mut left);
         shard.counted(dropped)?;
-        drop(shard);
-        Ok(self.listener.told(left, Panics::default()))
+        Ok(self.listener.told(shard.give_back(left), Panics::default()))
     }
 
     /// Lets nobody further join a load of the key that is open, which will store nothing. Tells whether there was one.
@@ -156,11 +155,10 @@ impl<K: Hash + Eq, V, E, S: BuildHasher> Loading<K, V, E, S> {
         let hash = self.hash(key);
         let (mut shard, at) = self.found(self.shard(hash).take(), hash, key);
         let number = shard.store.number(at, hash);
-        let mut left = AllGone::none();
+        let mut left = AllOut::none();
         let forgot = shard.store.forget(number, now, &mut left);
         let forgot = shard.counted(forgot)?;
-        drop(shard);
-        self.listener.release(left);
+        self.listener.release(shard.give_back(left));
         Ok(forgot)
     }
 
@@ -256,8 +254,8 @@ impl<K: Hash + Eq, V, E, S: BuildHasher> Loading<K, V, E, S> {
         K: Borrow<Q>,
         Q: Hash + Eq + ToOwned<Owned = K> + ?Sized,
     {
-        let (mut left, mut panics) = (AllGone::none(), Panics::default());
-        self.stored(key, value, weight, now, &mut left, &mut panics)?;
+        let mut panics = Panics::default();
+        let left = self.stored(key, value, weight, now, &mut panics)?;
         self.listener.release_into(left, &mut panics);
         panics.pass_on();
         Ok(())
@@ -296,13 +294,13 @@ impl<K: Hash + Eq, V, E, S: BuildHasher> Loading<K, V, E, S> {
         K: Borrow<Q>,
         Q: Hash + Eq + ToOwned<Owned = K> + ?Sized,
     {
-        let (mut left, mut panics) = (AllGone::none(), Panics::default());
-        self.stored(key, value.into(), (weight, Life::NONE), now, &mut left, &mut panics)?;
+        let mut panics = Panics::default();
+        let left = self.stored(key, value.into(), (weight, Life::NONE), now, &mut panics)?;
         Ok(self.listener.told(left, panics))
     }
 
-    // Stores the value. What left and a panic of the drop of what isn't needed are handed out. If the call is refused, nothing left,
-    // and such a panic is passed on.
+    // Stores the value, and returns what left. A panic of the drop of what isn't needed is handed out; if the call is refused, it is
+    // passed on.
     #[inline]
     fn stored<Q>(
         &self,
@@ -310,9 +308,8 @@ impl<K: Hash + Eq, V, E, S: BuildHasher> Loading<K, V, E, S> {
         value: Arc<V>,
         weight: (u32, Life),
         now: u64,
-        left: &mut AllGone<K, V>,
         panics: &mut Panics,
-    ) -> Result<(), Fault>
+    ) -> Result<AllGone<K, V>, Fault>
     where
         K: Borrow<Q>,
         Q: Hash + Eq + ToOwned<Owned = K> + ?Sized,
@@ -320,15 +317,16 @@ impl<K: Hash + Eq, V, E, S: BuildHasher> Loading<K, V, E, S> {
         let value = Guarded::of(value);
         let hash = self.hash(key);
         let (mut shard, place, cloned) = self.place(self.shard(hash).take(), hash, key);
-        let put = shard.store.put(place, value.take(), weight, now, left);
+        let mut left = AllOut::none();
+        let put = shard.store.put(place, value.take(), weight, now, &mut left);
         let refused = match put {
-            Ok(()) if cloned.is_none() => return Ok(()),
+            Ok(()) if cloned.is_none() => return Ok(shard.give_back(left)),
             Ok(()) => None,
             Err((fault, place, value)) => Some((shard.stats.refuse(fault), place, value)),
         };
-        drop(shard);
+        let left = shard.give_back(left);
         panics.of(|| drop(cloned));
-        let Some((fault, place, value)) = refused else { return Ok(()) };
+        let Some((fault, place, value)) = refused else { return Ok(left) };
         panics.of(|| drop(place));
         panics.of(|| drop(value));
         std::mem::take(panics).pass_on();

@@ -2,8 +2,9 @@
 use crate::loading::Loading;
 use crate::panics::{Guarded, Panics};
 use crate::plain::are_plain;
+use crate::reads::notes::Note;
+use crate::reads::shared::{Locked, Shared};
 use crate::several::Several;
-use crate::shared::Locked;
 use crate::store::Store;
 use crate::table::{hash_of, Place};
 use std::borrow::Borrow;
@@ -26,7 +27,7 @@ impl<K, V, E, S> Loading<K, V, E, S> {
         hash_of(&self.hasher, key)
     }
 
-    /// The key's value, if its shard is open and the call is sure to hit; or else the shard, for the call to be made alone.
+    /// The key's value, if the call is sure to hit; or else the shard, for the call to be made alone.
     #[inline(always)]
     pub(crate) fn hit<Q>(&self, hash: u64, key: &Q, now: u64) -> Result<Arc<V>, Locked<'_, K, V, E>>
     where
@@ -34,41 +35,57 @@ impl<K, V, E, S> Loading<K, V, E, S> {
         Q: Eq + ?Sized,
     {
         let shard = self.shard(hash);
-        loop {
-            match self.hit_beside_others(hash, key, now) {
-                Some(Some(value)) => return Ok(value),
-                Some(None) => return Err(shard.take()),
-                None => {}
-            }
-            // If the shard has opened since, the call looks again: it would close it.
-            if let Some(shard) = shard.take_for_look() {
-                return Err(shard);
+        if shard.is_shared() {
+            let found = if are_plain::<K, Q>() {
+                self.hit_of_plain(shard, hash, key, now)
+            } else {
+                self.hit_of_any(shard, hash, key, now)
+            };
+            if let Some(value) = found {
+                return Ok(value);
             }
         }
+        Err(shard.take_for_look_up())
     }
 
-    // The value if the call is sure to hit. Nothing if the shard is closed.
+    // A hit without the lock, of a key that is compared among the nodes.
     #[inline(always)]
-    fn hit_beside_others<Q>(&self, hash: u64, key: &Q, now: u64) -> Option<Option<Arc<V>>>
+    fn hit_of_plain<Q>(&self, shard: &Shared<K, V, E>, hash: u64, key: &Q, now: u64) -> Option<Arc<V>>
     where
         K: Borrow<Q>,
         Q: Eq + ?Sized,
     {
-        // No closure around the hit: the compiler might not inline it.
-        let mut stripe = self.shard(hash).beside_others()?;
-        let (shard, hits) = stripe.parts()?;
-        if are_plain::<K, Q>() {
-            let Some((_, row)) = shard.store.table.rows(hash).find(|(_, row)| (*row.key).borrow() == key) else {
-                return Some(None);
-            };
-            return Some(shard.hit(row, now, hits));
+        let latest = shard.latest.before();
+        let reading = shard.nodes.read();
+        let node = reading.find(hash, |node| (*node.key).borrow() == key)?;
+        let value = node.value().filter(|_| now <= latest && latest < node.until)?;
+        let (value, note) = (value.share(), Note { number: node.number, at: node.at });
+        reading.reader.count();
+        drop(reading);
+        shard.note(note);
+        Some(value)
+    }
+
+    // The same of a key that is compared once the reader is gone: the one node of the hash is nearly always the key's.
+    fn hit_of_any<Q>(&self, shard: &Shared<K, V, E>, hash: u64, key: &Q, now: u64) -> Option<Arc<V>>
+    where
+        K: Borrow<Q>,
+        Q: Eq + ?Sized,
+    {
+        let latest = shard.latest.before();
+        let reading = shard.nodes.read();
+        let node = reading.find(hash, |_| true)?;
+        if reading.find(hash, |other| !std::ptr::eq(other, node)).is_some() {
+            return None;
         }
-        let Some(at) = shard.store.table.only(hash) else { return Some(None) };
-        let row = shard.store.table.row(at);
-        let Some(value) = shard.hit(row, now, hits) else { return Some(None) };
-        let row = Guarded::of(row.key.clone());
-        drop(stripe);
-        Some(self.is_of(row, key, value))
+        let value = node.value().filter(|_| now <= latest && latest < node.until)?;
+        let (value, note) = (value.share(), Note { number: node.number, at: node.at });
+        let row = Guarded::of(node.key.clone());
+        drop(reading);
+        let value = self.is_of(row, key, value)?;
+        self.readers.count_later();
+        shard.note(note);
+        Some(value)
     }
 
     /// The row that is alone of its hash. It is nearly always the key's: a call uses it at once, and has the key compared by

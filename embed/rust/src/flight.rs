@@ -62,7 +62,7 @@ impl<V, E> Flight<V, E> {
         if has_threads {
             self.bell.notify_all();
         }
-        for waker in wakers.into_iter() {
+        for (_, waker) in wakers.into_iter() {
             panics.of(|| outside(|| waker.wake()));
         }
     }

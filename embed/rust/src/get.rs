@@ -5,8 +5,8 @@ use crate::life::Life;
 use crate::loading::Loading;
 use crate::panics::{Guarded, Panics};
 use crate::plain::are_plain;
+use crate::reads::shared::Locked;
 use crate::shard::AllGone;
-use crate::shared::Locked;
 use crate::table::Place;
 use crate::waits::{new_number, Making, WaitsForItself};
 use crate::{Fault, Found, GetError};
@@ -243,12 +243,11 @@ impl<K: Hash + Eq, V, E, S: BuildHasher> Loading<K, V, E, S> {
         now: u64,
     ) -> Result<Sought<'a, K, V, E>, Fault> {
         match shard.store.seek(&place, now) {
-            Ok(Ok(value)) => {
-                let value = value.clone();
-                shard.stats.hits += 1;
+            Ok(Found::Hit(token)) => {
+                let value = shard.hit(token);
                 Ok(Sought::Value(self.give_back(shard, value)))
             }
-            Ok(Err(found)) => Ok(self.joined_or_led(shard, hash, place, now, found, None)),
+            Ok(found) => Ok(self.joined_or_led(shard, hash, place, now, found, None)),
             Err(fault) => Err(shard.stats.refuse(fault)),
         }
     }
@@ -267,14 +266,12 @@ impl<K: Hash + Eq, V, E, S: BuildHasher> Loading<K, V, E, S> {
         };
         let (mut shard, place, cloned) = self.place(shard, hash, key);
         let sought = match shard.store.seek(&place, now) {
-            Ok(Ok(value)) => {
-                let value = value.clone();
-                shard.stats.hits += 1;
-                held.take_in(shard.store.left());
-                drop(shard);
+            Ok(Found::Hit(token)) => {
+                let (value, left) = (shard.hit(token), shard.store.left());
+                held.take_in(shard.give_back(left));
                 Ok(Sought::Value(value))
             }
-            Ok(Err(found)) => Ok(self.joined_or_led(shard, hash, place, now, found, Some(held))),
+            Ok(found) => Ok(self.joined_or_led(shard, hash, place, now, found, Some(held))),
             Err(fault) => {
                 let fault = shard.stats.refuse(fault);
                 drop(shard);
@@ -305,22 +302,29 @@ impl<K: Hash + Eq, V, E, S: BuildHasher> Loading<K, V, E, S> {
             Found::HitLead(token, id) => {
                 shard.stats.hits += 1;
                 shard.stats.refreshes += 1;
-                (id, Some(shard.store.value(token).clone()))
+                (id, Some(shard.value(token)))
             }
             _ => {
                 shard.stats.misses += 1;
                 shard.stats.joins += 1;
                 let flight = shard.joined(&place);
                 let Some(held) = held else { return Sought::Join(self.give_back(shard, flight)) };
-                held.take_in(shard.store.left());
+                let left = shard.store.left();
+                held.take_in(shard.give_back(left));
                 return Sought::Join(flight);
             }
         };
         let at = shard.store.table.open(place);
         let number = new_number();
         let load = shard.led(at, number);
-        let left = if shard.store.has_left() { Some(Box::new(shard.store.left())) } else { None };
-        drop(shard);
+        let left = if shard.store.has_left() { Some(shard.store.left()) } else { None };
+        let left = match left {
+            Some(left) => Some(Box::new(shard.give_back(left))),
+            None => {
+                drop(shard);
+                None
+            }
+        };
         let (listener, shard, begun) = (&self.listener, self.shard(hash), Instant::now());
         Sought::Lead(Lead { listener, shard, id, making: Making::begin(number), load, at, now, old, left, begun })
     }

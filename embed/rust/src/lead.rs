@@ -3,8 +3,8 @@ use crate::flight::{Flight, Outcome};
 use crate::life::Life;
 use crate::listener::Listener;
 use crate::panics::Panics;
-use crate::shard::AllGone;
-use crate::shared::Shared;
+use crate::reads::shared::Shared;
+use crate::shard::{AllGone, AllOut};
 use crate::store::Ended;
 use crate::waits::Making;
 use crate::{GetError, Landed};
@@ -80,7 +80,7 @@ impl<K, V, E> Lead<'_, K, V, E> {
         let has_value = value.is_some();
         let mut shard = self.shard.take();
         let load = shard.loads.remove(self.load);
-        let mut left = self.left.take().map_or_else(AllGone::none, |left| *left);
+        let (mut all, mut left) = (self.left.take().map_or_else(AllGone::none, |left| *left), AllOut::none());
         let load_of = (self.id, self.at);
         let Ended { landed, value, key } = match value {
             Some(value) => shard.store.land(load_of, value, self.now, &mut left),
@@ -90,8 +90,8 @@ impl<K, V, E> Lead<'_, K, V, E> {
         shard.stats.loads += u64::from(has_value);
         shard.stats.failed += u64::from(!has_value);
         shard.stats.loose += u64::from(has_value && !matches!(landed, Landed::Kept(_)));
-        drop(shard);
-        Landing { flight: load.flight, left, value, key }
+        all.take_in(shard.give_back(left));
+        Landing { flight: load.flight, left: all, value, key }
     }
 }
 

@@ -1,39 +1,22 @@
-//! The library's cache of a shard, which callers that are beside each other tell their hits.
+//! The library's cache of a shard, with its window and the moments of its calls.
 use crate::life::Life;
-use crate::lock::Lock;
-use crate::moment::Moment;
+use crate::reads::times::Latest;
 use crate::sys::Looked;
 use crate::window::{Seen, Share, Window};
 use crate::{Fault, Found, Numbers, OpenError, Setup, Token, Tokens};
+use std::sync::Arc;
 
-/// A hit that the library is still to be told.
-#[derive(Clone, Copy)]
-pub(crate) struct Note {
-    pub(crate) number: u64,
-    /// When it was made.
-    pub(crate) now: u64,
-    /// From this moment on it would be none.
-    pub(crate) until: u64,
-}
+// So many hits are told by one call of the library.
+const TOLD_TOGETHER: usize = 8;
 
-/// The library's cache with its window, and the latest moment of a call. The library itself may not have heard of that yet.
-///
-/// The cache and the moment have cache lines of their own, since a hit beside others reads the moment alone.
+/// The library's cache with its window, and the latest moment of a call.
 pub(crate) struct Library {
-    inner: Lock<Inner>,
-    latest: Moment,
+    tokens: Tokens,
+    seen: Seen,
+    latest: Arc<Latest>,
     window: Window,
     // How long after its moment a value that is stored without a life is sure to be found, and not due.
     sure_for: u64,
-    // Whether entries expire or get due, or one has had a life. If not, no moment matters.
-    has_durations: bool,
-}
-
-struct Inner {
-    tokens: Tokens,
-    seen: Seen,
-    // Room for the hits that are told.
-    looks: Vec<Looked>,
 }
 
 impl Library {
@@ -42,12 +25,11 @@ impl Library {
         let seen = Seen::of(share.as_ref());
         let window = Window::of(setup, share);
         let tokens = Tokens::of(&setup.with_window(window.holds()))?;
-        let inner = Lock::new(Inner { tokens, seen, looks: Vec::new() });
         let [after_write, after_access, refresh] = setup.milliseconds();
         let shortest = [after_write, refresh].into_iter().filter(|&duration| duration != 0).min();
         // The library has to hear of each use at once if `after_access` is set: a hit it hears of late would keep nothing from expiring.
         let sure_for = if after_access == 0 { shortest.unwrap_or(u64::MAX) } else { 0 };
-        Ok(Library { inner, latest: Moment::default(), window, sure_for, has_durations: shortest.is_some() })
+        Ok(Library { tokens, seen, latest: Arc::default(), window, sure_for })
     }
 
     /// Whether entries expire by the time since their last use. Then no hit is ever sure.
@@ -55,10 +37,15 @@ impl Library {
         self.sure_for == 0
     }
 
-    /// The calls of the library, for whoever has it alone.
+    /// The latest moment, which hits without the lock read.
+    pub(crate) fn latest(&self) -> &Arc<Latest> {
+        &self.latest
+    }
+
+    /// The calls of the library.
     #[inline(always)]
     pub(crate) fn tokens(&mut self) -> &mut Tokens {
-        &mut self.inner.get_mut().tokens
+        &mut self.tokens
     }
 
     /// How many entries the window may hold.
@@ -68,8 +55,7 @@ impl Library {
 
     /// The token that a look-up would hit, with nothing used.
     pub(crate) fn peek(&mut self, number: u64, now: u64) -> Option<Token> {
-        let now = now.max(*self.latest.get_mut());
-        self.inner.get_mut().tokens.peek(number, now)
+        self.tokens.peek(number, now.max(self.latest.get()))
     }
 
     #[inline(always)]
@@ -91,7 +77,7 @@ impl Library {
         call: impl FnOnce(&mut Tokens, u64, u64) -> Result<Found, Fault>,
     ) -> Result<Found, Fault> {
         let found = self.made(now, |tokens, now| call(tokens, number, now))?;
-        self.inner.get_mut().seen.add(number);
+        self.seen.add(number);
         Ok(found)
     }
 
@@ -106,7 +92,7 @@ impl Library {
         call: impl FnOnce(&mut Tokens, u64) -> Result<T, Fault>,
     ) -> Result<T, Fault> {
         if self.window.is_to_move() {
-            self.window.follow(&mut self.inner.get_mut().tokens, *self.latest.get_mut());
+            self.window.follow(&mut self.tokens, self.latest.get());
         }
         self.made_as_it_is(now, call)
     }
@@ -118,59 +104,43 @@ impl Library {
         now: u64,
         call: impl FnOnce(&mut Tokens, u64) -> Result<T, Fault>,
     ) -> Result<T, Fault> {
-        let latest = self.latest.get_mut();
-        let now = now.max(*latest);
-        let made = call(&mut self.inner.get_mut().tokens, now)?;
-        *latest = now;
+        let now = now.max(self.latest.get());
+        let made = call(&mut self.tokens, now)?;
+        self.latest.pass(now);
         Ok(made)
     }
 
     /// Until when a value that the latest call has stored is sure to be found, and not due.
     #[inline]
-    pub(crate) fn until(&mut self, life: Life) -> u64 {
-        self.has_durations |= life != Life::NONE;
-        self.latest.get_mut().saturating_add(life.within(self.sure_for))
+    pub(crate) fn until(&self, life: Life) -> u64 {
+        self.latest.get().saturating_add(life.within(self.sure_for))
     }
 
-    /// The moment of a hit beside others, or the latest moment if that is later; nothing if that isn't before `until`.
-    #[inline]
-    pub(crate) fn hit_at(&self, now: u64, until: u64) -> Option<u64> {
-        if !self.has_durations {
-            return Some(now);
+    /// Tells the library of hits of these numbers, at the latest moment: each is there. Returns how many look-ups it has made of them; it
+    /// hears no more of them once it refuses one.
+    pub(crate) fn tell(&mut self, mut numbers: impl Iterator<Item = u64>) -> u64 {
+        let (now, mut told) = (self.latest.get(), 0);
+        loop {
+            let mut looks = [Looked::default(); TOLD_TOGETHER];
+            let count =
+                looks.iter_mut().zip(&mut numbers).map(|(look, key)| *look = Looked { key, now, ..*look }).count();
+            let made = self.tokens.look_many(&mut looks[..count]);
+            looks[..made].iter().for_each(|look| self.seen.add(look.key));
+            told += made as u64;
+            if made < TOLD_TOGETHER {
+                return told;
+            }
         }
-        self.latest.raised(now, until)
-    }
-
-    /// Tells of hits, unless another caller is at it. Returns how many of them the library has heard of, if it wasn't busy.
-    pub(crate) fn try_tell(&self, notes: &[Note]) -> Option<usize> {
-        self.inner.try_take().map(|mut inner| self.told(&mut inner, notes))
-    }
-
-    /// The same, as soon as no other caller is at it.
-    pub(crate) fn tell(&self, notes: &[Note]) -> usize {
-        self.told(&mut self.inner.take(), notes)
-    }
-
-    // A hit whose entry has expired by the latest moment isn't told: the library would take the entry out. Whoever raised the library's
-    // own moment had raised this one before.
-    fn told(&self, inner: &mut Inner, notes: &[Note]) -> usize {
-        let latest = if self.has_durations { self.latest.get() } else { 0 };
-        let sure = notes.iter().filter(|note| latest < note.until);
-        inner.looks.clear();
-        inner.looks.extend(sure.map(|note| Looked { key: note.number, now: note.now, ..Looked::default() }));
-        let told = inner.tokens.look_many(&mut inner.looks);
-        inner.looks[..told].iter().for_each(|look| inner.seen.add(look.key));
-        told
     }
 
     /// The keys that the adviser was shown.
     #[cfg(test)]
     pub(crate) fn shown(&mut self) -> Vec<u64> {
-        self.inner.get_mut().seen.shown()
+        self.seen.shown()
     }
 
     pub(crate) fn numbers(&mut self) -> Numbers {
-        let (latest, numbers) = (*self.latest.get_mut(), self.tokens().numbers());
+        let (latest, numbers) = (self.latest.get(), self.tokens.numbers());
         Numbers { latest: latest.max(numbers.latest), ..numbers }
     }
 }

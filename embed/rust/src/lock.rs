@@ -32,12 +32,6 @@ impl<T> Lock<T> {
         self.attempt()
     }
 
-    /// What it guards, for whoever has it alone.
-    #[inline(always)]
-    pub(crate) fn get_mut(&mut self) -> &mut T {
-        self.0.get_mut().unwrap_or_else(PoisonError::into_inner)
-    }
-
     #[inline]
     fn attempt(&self) -> Option<Taken<'_, T>> {
         match self.0.try_lock() {
@@ -63,10 +57,11 @@ impl<T> Lock<T> {
         std::ptr::from_ref(self) as usize
     }
 
-    // Pauses that grow, 127 in all, then three yields, then std's own wait.
+    // Pauses that grow, 127 in all, then three yields, then std's own wait. The thread sanitizer can't see into that, so it isn't reached.
     #[cold]
     fn wait(&self) -> Taken<'_, T> {
-        for round in 0..10 {
+        let rounds = if cfg!(rookdresser_under_thread_sanitizer) { usize::MAX } else { 10 };
+        for round in 0..rounds {
             if round < 7 {
                 (0..1 << round).for_each(|_| std::hint::spin_loop());
             } else {

@@ -8,8 +8,7 @@ use std::sync::Arc;
 impl<K, V, E, S> Loading<K, V, E, S> {
     /// Whether `look` would find the key's value. It uses no entry, counts nothing, and lets nothing leave.
     ///
-    /// It takes the lock of the key's shard, so it keeps threads that only hit from going on beside each other. To use the value, call
-    /// `look` alone: the entry may leave between two calls. Expected O(1).
+    /// It takes the lock of the key's shard. To use the value, call `look` alone: the entry may leave between two calls. Expected O(1).
     ///
     /// ```
     /// # use rookdresser::{Loading, Setup};
@@ -86,7 +85,7 @@ impl<K, V, E, S> Loading<K, V, E, S> {
         for shard in self.all_shards() {
             let mut shard = shard.take();
             let Store { library, table, .. } = &mut shard.store;
-            let there = table.all().filter(|row| row.value.is_some() && library.peek(row.number, now).is_some());
+            let there = table.all().filter(|row| row.kept.is_some() && library.peek(row.number, now).is_some());
             keys.extend(there.map(|row| row.key.clone()));
         }
         keys

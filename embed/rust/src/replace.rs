@@ -2,7 +2,7 @@
 use crate::life::Life;
 use crate::loading::Loading;
 use crate::panics::{Guarded, Panics};
-use crate::shard::AllGone;
+use crate::shard::AllOut;
 use crate::table::Place;
 use crate::Fault;
 use std::borrow::Borrow;
@@ -72,11 +72,10 @@ impl<K: Hash + Eq, V, E, S: BuildHasher> Loading<K, V, E, S> {
             drop(shard);
             return Ok(false);
         };
-        let (mut left, mut panics) = (AllGone::none(), Panics::default());
+        let (mut left, mut panics) = (AllOut::none(), Panics::default());
         match shard.store.put(Place::At(at), value.take(), (weight, Life::NONE), now, &mut left) {
             Ok(()) => {
-                drop(shard);
-                self.listener.release_into(left, &mut panics);
+                self.listener.release_into(shard.give_back(left), &mut panics);
                 panics.checked(Ok(true))
             }
             Err((fault, _, value)) => {
@@ -157,8 +156,7 @@ impl<K: Hash + Eq, V, E, S: BuildHasher> Loading<K, V, E, S> {
             }
             found => (found.map(|there| there.expect("it was found")), None),
         };
-        drop(shard);
-        self.listener.release_into(left, &mut panics);
+        self.listener.release_into(shard.give_back(left), &mut panics);
         if let Some((place, value)) = spare {
             panics.of(|| drop(place));
             panics.of(|| drop(value));

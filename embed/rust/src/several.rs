@@ -41,6 +41,14 @@ impl<T> Several<T> {
         }
     }
 
+    /// What the call makes of each of them.
+    #[inline]
+    pub(crate) fn map<U>(self, mut call: impl FnMut(T) -> U) -> Several<U> {
+        let first = self.first.map(&mut call);
+        let more = if self.more.is_empty() { Vec::new() } else { self.more.into_iter().map(call).collect() };
+        Several { first, more }
+    }
+
     pub(crate) fn iter(&self) -> impl Iterator<Item = &T> {
         self.first.iter().chain(&self.more)
     }

@@ -79,6 +79,12 @@ impl<T> Slab<T> {
         self.places.len() - self.free.len()
     }
 
+    /// What is at the place, if anything is.
+    #[inline]
+    pub(crate) fn get(&self, at: u32) -> Option<&T> {
+        self.places.get(at as usize)?.as_ref()
+    }
+
     /// All of them, each with its place.
     pub(crate) fn iter(&self) -> impl Iterator<Item = (u32, &T)> {
         self.places.iter().enumerate().filter_map(|(at, thing)| Some((at as u32, thing.as_ref()?)))
@@ -88,8 +94,8 @@ impl<T> Slab<T> {
         self.places.iter_mut().enumerate().filter_map(|(at, thing)| Some((at as u32, thing.as_mut()?)))
     }
 
-    pub(crate) fn into_iter(self) -> impl Iterator<Item = T> {
-        self.places.into_iter().flatten()
+    pub(crate) fn into_iter(self) -> impl Iterator<Item = (u32, T)> {
+        self.places.into_iter().enumerate().filter_map(|(at, thing)| Some((at as u32, thing?)))
     }
 }
 

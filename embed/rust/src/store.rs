@@ -3,7 +3,7 @@ use crate::library::Library;
 use crate::life::Life;
 use crate::panics::Panics;
 use crate::several::Several;
-use crate::table::{Place, Table};
+use crate::table::{Place, Table, Values};
 use crate::window::Share;
 use crate::{Fault, Found, Landed, Numbers, OpenError, Setup, Token};
 use std::sync::Arc;
@@ -38,21 +38,16 @@ pub(crate) type AllLeft<K, V> = Several<Left<Arc<K>, V>>;
 /// A cache of tokens, with a row for each key that is in use.
 ///
 /// A call that makes entries leave adds them to what it is handed.
-pub(crate) struct Store<K, V> {
+pub(crate) struct Store<K, M: Values<K>> {
     pub(crate) library: Library,
-    pub(crate) table: Table<K, V>,
+    pub(crate) table: Table<K, M>,
     /// How many entries have left, by their cause.
     pub(crate) causes: [u64; 4],
 }
 
-impl<K, V> Store<K, V> {
-    pub(crate) fn open(setup: &Setup, share: Option<Share>) -> Result<Self, OpenError> {
-        Ok(Store { library: Library::open(setup, share)?, table: Table::of(setup.entries), causes: [0; 4] })
-    }
-
-    #[inline]
-    pub(crate) fn value(&self, token: Token) -> &V {
-        self.table.value(token.token)
+impl<K, M: Values<K>> Store<K, M> {
+    pub(crate) fn open(setup: &Setup, share: Option<Share>, values: M) -> Result<Self, OpenError> {
+        Ok(Store { library: Library::open(setup, share)?, table: Table::of(setup.entries, values), causes: [0; 4] })
     }
 
     /// The number of a row, or the one for a new key of this hash.
@@ -64,29 +59,18 @@ impl<K, V> Store<K, V> {
         }
     }
 
-    /// Looks up the key of a row, or a new key of this hash. Returns the value if it is there. `left` tells what left by it.
+    /// Looks up the key of a row, or a new key of this hash. Returns whether it is there. `left` tells what left by it.
     #[inline(always)]
-    pub(crate) fn look(&mut self, at: Option<u32>, hash: u64, now: u64) -> Result<Option<&V>, Fault> {
-        let row = at.map(|at| self.table.row(at));
-        let number = row.map_or_else(|| self.table.free(hash), |row| row.number);
-        match self.library.look(number, now)? {
-            Found::Hit(_) => Ok(row.and_then(|row| row.value.as_ref())),
-            _ => Ok(None),
-        }
+    pub(crate) fn look(&mut self, at: Option<u32>, hash: u64, now: u64) -> Result<bool, Fault> {
+        let number = self.number(at, hash);
+        Ok(matches!(self.library.look(number, now)?, Found::Hit(_)))
     }
 
-    /// A seek. Returns the value if it is there, or else what was found. `left` tells what left by it.
+    /// A seek. `left` tells what left by it.
     #[inline(always)]
-    pub(crate) fn seek(&mut self, place: &Place<K>, now: u64) -> Result<Result<&V, Found>, Fault> {
+    pub(crate) fn seek(&mut self, place: &Place<K>, now: u64) -> Result<Found, Fault> {
         self.table.try_room(place)?;
-        let (row, number) = match place {
-            Place::At(at) => (Some(self.table.row(*at)), self.table.row(*at).number),
-            Place::New { number, .. } => (None, *number),
-        };
-        match self.library.seek(number, now)? {
-            found @ Found::Hit(_) => Ok(row.and_then(|row| row.value.as_ref()).ok_or(found)),
-            found => Ok(Err(found)),
-        }
+        self.library.seek(self.table.number(place), now)
     }
 
     /// Stores the value. One that is refused is given back with its place.
@@ -94,11 +78,11 @@ impl<K, V> Store<K, V> {
     pub(crate) fn put(
         &mut self,
         place: Place<K>,
-        value: V,
+        value: M::Value,
         (weight, life): (u32, Life),
         now: u64,
-        left: &mut AllLeft<K, V>,
-    ) -> Result<(), (Fault, Place<K>, V)> {
+        left: &mut AllLeft<K, M::Out>,
+    ) -> Result<(), (Fault, Place<K>, M::Value)> {
         if let Err(fault) = self.table.try_room(&place) {
             return Err((fault, place, value));
         }
@@ -117,10 +101,10 @@ impl<K, V> Store<K, V> {
     pub(crate) fn land(
         &mut self,
         (id, at): (u64, u32),
-        (value, weight, life): (V, u32, Life),
+        (value, weight, life): (M::Value, u32, Life),
         now: u64,
-        left: &mut AllLeft<K, V>,
-    ) -> Ended<K, V> {
+        left: &mut AllLeft<K, M::Out>,
+    ) -> Ended<K, M::Value> {
         let number = self.table.row(at).number;
         let token = self.table.next_token(&Place::At(at));
         let held = Token { token, weight };
@@ -141,38 +125,44 @@ impl<K, V> Store<K, V> {
     }
 
     /// Closes a load that used the row and failed.
-    pub(crate) fn fail(&mut self, (id, at): (u64, u32), now: u64, left: &mut AllLeft<K, V>) -> Ended<K, V> {
+    pub(crate) fn fail(&mut self, (id, at): (u64, u32), now: u64, left: &mut AllLeft<K, M::Out>) -> Ended<K, M::Value> {
         let number = self.table.row(at).number;
         let landed = self.library.made(now, |tokens, now| tokens.land_failed(id, number, now));
         self.ended(landed.unwrap_or(Landed::Gone), at, None, left)
     }
 
     // A load of the row ended, and stored nothing.
-    fn ended(&mut self, landed: Landed, at: u32, value: Option<V>, left: &mut AllLeft<K, V>) -> Ended<K, V> {
+    fn ended(
+        &mut self,
+        landed: Landed,
+        at: u32,
+        value: Option<M::Value>,
+        left: &mut AllLeft<K, M::Out>,
+    ) -> Ended<K, M::Value> {
         self.take_out(None, left);
         let key = if landed == Landed::Gone { None } else { self.table.close(at) };
         Ended { landed, value, key }
     }
 
-    pub(crate) fn drop_key(&mut self, number: u64, now: u64, left: &mut AllLeft<K, V>) -> Result<(), Fault> {
+    pub(crate) fn drop_key(&mut self, number: u64, now: u64, left: &mut AllLeft<K, M::Out>) -> Result<(), Fault> {
         self.library.made_as_it_is(now, |tokens, now| tokens.drop_key(number, now))?;
         self.take_out(None, left);
         Ok(())
     }
 
-    pub(crate) fn forget(&mut self, number: u64, now: u64, left: &mut AllLeft<K, V>) -> Result<bool, Fault> {
+    pub(crate) fn forget(&mut self, number: u64, now: u64, left: &mut AllLeft<K, M::Out>) -> Result<bool, Fault> {
         let forgot = self.library.made_as_it_is(now, |tokens, now| tokens.forget(number, now))?;
         self.take_out(None, left);
         Ok(forgot)
     }
 
-    pub(crate) fn clear(&mut self, now: u64, left: &mut AllLeft<K, V>) -> Result<(), Fault> {
+    pub(crate) fn clear(&mut self, now: u64, left: &mut AllLeft<K, M::Out>) -> Result<(), Fault> {
         self.library.made_as_it_is(now, |tokens, now| tokens.clear(now))?;
         self.take_out(None, left);
         Ok(())
     }
 
-    pub(crate) fn clean(&mut self, now: u64, left: &mut AllLeft<K, V>) -> Result<(), Fault> {
+    pub(crate) fn clean(&mut self, now: u64, left: &mut AllLeft<K, M::Out>) -> Result<(), Fault> {
         self.library.made_as_it_is(now, |tokens, now| tokens.clean(now))?;
         self.take_out(None, left);
         Ok(())
@@ -194,7 +184,7 @@ impl<K, V> Store<K, V> {
 
     /// Moves out what left by the latest look or seek.
     #[inline]
-    pub(crate) fn left(&mut self) -> AllLeft<K, V> {
+    pub(crate) fn left(&mut self) -> AllLeft<K, M::Out> {
         let mut left = Several::none();
         self.take_out(None, &mut left);
         left
@@ -202,13 +192,13 @@ impl<K, V> Store<K, V> {
 
     // Moves out what left by the latest call. If that stored a value in place of an old one, the old one is among it.
     #[inline]
-    fn take_out(&mut self, mut old: Option<V>, left: &mut AllLeft<K, V>) {
+    fn take_out(&mut self, mut old: Option<M::Out>, left: &mut AllLeft<K, M::Out>) {
         if self.library.tokens().has_notices() {
             self.take_each_out(&mut old, left);
         }
     }
 
-    fn take_each_out(&mut self, old: &mut Option<V>, left: &mut AllLeft<K, V>) {
+    fn take_each_out(&mut self, old: &mut Option<M::Out>, left: &mut AllLeft<K, M::Out>) {
         for notice in self.library.tokens().notices() {
             let (key, value) = self.table.take(notice.token, old);
             let cause = notice.cause;
@@ -218,13 +208,14 @@ impl<K, V> Store<K, V> {
     }
 }
 
-impl<K, V> Drop for Store<K, V> {
+impl<K, M: Values<K>> Drop for Store<K, M> {
     fn drop(&mut self) {
         let mut panics = Panics::default();
-        for (key, value) in self.table.take_all() {
-            panics.of(|| drop(value));
+        let (keys, left) = self.table.take_all();
+        for key in keys {
             panics.of(|| drop(key));
         }
+        drop_each(self.table.values.open(left), &mut panics);
         panics.pass_on();
     }
 }

@@ -1,23 +1,23 @@
-//! The keys in use, each with its number of the library's and its value. No code of the caller's runs here: keys are compared by
-//! whoever calls, and what is let go of is handed out.
+//! The keys in use, each with its number of the library's and what it keeps of its value. No code of the caller's runs here: keys are
+//! compared by whoever calls, and what is let go of is handed out.
 use crate::slab::Slab;
-use crate::Fault;
+use crate::store::AllLeft;
+use crate::{Cause, Fault, Left};
 use std::collections::{HashSet, TryReserveError};
 use std::hash::{BuildHasher, Hash, Hasher};
+use std::marker::PhantomData;
 use std::sync::Arc;
 
 /// A key in use: by an entry, by loads, or by both.
-pub(crate) struct Row<K, V> {
+pub(crate) struct Row<K, T> {
     pub(crate) key: Arc<K>,
     /// What the library calls the key.
     pub(crate) number: u64,
-    /// The entry's value.
-    pub(crate) value: Option<V>,
-    /// A look before this moment finds the value, and doesn't find it due.
-    pub(crate) until: u64,
+    /// What is kept of the entry's value, if there is one.
+    pub(crate) kept: Option<T>,
     /// Whoever opened the key's newest load knows it by this.
     pub(crate) newest: u32,
-    hash: u64,
+    pub(crate) hash: u64,
     // The row that comes next in the chain, or NONE.
     next: u32,
     // How many loads of the key are open.
@@ -28,9 +28,67 @@ pub(crate) struct Row<K, V> {
 
 const NONE: u32 = u32::MAX;
 
+/// A value that is stored: whose it is, and until when it is sure to be found.
+pub(crate) struct Entry<'a, K> {
+    pub(crate) key: &'a Arc<K>,
+    pub(crate) hash: u64,
+    /// What the library calls the key.
+    pub(crate) number: u64,
+    /// The key's row.
+    pub(crate) at: u32,
+    /// A look before this moment finds the value, and doesn't find it due.
+    pub(crate) until: u64,
+}
+
+/// Where a table's values are.
+pub(crate) trait Values<K> {
+    /// What is stored, and leaves.
+    type Value;
+    /// What a row keeps of it.
+    type Kept;
+    /// What was taken out, and may have to be opened.
+    type Out;
+
+    /// Stores a value, in place of what is kept of the one before, which is taken out.
+    fn store(
+        &mut self,
+        of: Entry<'_, K>,
+        value: Self::Value,
+        old: Option<Self::Kept>,
+    ) -> (Self::Kept, Option<Self::Out>);
+    /// Takes a value out of a row.
+    fn take_out(&mut self, hash: u64, at: u32, kept: Self::Kept) -> Self::Out;
+    /// Opens what was taken out.
+    fn open(&self, left: AllLeft<K, Self::Out>) -> AllLeft<K, Self::Value>;
+}
+
+/// Values that are in the rows themselves.
+pub(crate) struct InRows<V>(pub(crate) PhantomData<V>);
+
+impl<K, V> Values<K> for InRows<V> {
+    type Value = V;
+    type Kept = V;
+    type Out = V;
+
+    #[inline(always)]
+    fn store(&mut self, _: Entry<'_, K>, value: V, old: Option<V>) -> (V, Option<V>) {
+        (value, old)
+    }
+
+    #[inline(always)]
+    fn take_out(&mut self, _: u64, _: u32, kept: V) -> V {
+        kept
+    }
+
+    fn open(&self, left: AllLeft<K, V>) -> AllLeft<K, V> {
+        left
+    }
+}
+
 /// Rows by their places, and by the hashes of their keys in chains.
-pub(crate) struct Table<K, V> {
-    rows: Slab<Row<K, V>>,
+pub(crate) struct Table<K, M: Values<K>> {
+    pub(crate) values: M,
+    rows: Slab<Row<K, M::Kept>>,
     // The first row of each chain, or NONE. There are a power of two, at least twice as many as rows.
     chains: Vec<u32>,
     // The numbers that aren't their keys' hashes.
@@ -45,10 +103,10 @@ pub(crate) enum Place<K> {
     New { hash: u64, number: u64, key: Arc<K> },
 }
 
-impl<K, V> Table<K, V> {
+impl<K, M: Values<K>> Table<K, M> {
     /// For so many entries. A new key has a row before the one that it pushes out has left.
-    pub(crate) fn of(entries: u32) -> Table<K, V> {
-        Table { rows: Slab::of(entries as usize + 1), chains: vec![NONE; 16], moved: HashSet::new() }
+    pub(crate) fn of(entries: u32, values: M) -> Self {
+        Table { values, rows: Slab::of(entries as usize + 1), chains: vec![NONE; 16], moved: HashSet::new() }
     }
 
     #[inline]
@@ -58,7 +116,7 @@ impl<K, V> Table<K, V> {
 
     /// The rows of the keys with this hash, each with its place.
     #[inline]
-    pub(crate) fn rows(&self, hash: u64) -> impl Iterator<Item = (u32, &Row<K, V>)> {
+    pub(crate) fn rows(&self, hash: u64) -> impl Iterator<Item = (u32, &Row<K, M::Kept>)> {
         let mut next = self.chains[self.chain(hash)];
         std::iter::from_fn(move || {
             while next != NONE {
@@ -82,18 +140,24 @@ impl<K, V> Table<K, V> {
     }
 
     /// All rows.
-    pub(crate) fn all(&self) -> impl Iterator<Item = &Row<K, V>> {
+    pub(crate) fn all(&self) -> impl Iterator<Item = &Row<K, M::Kept>> {
         self.rows.iter().map(|(_, row)| row)
     }
 
     /// The row at a place that is in use.
     #[inline]
-    pub(crate) fn row(&self, at: u32) -> &Row<K, V> {
+    pub(crate) fn row(&self, at: u32) -> &Row<K, M::Kept> {
         &self.rows[at]
     }
 
+    /// The row at a place, if that is in use.
     #[inline]
-    pub(crate) fn row_mut(&mut self, at: u32) -> &mut Row<K, V> {
+    pub(crate) fn get(&self, at: u32) -> Option<&Row<K, M::Kept>> {
+        self.rows.get(at)
+    }
+
+    #[inline]
+    pub(crate) fn row_mut(&mut self, at: u32) -> &mut Row<K, M::Kept> {
         &mut self.rows[at]
     }
 
@@ -174,7 +238,7 @@ impl<K, V> Table<K, V> {
         }
         let chain = self.chain(hash);
         let next = self.chains[chain];
-        let row = Row { key, number, value: None, until: 0, newest: NONE, hash, next, loads: 0, turn: true };
+        let row = Row { key, number, kept: None, newest: NONE, hash, next, loads: 0, turn: true };
         self.chains[chain] = self.rows.insert(row);
         self.chains[chain]
     }
@@ -205,31 +269,32 @@ impl<K, V> Table<K, V> {
     }
 
     fn is_free(&self, at: u32) -> bool {
-        self.rows[at].loads == 0 && self.rows[at].value.is_none()
+        self.rows[at].loads == 0 && self.rows[at].kept.is_none()
     }
 
     /// Stores the value whose token was the next one. Returns the value before.
-    pub(crate) fn store(&mut self, place: Place<K>, value: V, until: u64) -> Option<V> {
+    pub(crate) fn store(&mut self, place: Place<K>, value: M::Value, until: u64) -> Option<M::Out> {
         let at = self.held(place);
         let row = &mut self.rows[at];
         row.turn = !row.turn;
-        row.until = until;
-        row.value.replace(value)
+        let Row { key, hash, number, kept, .. } = row;
+        let of = Entry { key, hash: *hash, number: *number, at, until };
+        let (new, old) = self.values.store(of, value, kept.take());
+        *kept = Some(new);
+        old
     }
 
     /// The key and the value of a token that left. The value is the old one, which `store` has returned, or the row's.
-    pub(crate) fn take(&mut self, gone: u64, old: &mut Option<V>) -> (Arc<K>, V) {
+    pub(crate) fn take(&mut self, gone: u64, old: &mut Option<M::Out>) -> (Arc<K>, M::Out) {
         let at = place(gone);
         let row = &mut self.rows[at];
-        let value = if token(at, row.turn) == gone { row.value.take() } else { old.take() };
+        let value = if token(at, row.turn) == gone {
+            row.kept.take().map(|kept| self.values.take_out(row.hash, at, kept))
+        } else {
+            old.take()
+        };
         let key = if self.is_free(at) { self.removed(at) } else { self.rows[at].key.clone() };
         (key, value.expect("a token that is held has its value"))
-    }
-
-    /// The value of a token that the library holds.
-    #[inline]
-    pub(crate) fn value(&self, token: u64) -> &V {
-        self.rows[place(token)].value.as_ref().expect("a token that is held has its value")
     }
 
     fn removed(&mut self, at: u32) -> Arc<K> {
@@ -250,10 +315,16 @@ impl<K, V> Table<K, V> {
         row.key
     }
 
-    /// Takes all rows out.
-    pub(crate) fn take_all(&mut self) -> impl Iterator<Item = (Arc<K>, Option<V>)> {
-        let rows = std::mem::replace(self, Table::of(0)).rows;
-        rows.into_iter().map(|row| (row.key, row.value))
+    /// Takes all rows out: the keys that have no value, and the others.
+    pub(crate) fn take_all(&mut self) -> (Vec<Arc<K>>, AllLeft<K, M::Out>) {
+        let (mut keys, mut left) = (Vec::new(), AllLeft::none());
+        for (at, row) in std::mem::replace(&mut self.rows, Slab::of(0)).into_iter() {
+            match row.kept.map(|kept| self.values.take_out(row.hash, at, kept)) {
+                Some(value) => left.push(Left { key: row.key, value, cause: Cause::Explicit }),
+                None => keys.push(row.key),
+            }
+        }
+        (keys, left)
     }
 
     /// How many keys there are.
@@ -263,7 +334,7 @@ impl<K, V> Table<K, V> {
 
     /// How many values and how many keys there are.
     pub(crate) fn kept(&self) -> (usize, usize) {
-        (self.rows.iter().filter(|(_, row)| row.value.is_some()).count(), self.rows.len())
+        (self.rows.iter().filter(|(_, row)| row.kept.is_some()).count(), self.rows.len())
     }
 }
 
@@ -282,9 +353,9 @@ fn spread(hash: u64) -> u64 {
     hash.wrapping_mul(0x9E37_79B9_7F4A_7C15)
 }
 
-// Which of a power of two of chains a hash belongs to.
+/// Which of a power of two of chains a hash belongs to.
 #[inline]
-fn chain_of(hash: u64, chains: usize) -> usize {
+pub(crate) fn chain_of(hash: u64, chains: usize) -> usize {
     (spread(hash) >> 32) as usize & (chains - 1)
 }
 
@@ -299,7 +370,8 @@ fn token(at: u32, turn: bool) -> u64 {
     u64::from(at) * 2 + u64::from(turn)
 }
 
+/// The row of a token.
 #[inline]
-fn place(token: u64) -> u32 {
+pub(crate) fn place(token: u64) -> u32 {
     (token / 2) as u32
 }

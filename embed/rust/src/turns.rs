@@ -152,6 +152,20 @@ pub(crate) fn takes(of: usize) {
     }
 }
 
+/// A thing is this thread's from now on: another thread that takes it waits.
+pub(crate) fn holds(of: usize) {
+    if let Some((turns, _)) = mine() {
+        turns.now().held.insert(of);
+    }
+}
+
+/// It is this thread's no longer.
+pub(crate) fn gives(of: usize) {
+    if let Some((turns, _)) = mine() {
+        turns.now().held.remove(&of);
+    }
+}
+
 /// A lock that was taken. Others are told when it is given back.
 pub(crate) struct Taken<'a, T> {
     guard: MutexGuard<'a, T>,
@@ -160,18 +174,14 @@ pub(crate) struct Taken<'a, T> {
 
 impl<'a, T> Taken<'a, T> {
     pub(crate) fn of(guard: MutexGuard<'a, T>, of: usize) -> Self {
-        if let Some((turns, _)) = mine() {
-            turns.now().held.insert(of);
-        }
+        holds(of);
         Taken { guard, of }
     }
 }
 
 impl<T> Drop for Taken<'_, T> {
     fn drop(&mut self) {
-        if let Some((turns, _)) = mine() {
-            turns.now().held.remove(&self.of);
-        }
+        gives(self.of);
     }
 }
 

@@ -1,5 +1,6 @@
 //! Each public call has an example, which `cargo test` runs, and the public types that may grow say so.
 use std::fs::{read_dir, read_to_string};
+use std::path::Path;
 
 // The calls of a file that have no example: their names, where they are public outside `sys.rs`'s declarations.
 fn without_example(source: &str) -> Vec<String> {
@@ -22,9 +23,17 @@ fn without_example(source: &str) -> Vec<String> {
     found
 }
 
+fn sources_in(folder: &Path) -> Vec<String> {
+    let files = read_dir(folder).unwrap().map(|file| file.unwrap().path());
+    let sources = files.map(|file| match file.is_dir() {
+        true => sources_in(&file),
+        false => vec![read_to_string(file).unwrap()],
+    });
+    sources.flatten().collect()
+}
+
 fn sources() -> Vec<String> {
-    let files = read_dir(concat!(env!("CARGO_MANIFEST_DIR"), "/src")).unwrap().map(|file| file.unwrap().path());
-    files.map(|file| read_to_string(file).unwrap()).collect()
+    sources_in(&Path::new(env!("CARGO_MANIFEST_DIR")).join("src"))
 }
 
 #[test]
