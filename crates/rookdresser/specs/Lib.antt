@@ -1,3 +1,4 @@
 pub mod Doors
 pub mod Gets
 pub mod Services
+pub mod Young

@@ -4,11 +4,13 @@
 
 mod cache;
 mod clock;
+mod laws;
 mod service;
 mod world;
 
 pub use cache::Cache;
 pub use clock::{Clock, Monotonic};
+pub use laws::{got_values_are_young, looked_up_values_are_young};
 pub use service::{Served, Service, serve};
 pub use world::World;
 pub use wt_cache::{Keyed, Loader, Tally};
