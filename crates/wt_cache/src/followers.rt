@@ -53,6 +53,8 @@ struct Follower<K: CacheKey> {
 // the caller makes no more.
 #[derive(Clone, Copy)]
 struct Claim {
+    // What the adviser said of the keys.
+    seen: Result<(), NoMemory>,
     wider: bool,
     left: u32,
     is_at_end: bool,
@@ -107,7 +109,12 @@ impl<K: CacheKey> Followers<K> {
             (home_at K.word key cache.now.layout) now pass.old pass.new notices.old notices.new
             result }
     {
-        self.show(rt, cache, pass, key, &[key], now, notices)
+        let home = shard_of(key.word(), cache.shards());
+        let (Some(follower), Some(moving)) = (self.shards.get(home), self.moving.get(home)) else {
+            return Ok(0);
+        };
+        let claim = Follower::see(rt, follower, moving, key);
+        make_slides(rt, cache, pass, follower, key, claim, now, notices)
     }
 
     /// Lets the window of the key's shard follow a look-up of the key, as `follow` does, but keeps the
@@ -135,86 +142,60 @@ impl<K: CacheKey> Followers<K> {
     {
         let home = shard_of(key.word(), cache.shards());
         let is_full = unseen.keep(home, key);
-        if !is_full && !self.is_moving(home) {
-            return Ok(0);
-        }
-        let done = self.show(rt, cache, pass, key, unseen.of(home), now, notices);
-        unseen.empty(home);
-        done
-    }
-
-    // Whether slides of the shard were left to claim.
-    fn is_moving(&self, home: usize) -> bool {
-        match self.moving.get(home) {
-            Some(moving) => moving.load(Ordering::SeqCst),
-            None => false,
-        }
-    }
-
-    // Shows the adviser of the key's shard these keys of the shard, and makes up to four slides.
-    fn show<V: Value<K>, L: Loader<K, V> + Drop, B: Books, R: Wait>(
-        &self,
-        rt: &R,
-        cache: &LoadingCache<K, V, L, B>,
-        pass: &mut Pass<K, V, B>,
-        key: K,
-        keys: &[K],
-        now: u64,
-        notices: &mut Notices<K, V>,
-    ) -> Result<u32, Fault>
-        requires room { cache.now.layout.config.entries ≤ notices.old.room }
-        ensures made { IsFollowed (members_of K.CacheKey V.Value)
-            (home_at K.word key cache.now.layout) now pass.old pass.new notices.old notices.new
-            result }
-    {
-        let home = shard_of(key.word(), cache.shards());
         let (Some(follower), Some(moving)) = (self.shards.get(home), self.moving.get(home)) else {
             return Ok(0);
         };
-        let (seen, mut claim) = Follower::see(rt, follower, moving, keys);
-        let slides = slide(rt, cache, pass, key, &mut claim, now, notices);
-        if claim.left > 0 || claim.is_at_end {
-            follower.lock(rt).take_back(claim, cache.entries());
+        if !is_full && !moving.load(Ordering::SeqCst) {
+            return Ok(0);
         }
-        match (slides, seen) {
-            (Ok(_), Err(NoMemory)) => Err(Fault::NoMemory),
-            (slides, _) => slides,
-        }
+        let claim = Follower::see_all(rt, follower, moving, unseen.of(home));
+        unseen.empty(home);
+        make_slides(rt, cache, pass, follower, key, claim, now, notices)
     }
 }
 
 impl<K: CacheKey> Follower<K> {
-    // Shows the adviser these keys, and claims up to four slides towards the window that it then wants.
-    fn see<R: Wait>(
+    // Shows the adviser a key, and claims slides.
+    fn see<R: Wait>(rt: &R, follower: &Mutex<Follower<K>>, moving: &AtomicBool, key: K) -> Claim {
+        let mut held = follower.lock(rt);
+        let seen = held.adviser.saw(key);
+        held.claim(moving, seen)
+    }
+
+    // Shows the adviser these keys, and claims slides.
+    fn see_all<R: Wait>(
         rt: &R,
         follower: &Mutex<Follower<K>>,
         moving: &AtomicBool,
         keys: &[K],
-    ) -> (Result<(), NoMemory>, Claim) {
+    ) -> Claim {
         let mut held = follower.lock(rt);
         let seen = held.adviser.saw_all(keys);
-        let wanted = held.adviser.wanted();
-        let wider = held.window < wanted;
-        let left = held.window.abs_diff(wanted).min(SLIDES);
-        held.window = if wider {
-            held.window + left
+        held.claim(moving, seen)
+    }
+
+    // Claims up to four slides towards the window that the adviser wants.
+    fn claim(&mut self, moving: &AtomicBool, seen: Result<(), NoMemory>) -> Claim {
+        let wanted = self.adviser.wanted();
+        let wider = self.window < wanted;
+        let left = self.window.abs_diff(wanted).min(SLIDES);
+        self.window = if wider {
+            self.window + left
         } else {
-            held.window - left
+            self.window - left
         };
-        let is_moving = held.window != wanted;
+        let is_moving = self.window != wanted;
         // A write takes the line from all threads that read it, so there is one only for a change.
         if moving.load(Ordering::SeqCst) != is_moving {
             moving.store(is_moving, Ordering::SeqCst);
         }
         let is_at_end = false;
-        (
+        Claim {
             seen,
-            Claim {
-                wider,
-                left,
-                is_at_end,
-            },
-        )
+            wider,
+            left,
+            is_at_end,
+        }
     }
 
     // Takes back what was claimed and not made.
@@ -225,6 +206,33 @@ impl<K: CacheKey> Follower<K> {
             (false, true) => self.window.saturating_sub(claim.left),
             (false, false) => self.window.saturating_add(claim.left),
         };
+    }
+}
+
+// Makes the claimed slides at the key's shard, and has the follower take back those that weren't made.
+fn make_slides<K: CacheKey, V: Value<K>, L: Loader<K, V> + Drop, B: Books, R: Wait>(
+    rt: &R,
+    cache: &LoadingCache<K, V, L, B>,
+    pass: &mut Pass<K, V, B>,
+    follower: &Mutex<Follower<K>>,
+    key: K,
+    claim: Claim,
+    now: u64,
+    notices: &mut Notices<K, V>,
+) -> Result<u32, Fault>
+    requires room { cache.now.layout.config.entries ≤ notices.old.room }
+    ensures made { IsFollowed (members_of K.CacheKey V.Value)
+        (home_at K.word key cache.now.layout) now pass.old pass.new notices.old notices.new
+        result }
+{
+    let mut claim = claim;
+    let slides = slide(rt, cache, pass, key, &mut claim, now, notices);
+    if claim.left > 0 || claim.is_at_end {
+        follower.lock(rt).take_back(claim, cache.entries());
+    }
+    match (slides, claim.seen) {
+        (Ok(_), Err(NoMemory)) => Err(Fault::NoMemory),
+        (slides, _) => slides,
     }
 }
 
