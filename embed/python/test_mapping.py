@@ -108,9 +108,9 @@ class Mapping(CacheTest):
         used = native.Load()
         cache._seek("a", used, None, None)
         opened = (10, 1, 1, 1, 0, 0, 0), 1, 0, None, True, False, 0, None, None, None, None, None, None, 7, native.Load, Refused, timedelta
-        given = rookdresser.TimedOut, rookdresser.Abandoned
+        given = rookdresser.TimedOut, rookdresser.Abandoned, False
         calls = [
-            lambda: native.Table().abandon("a"), lambda: native.Table()._time_left(used), lambda: native.Table().get_or_load("a", None), lambda: native.Table().look("a"), lambda: native.Table().put("a", 1), lambda: native.Table().pop("a"),
+            lambda: native.Table().abandon("a"), lambda: native.Table()._time_left(used), lambda: cache._adopt(7, None, None), lambda: cache._adopt(used, 7, None), lambda: native.Table().get_or_load("a", None), lambda: native.Table().look("a"), lambda: native.Table().put("a", 1), lambda: native.Table().pop("a"),
             lambda: native.Table().clear(), lambda: len(native.Table()), lambda: iter(native.Table()), lambda: iter(closed), lambda: native.Table()._numbers(), lambda: native.Table().window(), lambda: native.Table()._seek("a", used, None, None),
             lambda: native.Table()._open(*opened, None, *given), lambda: native.Table()._open(*opened, native, *given), lambda: cache._open(*opened, rookdresser._waits.waits, *given),
             lambda: native.Table()._open((10, 1, 1, 1, 0, 0, 0), 1, 10, *opened[3:], rookdresser._waits.waits, *given), lambda: native.Table()._open(), lambda: native.Function(7, len, None, None, None), lambda: native.Function(native.Table(), 7, None, None, None),

@@ -45,7 +45,7 @@ class Settings(CacheTest):
     def test_the_signature_has_the_settings_by_name(self):
         kinds = {name: one.kind.name for name, one in inspect.signature(Cache).parameters.items()}
         self.assertEqual(kinds.pop("entries"), "POSITIONAL_OR_KEYWORD")
-        self.assertEqual((set(kinds.values()), list(kinds)[:2], len(kinds)), ({"KEYWORD_ONLY"}, ["window", "flights"], 14))
+        self.assertEqual((set(kinds.values()), list(kinds)[:2], len(kinds)), ({"KEYWORD_ONLY"}, ["window", "flights"], 15))
 
     def test_a_subclass_passes_settings_on(self):
         class Mine(Cache):

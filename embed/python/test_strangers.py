@@ -79,7 +79,7 @@ class Strangers(CacheTest):
         }
         for key, words in keys.items():
             table = _native.Table()
-            table._open((10, 1, 1, 10, 0, 0, 0), 1, 0, seed, True, False, 0, None, None, None, None, None, _keys.plain, prime, _native.Load, Refused, datetime.timedelta, _waits.waits, _loads.TimedOut, _loads.Abandoned)
+            table._open((10, 1, 1, 10, 0, 0, 0), 1, 0, seed, True, False, 0, None, None, None, None, None, _keys.plain, prime, _native.Load, Refused, datetime.timedelta, _waits.waits, _loads.TimedOut, _loads.Abandoned, False)
             table.put(key, 1)
             self.assertEqual([hashed for hashed, _, _ in table._uses()], [sip_hash(seed, words)], key)
 

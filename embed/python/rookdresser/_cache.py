@@ -4,10 +4,11 @@ from __future__ import annotations
 import logging
 import os
 from collections.abc import Coroutine, ItemsView, KeysView, Mapping, MutableMapping, ValuesView
+from concurrent.futures import Executor
 from datetime import timedelta
 from typing import Any, Callable, Dict, Hashable, Iterable, Iterator, Optional, Tuple, TypeVar, Union
 
-from . import _cleaner, _fork, _keys
+from . import _cleaner, _fork, _keys, _refreshes
 from ._faults import Closed, Refused
 from ._loads import Abandoned, Loads, TimedOut
 from ._native import Load
@@ -49,6 +50,8 @@ class Cache(Loads[K, V]):
                     docs/GUIDE.md, 'Entries that have expired', and clean_every
     `after_access`  an entry expires so long after it was used
     `refresh`       an entry is due for a further load so long after it was written, less than `after_write`
+    `refresh_with`  an executor of threads, which makes the loads of due entries: the caller gets the old value at once. A task's call hands
+                    them to a further task of its loop; with "task" only that. By default the caller makes them, and gets the new value
     `on_leave`      on_leave(key, value, cause) is called for each entry that leaves, in the thread whose call made it leave, after that
                     call's step and after the load has landed. The cause is "explicit", "replaced", "expired" or "size". What it raises
                     is logged
@@ -64,13 +67,15 @@ class Cache(Loads[K, V]):
                  weigh: Optional[Callable[[K, V], int]] = None, on_leave: Optional[Callable[[K, V, str], object]] = None,
                  clock: Optional[Callable[[], int]] = None, seeded: bool = True, shards: Optional[int] = None,
                  adaptive: Optional[bool] = None, refuse_at_limit: bool = False,
-                 load_timeout: Duration = 0) -> None:
+                 load_timeout: Duration = 0, refresh_with: Union[Executor, str, None] = None) -> None:
         setup, self._shards, self._entries, follows = setup_of({
             "entries": entries, "shards": shards, "window": window, "flights": flights, "bound": bound, "after_write": after_write,
             "after_access": after_access, "refresh": refresh}, adaptive)
+        self._refresh_with = _refreshes.checked(refresh_with)
+        self._tasks = set()
         self._open(setup, self._shards, self._entries if follows else 0, os.urandom(24) if seeded else None, _keys.SECRET, refuse_at_limit,
                    duration_of("load_timeout", load_timeout), weigh, clock, on_leave, _pause, _log, _keys.plain, _keys.secret_prime(), Load, Refused, timedelta, waits,
-                   TimedOut, Abandoned)
+                   TimedOut, Abandoned, refresh_with is not None)
         _fork.watch(self)
 
     def __enter__(self) -> Cache[K, V]:

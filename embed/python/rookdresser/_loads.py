@@ -7,7 +7,8 @@ import warnings
 from collections.abc import Coroutine
 from typing import TYPE_CHECKING, Any, Awaitable, Callable, Dict, Generic, Hashable, Iterable, List, Mapping, Optional, Tuple, TypeVar, Union
 
-from ._native import Load, Table
+from ._native import Load
+from ._refreshes import Refreshes
 from ._waits import wait_in_loop, waits
 
 if TYPE_CHECKING:
@@ -61,7 +62,7 @@ class Asked(Generic[K, V]):
         self.begun: List[Load[V]] = []
 
 
-class Loads(Table[K, V]):
+class Loads(Refreshes[K, V]):
     """A cache's calls that make loads in Python."""
 
     async def aget_or_load(self, key: K, load: Callable[[K], Union[V, Awaitable[V]]], ttl: Ttl[K, V] = None) -> V:
@@ -88,6 +89,9 @@ class Loads(Table[K, V]):
                         return value  # type: ignore[return-value]
                     if of is False:
                         return await _loaded(load, key)
+                    if of is mine and mine.is_refresh and self._refresh_with is not None:
+                        self._hand_to_task(mine, key, load, ttl)
+                        return mine.old  # type: ignore[return-value]
                     if of is mine:
                         return await self._make(key, mine, load, ttl)
                 except BaseException as error:

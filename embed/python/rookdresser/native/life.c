@@ -92,14 +92,15 @@ static PyObject *opened_once(void) { return PyErr_Format(PyExc_ValueError, "a ca
 
 static PyObject *table_open(Table *self, PyObject *args) {
     PyObject *given, *of_shards, *seed, *weigh, *clock, *on_leave, *pauses, *log, *plain, *prime, *load_type, *refusal, *timedelta, *waits, *timed_out, *abandoned;
-    int hash_is_secret, refuses;
+    int hash_is_secret, refuses, hands_on;
     unsigned long long load_timeout;
     unsigned int advised;
     uint64_t shards, fault;
     rd_setup setup;
-    if (!PyArg_ParseTuple(args, "O!OIOppKOOOOOOO!O!OO!OOO", &PyTuple_Type, &given, &of_shards, &advised, &seed, &hash_is_secret, &refuses, &load_timeout,
+    if (!PyArg_ParseTuple(args, "O!OIOppKOOOOOOO!O!OO!OOOp", &PyTuple_Type, &given, &of_shards, &advised, &seed, &hash_is_secret, &refuses, &load_timeout,
                           &weigh, &clock, &on_leave, &pauses, &log, &plain, &PyLong_Type, &prime, &PyType_Type, &load_type, &refusal,
-                          &PyType_Type, &timedelta, &waits, &timed_out, &abandoned))
+                          &PyType_Type, &timedelta, &waits, &timed_out, &abandoned,
+                          &hands_on))
         return NULL;
     if (PyTuple_Size(given) != 7 || PyType_GetSlot((PyTypeObject *)load_type, Py_tp_new) != (void *)load_new
         || !is_of(waits, Py_tp_methods, waits_methods))
@@ -115,6 +116,7 @@ static PyObject *table_open(Table *self, PyObject *args) {
     self->hash_is_secret = (char)hash_is_secret;
     self->refuses_at_limit = (char)refuses;
     self->load_timeout = load_timeout;
+    self->hands_on = (char)hands_on;
     self->timed_out = given_or_null(timed_out), self->abandoned = given_or_null(abandoned);
     self->room = share(setup.entries, 0, shards);
     self->load_type = given_or_null(load_type), self->refusal = given_or_null(refusal), self->waits = (Waits *)given_or_null(waits);

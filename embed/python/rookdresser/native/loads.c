@@ -240,6 +240,24 @@ static SELDOM PyObject *made_beside(Table *self, PyObject *key, const Loader *lo
     return PyCallable_Check(loader->function) || not_callable() == 0 ? loaded_once(self, key, loader) : NULL;
 }
 
+/* The old value of an entry that is due, if another thread is to make the load; else the load is made here. */
+static SELDOM PyObject *handed_on(Table *self, PyObject *key, Load *load, const Loader *loader) {
+    PyObject *args = loader->args ? loader->args : Py_None, *names = loader->names ? loader->names : Py_None;
+    const unsigned long thread = load->thread;
+    load->thread = 0; /* until the other one begins */
+    PyObject *is_taken = PyObject_CallMethod((PyObject *)self, "_hand_on", "OOOOOO", (PyObject *)load, key, loader->function, args, names,
+                                             loader->ttl ? loader->ttl : Py_None);
+    int taken = is_taken ? PyObject_IsTrue(is_taken) : -1;
+    Py_XDECREF(is_taken);
+    if (taken < 0) return failed(self, load);
+    if (taken) {
+        Py_INCREF(load->old);
+        return load->old;
+    }
+    load->thread = thread;
+    return made(self, key, load, loader);
+}
+
 /* The value of another's load that has ended, or null with its exception; null with none if the caller is to ask again.
  *
  * All who share the load raise one exception. It begins anew with the load's own traceback, and gets no context from what its caller is
@@ -264,7 +282,8 @@ PyObject *get(Table *self, PyObject *key, const Loader *loader, PyObject *timeou
         if (kind < 0) return NULL;
         if (kind == RD_HIT) return found;
         if (kind == BESIDE) return made_beside(self, key, loader);
-        if (kind == RD_LEAD) value = made(self, key, (Load *)found, loader);
+        if (kind == RD_LEAD && self->hands_on && ((Load *)found)->is_refresh) value = handed_on(self, key, (Load *)found, loader);
+        else if (kind == RD_LEAD) value = made(self, key, (Load *)found, loader);
         else if (wait_for(self, (Load *)found, timeout) == 0) value = shared((Load *)found);
         Py_DECREF(found);
         if (value || PyErr_Occurred()) return value;

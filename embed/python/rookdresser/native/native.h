@@ -134,7 +134,7 @@ typedef struct {
     uint64_t load_timeout;     /* how many milliseconds one may take; 0: any */
     Load *spare;               /* for the next load, so that no memory is asked for after its seek */
     uint64_t seed[2], mark;
-    char is_seeded, hash_is_secret, refuses_at_limit;
+    char is_seeded, hash_is_secret, refuses_at_limit, hands_on;
     PyObject *weigh, *clock, *on_leave; /* or null */
     PyObject *pause; /* lets other threads run */
     PyObject *log, *plain, *prime, *refusal, *load_type, *timedelta, *timed_out, *abandoned;

@@ -27,6 +27,25 @@ static PyObject *table_seek(Table *self, PyObject *args) {
     return pair;
 }
 
+/* Who makes the load from now on: a task, or this thread. */
+static int set_maker(Load *load, PyObject *task, void *loop) {
+    PyObject *before = load->task, *now = task == Py_None ? NULL : PyWeakref_NewRef(task, NULL);
+    if (task != Py_None && !now) return -1;
+    load->task = now;
+    load->loop = loop;
+    load->thread = PyThread_get_thread_ident();
+    load->is_below_loop = task == Py_None && loop == Py_None;
+    Py_XDECREF(before);
+    return 0;
+}
+
+static PyObject *table_adopt(Table *self, PyObject *args) {
+    PyObject *load, *task, *loop;
+    if (!PyArg_ParseTuple(args, "OOO", &load, &task, &loop) || !own(self, load)) return NULL;
+    if (set_maker((Load *)load, task, loop) < 0) return NULL;
+    Py_RETURN_NONE;
+}
+
 static PyObject *table_land(Table *self, PyObject *args) {
     PyObject *load, *value, *ttl = NULL;
     static const char why[] = "the loaded value is a coroutine, which could be awaited once";
@@ -81,6 +100,7 @@ PyMethodDef python_load_methods[] = {
     {"_seek", METHOD(table_seek), METH_VARARGS,
      "Looks the key up, and joins a load or opens the given one, of this task or else of this thread, with the loop that runs in it:\n"
      "(value, None), or (None, the load); or (None, False) if the caller is to load beside the cache."},
+    {"_adopt", METHOD(table_adopt), METH_VARARGS, "Says that a task, or else this thread, makes the load from now on."},
     {"_land", METHOD(table_land), METH_VARARGS, "Ends an open load with a value, which has a ttl or None, and returns that. Of a load that was given up it raises why, or returns the old\n"
      "value of a refresh."},
     {"_fail", METHOD(table_fail), METH_FASTCALL,
