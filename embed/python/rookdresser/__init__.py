@@ -14,9 +14,10 @@ from ._cache import Cache
 from ._decorator import CacheInfo, cached
 from ._faults import BadSetup, Closed, OutOfMemory, Refused, StepsSpent, TooHeavy, TooManyFlights
 from ._loads import Abandoned, LeftOut, TimedOut
+from ._night import OpenLoad
 from ._stats import Stats
 from ._waits import WaitsForItself
 
-__all__ = ["Abandoned", "BadSetup", "Cache", "CacheInfo", "Closed", "LeftOut", "OutOfMemory", "Refused", "Stats", "StepsSpent", "TimedOut", "TooHeavy",
-           "TooManyFlights",            "WaitsForItself", "cached"]
+__all__ = ["Abandoned", "BadSetup", "Cache", "CacheInfo", "Closed", "LeftOut", "OpenLoad", "OutOfMemory", "Refused", "Stats", "StepsSpent",
+           "TimedOut", "TooHeavy", "TooManyFlights", "WaitsForItself", "cached"]
 __version__ = "0.2.0.dev0"

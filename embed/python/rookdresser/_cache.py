@@ -6,9 +6,9 @@ import os
 from collections.abc import Coroutine, ItemsView, KeysView, Mapping, MutableMapping, ValuesView
 from concurrent.futures import Executor
 from datetime import timedelta
-from typing import Any, Callable, Dict, Hashable, Iterable, Iterator, Optional, Tuple, TypeVar, Union
+from typing import Any, Callable, Dict, Hashable, Iterable, Iterator, List, Optional, Tuple, TypeVar, Union
 
-from . import _cleaner, _fork, _keys, _refreshes
+from . import _cleaner, _fork, _keys, _night, _refreshes
 from ._faults import Closed, Refused
 from ._loads import Abandoned, Loads, TimedOut
 from ._native import Load
@@ -71,6 +71,9 @@ class Cache(Loads[K, V]):
         setup, self._shards, self._entries, follows = setup_of({
             "entries": entries, "shards": shards, "window": window, "flights": flights, "bound": bound, "after_write": after_write,
             "after_access": after_access, "refresh": refresh}, adaptive)
+        self._settings = {"shards": self._shards, "adaptive": follows, "window": window, "flights": flights, "bound": bound,
+                          "after_write": after_write, "after_access": after_access, "refresh": refresh, "load_timeout": load_timeout,
+                          "refuse_at_limit": refuse_at_limit}
         self._refresh_with = _refreshes.checked(refresh_with)
         self._tasks = set()
         self._open(setup, self._shards, self._entries if follows else 0, os.urandom(24) if seeded else None, _keys.SECRET, refuse_at_limit,
@@ -187,6 +190,39 @@ class Cache(Loads[K, V]):
         if not milliseconds:
             raise ValueError("aclean_every is 0, and has to be a duration")
         return _cleaner.clean_in_loop(_cleaner.Every(self, milliseconds / 1000))
+
+    def loads(self) -> List[_night.OpenLoad]:
+        """Returns the open loads, the oldest first: of each its key, its age in seconds, how many callers wait for it, and who makes it.
+
+        >>> def load(key):
+        ...     return [(load.key, load.waiting, load.maker) for load in cache.loads()]
+        >>> cache.get_or_load("a", load)
+        [('a', 0, 'MainThread')]
+        """
+        return _night.loads(self)
+
+    def load_times(self) -> Dict[float, int]:
+        """Returns how many loads took at most so many seconds, by the seconds, as Prometheus counts a histogram. The last is infinity.
+
+        They are those of `loads` and `failed` of stats(); `load_ns` is their sum.
+
+        >>> cache.get_or_load("a", str.upper), cache.load_times()[float("inf")]
+        ('A', 1)
+        """
+        return _night.load_times(self)
+
+    def describe(self) -> str:
+        """Returns all that an operator may ask, in one text: settings, numbers, load times, and the five oldest open loads.
+
+        The text is for people, and may change. It has keys, by their repr().
+
+        >>> print(cache.describe().splitlines()[0])
+        <Cache of 10 entries, 0 held>
+        """
+        try:
+            return "\n".join(_night.described(self, self.numbers()))
+        except Closed:
+            return "\n".join(_night.described(self, {}))
 
     def numbers(self) -> Dict[str, int]:
         """Returns the numbers of the library, by name, of all shards together.

@@ -238,7 +238,7 @@ static PyType_Slot table_slots[] = {
 PyType_Spec table_spec = {"rookdresser._native.Table", sizeof(Table), 0, BASE_WITH_GC, table_slots};
 
 void join_methods(void) {
-    PyMethodDef *const parts[] = {call_methods, given_up_methods, sweep_methods, python_load_methods, held_methods, life_methods}, *to = all_methods;
+    PyMethodDef *const parts[] = {call_methods, given_up_methods, open_load_methods, sweep_methods, python_load_methods, held_methods, life_methods}, *to = all_methods;
     for (size_t i = 0; i < sizeof parts / sizeof *parts; i++)
         for (PyMethodDef *from = parts[i]; from->ml_name; from++) *to++ = *from;
     *to = (PyMethodDef){NULL, NULL, 0, NULL};

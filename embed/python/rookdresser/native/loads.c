@@ -93,7 +93,9 @@ static Use *end_load(Table *self, Load *load) {
     unlink_use(self, use);
     unlink_load(self, load);
     use->load = NULL, load->use = NULL, load->is_open = 0, load->is_over = 1;
-    self->counts.load_ns += (uint64_t)(nanoseconds() - load->begun);
+    uint64_t took = (uint64_t)(nanoseconds() - load->begun);
+    self->counts.load_ns += took;
+    count_time(self, took);
     return use;
 }
 

@@ -13,6 +13,7 @@
  *     advice.c  how the windows follow the look-ups       sweeps.c        what takes entries out of the whole table
  *     life.c    how a table is opened, and its end        function.c      a cached function
  *     given_up.c  loads that take too long, or are abandoned
+ *     open_loads.c  what one asks of the loads
  *     durations.c  lives and time-outs, which are numbers or timedeltas */
 #include "native.h"
 

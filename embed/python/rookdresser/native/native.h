@@ -19,6 +19,8 @@
 enum { FAULTS = 16, NUMBERS = sizeof(rd_numbers) / sizeof(uint64_t) };
 /* The adviser sees so many look-ups at a time, and a window moves by so many entries at most ahead of a call. */
 enum { BATCH = 64, SLIDES = 4 };
+/* The buckets of load times: open_loads.c has their bounds. */
+enum { TIMES = 12 };
 /* A call on the whole table takes out or lists so many uses, or goes by so many buckets, before it lets other threads run. */
 enum { SLICE = 1000, SLICE_BUCKETS = 50000 };
 
@@ -141,6 +143,7 @@ typedef struct {
     Waits *waits;
     Counts counts;
     uint64_t refused[FAULTS];
+    uint64_t times[TIMES]; /* how many loads took so long */
 } Table;
 
 /* What makes a value: function(key), or function(*args, **names) if there are args; and the ttl of what it returns, or null. */
@@ -211,6 +214,9 @@ int give_up_overdue(Table *self, uint64_t now);
 long long time_left(Table *self, Load *load, long long most);
 PyObject *dropped(Table *self, Load *load);
 
+/* open_loads.c: what one asks of the loads. */
+void count_time(Table *self, uint64_t nanoseconds);
+
 /* waits.c: who waits for which load. */
 void link_wait(Waits *self, Load *load, Wait *wait);
 void unlink_wait(Wait *wait);
@@ -221,7 +227,7 @@ int wait_for(Table *self, Load *load, PyObject *timeout);
 /* The methods and types, for module.c. */
 PyObject *load_new(PyTypeObject *type, PyObject *args, PyObject *names);
 PyObject *table_new(PyTypeObject *type, PyObject *args, PyObject *names);
-extern PyMethodDef call_methods[], given_up_methods[], sweep_methods[], python_load_methods[], held_methods[], waits_methods[], duration_functions[];
+extern PyMethodDef call_methods[], given_up_methods[], open_load_methods[], sweep_methods[], python_load_methods[], held_methods[], waits_methods[], duration_functions[];
 extern PyType_Spec table_spec, load_spec, waits_spec, task_wait_spec, function_spec;
 PyObject *table_item(Table *self, PyObject *key);
 int table_set_item(Table *self, PyObject *key, PyObject *value);
