@@ -59,6 +59,17 @@ func (of *besideLoad[K, V]) end(took time.Duration) {
 func (c *Cache[K, V]) loadBeside(ctx context.Context, of *besideLoad[K, V], fetch fetcher[V]) (v V, err error) {
 	begun := c.clock.elapsed()
 	defer func() { of.end(c.clock.elapsed() - begun) }()
-	v, _, _, of.err = fetch(&lasting{ctx})
+	loading := newLoading(ctx, 1)
+	defer c.limit(loading)()
+	v, _, _, of.err = fetch(loading)
 	return v, of.err
+}
+
+// limit has the context of loads beside the cache end after LoadTimeout, unless they end before that.
+func (c *Cache[K, V]) limit(ctx *loading) (end func()) {
+	if c.timeout == 0 {
+		return func() {}
+	}
+	timer := afterFunc(c.timeout, func() { ctx.giveUp(ErrTimedOut) })
+	return func() { timer.Stop() }
 }

@@ -228,7 +228,7 @@ func ExampleStats_String() {
 	stats := c.Stats()
 	stats.LoadTime = 30 * time.Millisecond
 	fmt.Println(stats)
-	// Output: hits 1 misses 2 hit-ratio 0.333 joins 0 refreshes 0 loads 1 loose 0 failed 1 load-time 30ms explicit 0 replaced 0 expired 0 size 0 refused 0 beside 0
+	// Output: hits 1 misses 2 hit-ratio 0.333 joins 0 refreshes 0 loads 1 loose 0 failed 1 load-time 30ms explicit 0 replaced 0 expired 0 size 0 refused 0 beside 0 given-up 0 late 0
 }
 
 func ExampleFault_Error() {
@@ -251,6 +251,18 @@ func ExampleCause_String() {
 func ExampleChoice_String() {
 	fmt.Println(rookdresser.Default, rookdresser.On, rookdresser.Off)
 	// Output: Default On Off
+}
+
+func ExampleCache_Abandon() {
+	c := opened(rookdresser.Setup{Entries: 1000, LoadTimeout: time.Minute})
+	defer c.Close()
+	_, err := c.GetWith(context.Background(), "a page", func(ctx context.Context) (string, error) {
+		go c.Abandon("a page") // as somebody may who finds that it hangs
+		<-ctx.Done()           // as the call of a source does
+		return "", ctx.Err()
+	})
+	fmt.Println(err)
+	// Output: rookdresser: the load was abandoned
 }
 
 func ExampleAtLimit_String() {

@@ -83,5 +83,11 @@ var ErrPanicked = errors.New("rookdresser: the load panicked")
 // waits for this goroutine.
 var ErrWaitsForItself = errors.New("rookdresser: the load of the key waits for this very call")
 
+// ErrTimedOut is the error of all callers of a load that took longer than LoadTimeout.
+var ErrTimedOut = errors.New("rookdresser: the load took longer than its time limit")
+
+// ErrAbandoned is the error of all callers of a load that Abandon gave up.
+var ErrAbandoned = errors.New("rookdresser: the load was abandoned")
+
 // ErrNotLoaded is the error of the callers that waited for a key of another goroutine's GetMany whose fetch returned no value for it.
 var ErrNotLoaded = errors.New("rookdresser: the load returned no value for the key")

@@ -4,6 +4,7 @@ package rookdresser
 
 import (
 	"context"
+	"sync/atomic"
 	"time"
 
 	"rookdresser/internal/goroutine"
@@ -16,9 +17,18 @@ type load[K comparable, V any] struct {
 	before, next *load[K, V] // of those that are open
 	number, now  uint64
 	id           uint64 // the library's, if it has heard of the load; 0 if it refused it
-	isTold       bool   // whether the library has heard of it
+	ctx          *loading
+	timer        timer // nil if the load has no time limit
+	begun        atomic.Int64
+	isTold       bool // whether the library has heard of it
 	node         *node[K, V]
 	done         chan struct{} // there is one once another goroutine has joined
+	value        V             // and err are for those who joined
+	err          error
+}
+
+// A landing is what a load brings.
+type landing[V any] struct {
 	value        V
 	weight, life uint32
 	err          error
@@ -40,9 +50,10 @@ type sought[K comparable, V any] struct {
 // if the load fails. The others get the old value meanwhile.
 //
 // ctx limits how long Get waits for another goroutine's load. The context that fetch gets has the values of ctx and doesn't end with
-// it, since others may share the load. To cut a load off, set a time-out in fetch.
+// it, since others may share the load. It ends if the load is given up, by the Setup's LoadTimeout or by Abandon.
 //
 // The error is fetch's, ctx's (context.Canceled if ctx has ended and gives none), ErrPanicked, ErrWaitsForItself, ErrNotLoaded,
+// ErrTimedOut, ErrAbandoned,
 // ErrOutOfMemory or ErrClosed; and ErrTooManyFlights if the Setup's AtLimit is Refuse.
 func (c *Cache[K, V]) Get(ctx context.Context, key K, fetch func(context.Context) (V, uint32, error)) (V, error) {
 	return c.get(ctx, key, func(ctx context.Context) (v V, weight, life uint32, err error) {
@@ -55,10 +66,10 @@ func (c *Cache[K, V]) Get(ctx context.Context, key K, fetch func(context.Context
 type fetcher[V any] func(context.Context) (v V, weight, life uint32, err error)
 
 func (c *Cache[K, V]) get(ctx context.Context, key K, fetch fetcher[V]) (V, error) {
-	found, err := c.seek(key, true)
+	found, err := c.seek(key, ctx, nil)
 	switch {
 	case found.lead != nil:
-		return c.lead(ctx, found, fetch)
+		return c.lead(found, fetch)
 	case found.beside != nil:
 		c.tell(found.left)
 		return c.loadBeside(ctx, found.beside, fetch)
@@ -70,8 +81,8 @@ func (c *Cache[K, V]) get(ctx context.Context, key K, fetch fetcher[V]) (V, erro
 	return found.value, err
 }
 
-// seek counts a look-up, and says what is to do. At the limit of open loads, it may be to load beside the cache if mayBeBeside.
-func (c *Cache[K, V]) seek(key K, mayBeBeside bool) (found sought[K, V], err error) {
+// seek counts a look-up, and says what is to do. A load that it begins is one of a batch, or gets a context of its own.
+func (c *Cache[K, V]) seek(key K, ctx context.Context, b *batch[K, V]) (found sought[K, V], err error) {
 	now := c.clock.now()
 	s, hash := c.of(key)
 	v, n, number, now, isHit := s.hit(key, hash, now)
@@ -81,11 +92,11 @@ func (c *Cache[K, V]) seek(key K, mayBeBeside bool) (found sought[K, V], err err
 	defer s.release()
 	if s.surelyLeads(n) {
 		s.missed(now)
-		found.lead = s.begin(s.table.hold(n, key, hash, number), now)
+		found.lead = c.beginLoad(s, s.table.hold(n, key, hash, number), now, ctx, b)
 		return found, nil
 	}
 	fault := s.seek(n, number, now)
-	isBeside := fault == ErrTooManyFlights && mayBeBeside && !s.refuses
+	isBeside := fault == ErrTooManyFlights && !s.refuses && (b == nil || b.opened == 0)
 	if isBeside {
 		fault = s.lib.look(number, now)
 	}
@@ -96,7 +107,7 @@ func (c *Cache[K, V]) seek(key K, mayBeBeside bool) (found sought[K, V], err err
 	if isBeside {
 		found.beside, err = s.beginBeside(key)
 	} else if s.lib.leads() {
-		found.lead = s.begin(s.table.hold(n, key, hash, number), now)
+		found.lead = c.beginLoad(s, s.table.hold(n, key, hash, number), now, ctx, b)
 		found.lead.id, found.lead.isTold = s.lib.number(), true
 		if found.isHit {
 			s.stats.Refreshes++
@@ -119,11 +130,20 @@ func (s *shard[K, V]) seek(n *node[K, V], number, now uint64) Fault {
 	return s.lib.seek(number, now)
 }
 
-// begin opens a load, which has one of the node's uses.
-func (s *shard[K, V]) begin(n *node[K, V], now uint64) *load[K, V] {
+// beginLoad opens a load, which has one of the node's uses. Whoever has the shard's lock calls it.
+func (c *Cache[K, V]) beginLoad(s *shard[K, V], n *node[K, V], now uint64, ctx context.Context, b *batch[K, V]) *load[K, V] {
 	of := s.loads.begin()
-	of.shard, of.number, of.now, of.node, of.err = s, n.number, now, n, ErrPanicked
+	of.shard, of.number, of.now, of.node = s, n.number, now, n
 	of.goroutine = goroutine.Current()
+	if b == nil {
+		of.ctx = newLoading(ctx, 1)
+	} else {
+		of.ctx = b.ctx
+		of.ctx.loads.Add(1)
+	}
+	if c.timeout != 0 {
+		of.timer = afterFunc(c.timeout, func() { c.timeOut(of) })
+	}
 	n.load = of
 	return of
 }
@@ -139,42 +159,60 @@ func (s *shard[K, V]) join(n *node[K, V]) *load[K, V] {
 }
 
 // lead makes the load. What left by the seek is told once the load has landed, so that a listener may ask for the key.
-func (c *Cache[K, V]) lead(ctx context.Context, found sought[K, V], fetch fetcher[V]) (V, error) {
-	of, left, begun := found.lead, found.left, c.clock.elapsed()
-	defer func() { c.tell(append(left, of.land(c.clock.elapsed()-begun, c.listener != nil)...)) }()
-	of.value, of.weight, of.life, of.err = fetch(&lasting{ctx})
-	if found.isHit && of.err != nil {
-		return found.value, nil
-	}
-	return of.value, of.err
+func (c *Cache[K, V]) lead(found sought[K, V], fetch fetcher[V]) (v V, err error) {
+	of, begun, got := found.lead, c.clock.elapsed(), landing[V]{err: ErrPanicked}
+	of.begun.Store(int64(begun))
+	defer func() {
+		left := of.land(&got, c.clock.elapsed()-begun, c.listener != nil)
+		if v, err = got.value, got.err; found.isHit && err != nil {
+			v, err = found.value, nil
+		}
+		c.tell(append(found.left, left...))
+	}()
+	got.value, got.weight, got.life, got.err = fetch(of.ctx)
+	return v, err
 }
 
-// land closes a load, and returns what left. Then those who share it have its value.
-func (l *load[K, V]) land(took time.Duration, listens bool) []Left[K, V] {
+// land closes a load, and returns what left. Then those who share it have its value. If it was given up, it brings no value, but why.
+func (l *load[K, V]) land(got *landing[V], took time.Duration, listens bool) []Left[K, V] {
 	s := l.shard
 	s.take()
 	defer s.release()
+	if l.over.Load() {
+		s.stats.Late++
+		*got = landing[V]{err: l.err}
+		return nil
+	}
+	if l.timer != nil {
+		l.timer.Stop()
+	}
+	if got.err != nil {
+		s.fail(l)
+	} else {
+		s.stats.Loads++
+		s.store(l, got)
+	}
+	s.end(l, got, took)
+	s.loads.end(l, l.timer == nil)
+	return s.left(listens)
+}
+
+// end counts a load that has landed, and gives what it brings to those who share it.
+func (s *shard[K, V]) end(l *load[K, V], got *landing[V], took time.Duration) {
 	if l.node.load == l {
 		l.node.load = nil
 	}
 	s.stats.LoadTime += took
-	if l.err != nil {
-		s.stats.Failed++
-		s.fail(l)
-	} else {
-		s.stats.Loads++
-		s.store(l)
-	}
+	l.value, l.err = got.value, got.err
 	l.over.Store(true)
 	if l.done != nil {
 		close(l.done)
 	}
-	s.loads.end(l)
-	return s.left(listens)
 }
 
 // fail lands no value.
 func (s *shard[K, V]) fail(of *load[K, V]) {
+	s.stats.Failed++
 	if now := s.moment(of.now); of.isTold {
 		_ = s.lib.landFailed(of.id, of.number, now)
 	} else {
@@ -184,10 +222,10 @@ func (s *shard[K, V]) fail(of *load[K, V]) {
 }
 
 // store lands a value. If it is stored, the load's use of the node becomes the entry's. In a closed cache there is no load to close.
-func (s *shard[K, V]) store(of *load[K, V]) {
+func (s *shard[K, V]) store(of *load[K, V], got *landing[V]) {
 	now := s.moment(of.now)
-	token := s.table.keep(s.newEntry(of.value, of.weight, of.life, now), of.life, now)
-	if s.land(of, token, now) == 0 && s.lib.isStored() {
+	token := s.table.keep(s.newEntry(got.value, got.weight, got.life, now), got.life, now)
+	if s.land(of, got, token, now) == 0 && s.lib.isStored() {
 		s.table.store(token, of.node)
 		return
 	}
@@ -196,9 +234,9 @@ func (s *shard[K, V]) store(of *load[K, V]) {
 	s.table.letGo(of.node)
 }
 
-func (s *shard[K, V]) land(of *load[K, V], token, now uint64) Fault {
+func (s *shard[K, V]) land(of *load[K, V], got *landing[V], token, now uint64) Fault {
 	if of.isTold {
-		return s.lib.land(of.id, of.number, token, of.weight, of.life, now)
+		return s.lib.land(of.id, of.number, token, got.weight, got.life, now)
 	}
-	return s.lib.openAndLand(of.number, token, of.weight, of.life, now)
+	return s.lib.openAndLand(of.number, token, got.weight, got.life, now)
 }

@@ -61,11 +61,14 @@ type join[K comparable, V any] struct {
 
 // A batch is what one call of fetch loads, with what left as it was begun, and what others load.
 type batch[K comparable, V any] struct {
+	ctx    *loading
 	found  map[K]V
 	absent []K
 	leads  []*load[K, V]       // of each absent key, or nil if it is loaded beside the cache
 	beside []*besideLoad[K, V] // or else this
+	got    []landing[V]        // for each
 	opened int                 // how many aren't beside
+	failed error               // what fetch returned
 	left   []Left[K, V]
 	joined []join[K, V]
 }
@@ -74,16 +77,28 @@ type batch[K comparable, V any] struct {
 // once. If a hash, a clock or fetch panics, the loads that were begun end.
 func (c *Cache[K, V]) makeBatch(ctx context.Context, b *batch[K, V], keys []K, fetch manyFetcher[K, V]) (rest []K, err error) {
 	begun := c.clock.elapsed()
+	b.ctx = newLoading(ctx, 1) // this goroutine has it too, until all loads are begun
 	defer func() {
-		b.end(c.clock.elapsed()-begun, c.listener != nil)
+		failed := b.end(c.clock.elapsed()-begun, c.listener != nil)
+		if err == nil {
+			err = failed
+		}
 		c.tell(b.left)
 	}()
 	if rest, err = c.begin(b, keys); len(b.absent) == 0 {
 		return rest, err
 	}
-	if failed := b.load(fetch(&lasting{ctx}, append([]K(nil), b.absent...))); err == nil {
-		err = failed
+	for _, of := range b.leads {
+		if of != nil {
+			of.begun.Store(int64(begun))
+		}
 	}
+	if b.opened == len(b.absent) {
+		b.ctx.giveUp(nil)
+	} else {
+		defer c.limit(b.ctx)()
+	}
+	b.load(fetch(b.ctx, append([]K(nil), b.absent...)))
 	return rest, err
 }
 
@@ -93,7 +108,7 @@ func (c *Cache[K, V]) begin(b *batch[K, V], keys []K) ([]K, error) {
 		if b.loadsBeside(key) {
 			continue
 		}
-		at, err := c.seek(key, b.opened == 0)
+		at, err := c.seek(key, nil, b)
 		if errors.Is(err, ErrTooManyFlights) && len(b.absent) > 0 {
 			return keys[i:], nil
 		}
@@ -106,6 +121,7 @@ func (c *Cache[K, V]) begin(b *batch[K, V], keys []K) ([]K, error) {
 		}
 		if at.lead != nil || at.beside != nil {
 			b.absent, b.leads, b.beside = append(b.absent, key), append(b.leads, at.lead), append(b.beside, at.beside)
+			b.got = append(b.got, landing[V]{err: ErrPanicked})
 		}
 		if at.lead != nil {
 			b.opened++
@@ -126,40 +142,39 @@ func (b *batch[K, V]) loadsBeside(key K) bool {
 	return false
 }
 
-// end ends all loads, which took so long together.
-func (b *batch[K, V]) end(took time.Duration, listens bool) {
-	for _, of := range b.leads {
-		if of != nil {
-			b.left = append(b.left, of.land(took, listens)...)
-			took = 0
-		}
-	}
-	for i := len(b.beside) - 1; i >= 0; i-- {
-		if of := b.beside[i]; of != nil {
-			of.end(took)
-			took = 0
+// load keeps what was fetched.
+func (b *batch[K, V]) load(fetched map[K]Weighed[V], lives map[K]uint32, failed error) {
+	b.failed = failed
+	for i, key := range b.absent {
+		if got, there := fetched[key]; failed != nil {
+			b.got[i].err = failed
+		} else if there {
+			b.got[i] = landing[V]{got.Value, got.Weight, lives[key], nil}
+		} else {
+			b.got[i].err = ErrNotLoaded
 		}
 	}
 }
 
-// load gives the loads what was fetched, and returns why it failed if a key has no old value either.
-func (b *batch[K, V]) load(fetched map[K]Weighed[V], lives map[K]uint32, failed error) (err error) {
+// end lands all loads, which took so long together, and returns why they failed if a key has no old value either.
+func (b *batch[K, V]) end(took time.Duration, listens bool) (err error) {
 	for i, key := range b.absent {
-		got, there := fetched[key]
-		why := failed
-		if failed != nil {
-			if _, old := b.found[key]; !old {
-				err = failed
-			}
-		} else if there {
-			b.found[key] = got.Value
-		} else {
-			why = ErrNotLoaded
-		}
+		got := &b.got[i]
 		if of := b.leads[i]; of != nil {
-			of.value, of.weight, of.life, of.err = got.Value, got.Weight, lives[key], why
-		} else {
-			b.beside[i].err = why
+			b.left = append(b.left, of.land(got, took, listens)...)
+			took = 0
+		}
+		if got.err == nil {
+			b.found[key] = got.value
+		} else if _, old := b.found[key]; !old && err == nil && (got.err != ErrNotLoaded || b.failed != nil) {
+			err = got.err
+		}
+	}
+	for i := len(b.beside) - 1; i >= 0; i-- {
+		if of := b.beside[i]; of != nil {
+			of.err = b.got[i].err
+			of.end(took)
+			took = 0
 		}
 	}
 	return err

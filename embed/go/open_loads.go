@@ -36,8 +36,8 @@ func (all *openLoads[K, V]) begin() *load[K, V] {
 	return l
 }
 
-// end takes out a load that has landed. If only its own goroutine has known it, another load will use its memory.
-func (all *openLoads[K, V]) end(l *load[K, V]) {
+// end takes out a load that has ended. If only its own goroutine knows it, and that ends it, another load will use its memory.
+func (all *openLoads[K, V]) end(l *load[K, V], isOwn bool) {
 	if l.before == nil {
 		all.first = l.next
 	} else {
@@ -49,7 +49,7 @@ func (all *openLoads[K, V]) end(l *load[K, V]) {
 		l.next.before = l.before
 	}
 	all.count--
-	if l.done == nil && all.landedCount < mostLanded {
+	if isOwn && l.done == nil && all.landedCount < mostLanded {
 		*l = load[K, V]{next: all.landed}
 		all.landed = l
 		all.landedCount++

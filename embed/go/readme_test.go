@@ -97,8 +97,8 @@ func TestEachCallHasAnExampleAndEachNameASentence(t *testing.T) {
 	for _, of := range told.Vars {
 		hasSentence(of.Names[0], of.Doc)
 	}
-	// Open, OpenHashed, OnLeave, Weigh, Life, 21 of a Cache, 2 of Stats, Fault.Error, and String of AtLimit, Cause, Choice and Reads.
-	if calls != 33 {
+	// Open, OpenHashed, OnLeave, Weigh, Life, 22 of a Cache, 2 of Stats, Fault.Error, and String of AtLimit, Cause, Choice and Reads.
+	if calls != 34 {
 		t.Error(calls)
 	}
 }

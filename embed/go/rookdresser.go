@@ -26,6 +26,7 @@ type Cache[K comparable, V any] struct {
 	listener func(Left[K, V])
 	weigh    func(K, V) uint32
 	life     func(K, V) time.Duration
+	timeout  time.Duration // of a load; 0 is none
 }
 
 // Open returns an empty cache. If a setting is out of its range, the error is ErrBadSetup and gives its name, its value and the range;
@@ -54,7 +55,7 @@ func newCache[K comparable, V any](s Setup, hash hasher[K], options []Option[K, 
 		return nil, err
 	}
 	// The clock is the caller's, and may panic.
-	c := &Cache[K, V]{hash: hash, clock: clock{began: time.Now(), given: s.Clock}}
+	c := &Cache[K, V]{hash: hash, timeout: s.LoadTimeout, clock: clock{began: time.Now(), given: s.Clock}}
 	if s.AfterWrite != 0 || s.AfterAccess != 0 || s.Refresh != 0 {
 		c.clock.start()
 	}

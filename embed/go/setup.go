@@ -28,6 +28,9 @@ type Setup struct {
 	AfterWrite, AfterAccess time.Duration
 	// How long after its last write an entry is due for another load: less than AfterWrite, if both are set.
 	Refresh time.Duration
+	// How long a load may take before it is given up: its place is free, its callers get ErrTimedOut, the context that fetch got ends, and
+	// the next caller loads anew. What fetch then returns is dropped. It counts by Go's own clock. 0 means forever.
+	LoadTimeout time.Duration
 	// Clock returns the moment of a call. It is called only if a duration is set or once a value gets a life, by many goroutines at
 	// once and with no lock held. nil stands for the time since Open, which doesn't jump. A moment before the latest one counts as the
 	// latest.
@@ -200,7 +203,7 @@ func (s Setup) checkDurations() error {
 	for _, duration := range []struct {
 		name  string
 		value time.Duration
-	}{{"AfterWrite", s.AfterWrite}, {"AfterAccess", s.AfterAccess}, {"Refresh", s.Refresh}} {
+	}{{"AfterWrite", s.AfterWrite}, {"AfterAccess", s.AfterAccess}, {"Refresh", s.Refresh}, {"LoadTimeout", s.LoadTimeout}} {
 		if duration.value < 0 {
 			return badSetup("%s is %v, and has to be 0 or more", duration.name, duration.value)
 		}

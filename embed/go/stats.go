@@ -22,6 +22,8 @@ type Stats struct {
 	LoadTime                          time.Duration
 	Loose                             uint64 // values that were loaded and not stored
 	Beside                            uint64 // loads that were made beside the cache, since too many were open: of Loads and Failed
+	GivenUp                           uint64 // loads that LoadTimeout or Abandon gave up: of Failed
+	Late                              uint64 // loads given up whose fetch has ended since. What it returned was dropped.
 	Explicit, Replaced, Expired, Size uint64 // entries that left, by their cause
 	Refused                           map[Fault]uint64
 }
@@ -41,8 +43,9 @@ func (s Stats) String() string {
 		refused += count
 	}
 	return fmt.Sprintf("hits %d misses %d hit-ratio %.3f joins %d refreshes %d loads %d loose %d failed %d load-time %v"+
-		" explicit %d replaced %d expired %d size %d refused %d beside %d", s.Hits, s.Misses, s.HitRatio(), s.Joins, s.Refreshes, s.Loads, s.Loose,
-		s.Failed, s.LoadTime, s.Explicit, s.Replaced, s.Expired, s.Size, refused, s.Beside)
+		" explicit %d replaced %d expired %d size %d refused %d beside %d given-up %d late %d",
+		s.Hits, s.Misses, s.HitRatio(), s.Joins, s.Refreshes, s.Loads, s.Loose, s.Failed, s.LoadTime,
+		s.Explicit, s.Replaced, s.Expired, s.Size, refused, s.Beside, s.GivenUp, s.Late)
 }
 
 func (s *Stats) refuse(f Fault) {
@@ -89,6 +92,8 @@ func (s *Stats) add(other *Stats) {
 	s.LoadTime += other.LoadTime
 	s.Loose += other.Loose
 	s.Beside += other.Beside
+	s.GivenUp += other.GivenUp
+	s.Late += other.Late
 	s.Explicit += other.Explicit
 	s.Replaced += other.Replaced
 	s.Expired += other.Expired

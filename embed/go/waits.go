@@ -6,7 +6,6 @@ import (
 	"context"
 	"sync"
 	"sync/atomic"
-	"time"
 
 	"rookdresser/internal/goroutine"
 )
@@ -71,10 +70,3 @@ func (w *waiting) end(me uintptr) {
 	defer w.mu.Unlock()
 	delete(w.of, me)
 }
-
-// A lasting context has the values of another one, and doesn't end with it.
-type lasting struct{ context.Context }
-
-func (*lasting) Deadline() (end time.Time, ok bool) { return time.Time{}, false }
-func (*lasting) Done() <-chan struct{}              { return nil }
-func (*lasting) Err() error                         { return nil }
