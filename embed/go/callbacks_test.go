@@ -324,9 +324,10 @@ func TestALoadThatIsOverIsNoPartOfACircle(t *testing.T) {
 		})
 	})
 	const me, other = 1, 2
-	w, theirs := waiting{of: map[uintptr]*leader{other: &ended.leader}}, leader{goroutine: other}
-	ended.goroutine = me
-	if err := w.begin(me, &theirs); err != nil {
+	w, theirs := waiting{of: map[uintptr]*leader{other: &ended.leader}}, new(leader)
+	theirs.goroutine.Store(other)
+	ended.goroutine.Store(me)
+	if err := w.begin(me, theirs); err != nil {
 		t.Fatal(err)
 	}
 }

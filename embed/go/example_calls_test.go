@@ -265,6 +265,26 @@ func ExampleCache_Abandon() {
 	// Output: rookdresser: the load was abandoned
 }
 
+func ExampleInBackground() {
+	loaded := make(chan bool)
+	load := func(_ context.Context, key string) (string, error) {
+		defer close(loaded)
+		return "a new text of " + key, nil
+	}
+	now := time.UnixMilli(0)
+	c, err := rookdresser.Open(rookdresser.Setup{Entries: 1000, Refresh: time.Minute, Clock: func() time.Time { return now }},
+		rookdresser.InBackground(load))
+	if err != nil {
+		panic(err)
+	}
+	defer c.Close()
+	c.Store("a page", "a text")
+	now = now.Add(time.Minute)
+	fmt.Println(c.GetWith(context.Background(), "a page", func(ctx context.Context) (string, error) { return load(ctx, "a page") }))
+	<-loaded
+	// Output: a text <nil>
+}
+
 func ExampleAtLimit_String() {
 	fmt.Println(rookdresser.Setup{}.AtLimit, rookdresser.Refuse)
 	// Output: LoadBeside Refuse

@@ -47,7 +47,7 @@ type sought[K comparable, V any] struct {
 // meanwhile share that one load. The value's age counts from the moment of this call, not from the end of the load.
 //
 // The first caller that asks for an entry that is due loads it again, in its own goroutine. It gets the new value, or the old one
-// if the load fails. The others get the old value meanwhile.
+// if the load fails. The others get the old value meanwhile. With the option InBackground the first caller gets the old value too.
 //
 // ctx limits how long Get waits for another goroutine's load. The context that fetch gets has the values of ctx and doesn't end with
 // it, since others may share the load. It ends if the load is given up, by the Setup's LoadTimeout or by Abandon.
@@ -68,6 +68,9 @@ type fetcher[V any] func(context.Context) (v V, weight, life uint32, err error)
 func (c *Cache[K, V]) get(ctx context.Context, key K, fetch fetcher[V]) (V, error) {
 	found, err := c.seek(key, ctx, nil)
 	switch {
+	case found.lead != nil && found.isHit && c.background != nil:
+		go c.refresh(found, key)
+		return found.value, nil
 	case found.lead != nil:
 		return c.lead(found, fetch)
 	case found.beside != nil:
@@ -107,10 +110,16 @@ func (c *Cache[K, V]) seek(key K, ctx context.Context, b *batch[K, V]) (found so
 	if isBeside {
 		found.beside, err = s.beginBeside(key)
 	} else if s.lib.leads() {
+		if found.isHit && c.background != nil {
+			b = nil
+		}
 		found.lead = c.beginLoad(s, s.table.hold(n, key, hash, number), now, ctx, b)
 		found.lead.id, found.lead.isTold = s.lib.number(), true
 		if found.isHit {
 			s.stats.Refreshes++
+			if c.background != nil {
+				found.lead.goroutine.Store(0)
+			}
 		}
 	} else if !found.isHit {
 		found.join = s.join(n)
@@ -134,7 +143,7 @@ func (s *shard[K, V]) seek(n *node[K, V], number, now uint64) Fault {
 func (c *Cache[K, V]) beginLoad(s *shard[K, V], n *node[K, V], now uint64, ctx context.Context, b *batch[K, V]) *load[K, V] {
 	of := s.loads.begin()
 	of.shard, of.number, of.now, of.node = s, n.number, now, n
-	of.goroutine = goroutine.Current()
+	of.goroutine.Store(goroutine.Current())
 	if b == nil {
 		of.ctx = newLoading(ctx, 1)
 	} else {

@@ -108,16 +108,20 @@ func (c *Cache[K, V]) begin(b *batch[K, V], keys []K) ([]K, error) {
 		if b.loadsBeside(key) {
 			continue
 		}
-		at, err := c.seek(key, nil, b)
+		at, err := c.seek(key, b.ctx.Context, b)
 		if errors.Is(err, ErrTooManyFlights) && len(b.absent) > 0 {
 			return keys[i:], nil
 		}
-		b.left = append(b.left, at.left...)
+		b.left, at.left = append(b.left, at.left...), nil
 		if err != nil {
 			return nil, err
 		}
 		if at.isHit {
 			b.found[key] = at.value
+		}
+		if at.lead != nil && at.isHit && c.background != nil {
+			go c.refresh(at, key)
+			continue
 		}
 		if at.lead != nil || at.beside != nil {
 			b.absent, b.leads, b.beside = append(b.absent, key), append(b.leads, at.lead), append(b.beside, at.beside)

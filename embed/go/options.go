@@ -2,7 +2,11 @@
 
 package rookdresser
 
-import "context"
+import (
+	"context"
+
+	"rookdresser/internal/goroutine"
+)
 
 // An Option is a function of the caller's that a cache calls, for Open and OpenHashed.
 type Option[K comparable, V any] func(*Cache[K, V])
@@ -31,6 +35,36 @@ func (c *Cache[K, V]) weightOf(key K, v V) uint32 {
 	return c.weigh(key, v)
 }
 
+// InBackground has the cache load an entry that is due by load, in a goroutine of its own: the caller that found it due gets the old value
+// at once, as all others do.
+//
+// load is given for the whole cache, since it runs after the caller has gone on; Get and the like call their fetch only for what isn't
+// there. Its context has the values of the caller's, and ends if the load is given up. Its values weigh what Weigh returns, and live
+// as Life says. If load panics or ends its goroutine, it has failed, and the old value stays: nobody gets the panic, nor one of the
+// listener there.
+func InBackground[K comparable, V any](load func(context.Context, K) (V, error)) Option[K, V] {
+	return func(c *Cache[K, V]) { c.background = load }
+}
+
+// refresh makes a load of an entry that is due in this goroutine, for which no caller waits.
+func (c *Cache[K, V]) refresh(found sought[K, V], key K) {
+	defer func() { _ = recover() }()
+	found.lead.goroutine.Store(goroutine.Current())
+	_, _ = c.lead(found, func(ctx context.Context) (V, uint32, uint32, error) {
+		v, err := c.background(ctx, key)
+		return c.weighed(key, v, err)
+	})
+}
+
+// weighed returns what a loader returned, with the weight and the life of the value if there is one.
+func (c *Cache[K, V]) weighed(key K, v V, err error) (_ V, weight, life uint32, _ error) {
+	if err == nil {
+		weight = c.weightOf(key, v)
+		life = c.lifeOf(key, v)
+	}
+	return v, weight, life, err
+}
+
 // Store is Put, or PutFor, with the weight that Weigh returns and the life that Life does.
 func (c *Cache[K, V]) Store(key K, v V) error {
 	weight := c.weightOf(key, v)
@@ -39,12 +73,9 @@ func (c *Cache[K, V]) Store(key K, v V) error {
 
 // GetWith is Get, or GetFor, with the weight that Weigh returns and the life that Life does.
 func (c *Cache[K, V]) GetWith(ctx context.Context, key K, fetch func(context.Context) (V, error)) (V, error) {
-	return c.get(ctx, key, func(ctx context.Context) (v V, weight, life uint32, err error) {
-		if v, err = fetch(ctx); err == nil {
-			weight = c.weightOf(key, v)
-			life = c.lifeOf(key, v)
-		}
-		return v, weight, life, err
+	return c.get(ctx, key, func(ctx context.Context) (V, uint32, uint32, error) {
+		v, err := fetch(ctx)
+		return c.weighed(key, v, err)
 	})
 }
 

@@ -6,6 +6,7 @@
 package rookdresser
 
 import (
+	"context"
 	"hash/maphash"
 	"math/bits"
 	"time"
@@ -27,6 +28,8 @@ type Cache[K comparable, V any] struct {
 	weigh    func(K, V) uint32
 	life     func(K, V) time.Duration
 	timeout  time.Duration // of a load; 0 is none
+	// Loads an entry that is due; nil if its caller does.
+	background func(context.Context, K) (V, error)
 }
 
 // Open returns an empty cache. If a setting is out of its range, the error is ErrBadSetup and gives its name, its value and the range;

@@ -10,9 +10,9 @@ import (
 	"rookdresser/internal/goroutine"
 )
 
-// A leader is the goroutine that makes a load, and whether it still does.
+// A leader is the goroutine that makes a load, or 0 as long as none has begun to, and whether it still does.
 type leader struct {
-	goroutine uintptr
+	goroutine atomic.Uintptr
 	over      atomic.Bool
 }
 
@@ -56,8 +56,8 @@ type waiting struct {
 func (w *waiting) begin(me uintptr, of *leader) error {
 	w.mu.Lock()
 	defer w.mu.Unlock()
-	for at := of; at != nil && !at.over.Load(); at = w.of[at.goroutine] {
-		if at.goroutine == me {
+	for at := of; at != nil && !at.over.Load(); at = w.of[at.goroutine.Load()] {
+		if at.goroutine.Load() == me {
 			return ErrWaitsForItself
 		}
 	}
