@@ -130,7 +130,7 @@ module _ {K V : Type 0} (members : Members K V) (finds : (p : Place) → FindsYo
   ready-layout old mid (inr slid) = ap (λ c. c.layout) slid.same
 
 module _ {K V : Type 0} (members : Members K V) (finds : (p : Place) → FindsYoung members p) (reads : (p : Place) → ReadsYoung members p) where
-  pub gets-young : GetsYoung members
+  pub gets-young : (returns : K → Result V ℕ → Type 0) → GetsYoung members returns
   gets-young returns key now old new v get =
       subst (λ (l : Layout). IsYoung members key now l new v ⊎ IsOfLoad members key now returns new v)
       (ready-layout members finds reads key now old get.mid get.ready)

@@ -35,9 +35,9 @@ module _ {K V : Type 0} (members : Members K V) (key : K) (now : ℕ) where
     pub loaded : is_loaded got.how ≡ true
 
 module _ {K V : Type 0} (members : Members K V) where
-  -- a get returns a value that is young, or one of a load
-  abbrev pub GetsYoung : Type 0
-  GetsYoung = (returns : K → Result V ℕ → Type 0) (key : K) (now : ℕ) (old new : Calling K V) (v : V)
+  -- a get of a cache, whose loader may return this, returns a value that is young, or one of a load
+  abbrev pub GetsYoung : (K → Result V ℕ → Type 0) → Type 0
+  GetsYoung returns = (key : K) (now : ℕ) (old new : Calling K V) (v : V)
       → IsGet members key now returns old new (Ok v)
       → IsYoung members key now old.cache.layout new v ⊎ IsOfLoad members key now returns new v
 
