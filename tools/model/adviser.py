@@ -19,6 +19,10 @@ def window_of(entries, share):
     return max(entries * share // 100, 1)
 
 
+def small_entries(entries):
+    return max(min(entries // 8, 64), 32, entries // 64)
+
+
 class Cache(Regions):
     """A cache that stores at once what it doesn't find. No entry of it expires, and none weighs anything."""
 
@@ -45,8 +49,8 @@ class Adviser:
         if not LEAST_ENTRIES <= entries <= MOST_ENTRIES:
             raise ValueError("entries is %d, and has to be from %d to %d" % (entries, LEAST_ENTRIES, MOST_ENTRIES))
         self.entries = entries
-        small = max(entries // 64, 64)
-        self.below = (2 ** 64 - 1) // min(entries // 64, 64)
+        small = small_entries(entries)
+        self.below = (2 ** 64 - 1) // (entries // small)
         self.sketch = Sketch(small)
         self.small = {share: Cache(small, window_of(small, share), self.sketch) for share in SHARES}
         self.hits, self.sampled, self.since = dict.fromkeys(SHARES, 0), 0, 0

@@ -14,14 +14,15 @@ first_window entries = wanted (opening {K = ℕ} entries)
 pub an_adviser_begins_with_a_tenth : map first_window (64 ∷ 512 ∷ 1000 ∷ 4194304 ∷ []) ≡ 6 ∷ 51 ∷ 100 ∷ 419430 ∷ []
 an_adviser_begins_with_a_tenth = refl
 
--- below 128 entries the sample has every key, and a small cache may have as many entries as the whole one
-pub few_entries_are_sampled_whole : map sampled_of (64 ∷ 127 ∷ 128 ∷ 512 ∷ 4095 ∷ 4096 ∷ 4194304 ∷ [])
-    ≡ 1 ∷ 1 ∷ 2 ∷ 8 ∷ 63 ∷ 64 ∷ 64 ∷ []
-few_entries_are_sampled_whole = refl
+-- below 96 entries every other key is of the sample, from 4,096 on one in 64
+pub few_keys_of_many_entries_are_sampled : map sampled_of (64 ∷ 95 ∷ 96 ∷ 128 ∷ 255 ∷ 256 ∷ 512 ∷ 4095 ∷ 4096 ∷ 4159 ∷ 4160 ∷ 4194304 ∷ [])
+    ≡ 2 ∷ 2 ∷ 3 ∷ 4 ∷ 7 ∷ 8 ∷ 8 ∷ 63 ∷ 64 ∷ 64 ∷ 64 ∷ 64 ∷ []
+unfolding sampled_of
+few_keys_of_many_entries_are_sampled = refl
 
-pub a_small_cache_has_64_entries_or_more : map small_entries (64 ∷ 127 ∷ 4159 ∷ 4160 ∷ 4194304 ∷ [])
-    ≡ 64 ∷ 64 ∷ 64 ∷ 65 ∷ 65536 ∷ []
-a_small_cache_has_64_entries_or_more = refl
+pub a_small_cache_has_32_entries_or_more : map small_entries (64 ∷ 263 ∷ 264 ∷ 511 ∷ 512 ∷ 4159 ∷ 4160 ∷ 4194304 ∷ [])
+    ≡ 32 ∷ 32 ∷ 33 ∷ 63 ∷ 64 ∷ 64 ∷ 65 ∷ 65536 ∷ []
+a_small_cache_has_32_entries_or_more = refl
 
 -- a hit counts 61,440 after one choice and 57,600 after two
 pub counts_fade_by_a_sixteenth : map faded (65536 ∷ 61440 ∷ 17 ∷ 16 ∷ 1 ∷ 0 ∷ []) ≡ 61440 ∷ 57600 ∷ 15 ∷ 15 ∷ 0 ∷ 0 ∷ []

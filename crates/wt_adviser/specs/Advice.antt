@@ -22,13 +22,13 @@ pub record Advice (K : Type 0) : Type 0 where
   pub whole : Lists K Mark
   pub tally : Tally
 
--- how many entries a small cache has
+-- how many entries a small cache has: an eighth of the cache's, from 32 to 64, or a sixty-fourth if that is more
 abbrev pub small_entries : ℕ → ℕ
-small_entries entries = max (entries / 64) 64
+small_entries entries = max (max (min (entries / 8) 64) 32) (entries / 64)
 
 -- one key in so many is of the sample: as many as a small cache has fewer entries
-abbrev pub sampled_of : ℕ → ℕ
-sampled_of entries = min (entries / 64) 64
+unfoldable pub sampled_of : ℕ → ℕ
+sampled_of entries = entries / small_entries entries
 
 -- below which a key's product lies that is of the sample
 abbrev pub sampled_below : ℕ → ℕ

@@ -24,12 +24,10 @@ use wt_keys::{CacheKey, Fault, Field, NoMemory};
 use wt_regions::Notices;
 use wt_sketch::Sketch;
 
-// Below this the whole cache has fewer entries than a small one.
+// Below this the small caches would look more than every other key up, and cost a look-up too much.
 const LEAST_ENTRIES: u32 = 64;
 // So that a small cache has at most as many entries as a cache may have.
 const MOST_ENTRIES: u32 = 64 * 65_536;
-// A small cache has one entry for 64 of the cache, and looks up one key of 64.
-const SMALLER: u32 = 64;
 // Ours, as the factors of the hash rows: a sample has to be independent of them and of the shards.
 const SAMPLE: u64 = 0xA076_1D64_78BD_642F;
 
@@ -117,12 +115,20 @@ fn product(word: u64) -> u64
     SAMPLE.wrapping_mul(word)
 }
 
+// How many entries a small cache has: an eighth of the cache's, from 32 to 64, and a sixty-fourth of
+// those of a large cache. Ours: with fewer than 32 the sample is too small to choose by.
+fn small_entries(entries: u32) -> u32
+    ensures { result ≡ small_entries entries }
+{
+    (entries / 8).clamp(32, 64).max(entries / 64)
+}
+
 impl<K: CacheKey> Adviser<K> {
     /// Makes an adviser for a cache, or several with one policy, of `entries` entries in all.
     ///
     /// `BadConfig` of the entries, if they are below 64 or above 4,194,304, comes before `NoMemory`.
-    /// Takes memory for the tables of four caches of a sixty-fourth of the entries, 64 at least.
-    /// O(entries).
+    /// Takes memory for the tables of four small caches: of an eighth of the entries, 32 to 64, or of
+    /// a sixty-fourth if that is more. O(entries).
     pub fn new(alloc: Global, entries: u32) -> Result<Adviser<K>, Fault>
         ensures ok { IfOk result (λ adviser. adviser ≡ opening entries) }
         ensures within { IsOk result → (nat_le 64 entries && nat_le entries 4194304) ≡ true }
@@ -134,13 +140,14 @@ impl<K: CacheKey> Adviser<K> {
                 field: Field::Entries,
             });
         }
-        match Adviser::with_small(alloc, entries, (entries / SMALLER).max(SMALLER)) {
+        match Adviser::with_small(alloc, entries, small_entries(entries)) {
             Ok(adviser) => Ok(adviser),
             Err(_) => Err(Fault::NoMemory),
         }
     }
 
     // The same, with small caches of `small` entries.
+    #[tactic(auto, unfolding(crate::specs::Advice::sampled_of))]
     fn with_small(alloc: Global, entries: u32, small: u32) -> Result<Adviser<K>, Fault>
         requires within { (64 ≤ entries) × (entries ≤ 4194304) }
         requires made_for { small ≡ small_entries entries }
@@ -154,7 +161,7 @@ impl<K: CacheKey> Adviser<K> {
         let whole = new_small(alloc, small, Share::Whole)?;
         Ok(Adviser {
             entries,
-            below: u64::MAX / (entries / SMALLER).min(SMALLER) as u64,
+            below: u64::MAX / (entries / small) as u64,
             tally: Tally::NOTHING,
             sketch,
             hundredth,

@@ -64,8 +64,7 @@ impl<K: CacheKey> Followers<K> {
     /// Makes the advisers of a cache of `shards` shards of this configuration.
     ///
     /// `BadConfig` of the entries, if a shard has below 64 of them, comes before `NoMemory`. Takes
-    /// memory for four caches of a sixty-fourth of the entries, 64 at least, for each shard.
-    /// O(entries).
+    /// memory as [`Adviser::new`] for each shard. O(entries).
     pub fn new(alloc: Global, config: &Config, shards: usize) -> Result<Followers<K>, Fault>
         ensures refusal { IfErr result (λ f. f ≡ (if nat_le 64 config.now.entries
             && nat_le config.now.entries 4194304

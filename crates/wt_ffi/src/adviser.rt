@@ -20,8 +20,8 @@ pub struct Advising {
 /// returns 0.
 ///
 /// Returns 101 if the handle is open already, 2 if the entries are below 64 or above 4,194,304, 1
-/// if an allocation fails, in this order. The handle is then as it was. Takes memory for the tables
-/// of four caches of a sixty-fourth of the entries, 64 at least. O(entries).
+/// if an allocation fails, in this order. The handle is then as it was. Takes memory as
+/// [`Adviser::new`]. O(entries).
 #[unsafe(no_mangle)]
 pub extern "C" fn rd_open_adviser(alloc: Global, entries: u32, handle: &mut AdviserHandle) -> u64
     ensures made { IsAdviserOpening entries handle.old handle.new result }

@@ -77,7 +77,7 @@ impl Adviser {
     /// memory: it has not seen a key then, but all else is done. Don't show the keys again.
     ///
     /// A cache of names gives it a number for each name, as a hash is. Takes a lock of no kind. One key in 64 makes four look-ups in
-    /// small caches, more of them do below 4,096 entries, and every key does below 128.
+    /// small caches, more of them do below 4,096 entries, and every other key does below 96.
     ///
     /// ```
     /// # use rookdresser::Adviser;

@@ -1,6 +1,8 @@
 use Rattle.std.proofs.Common.{◌≡◌, refl, sym, ap, ◌∙◌, arith}
 use Rattle.wt_core.specs.State.{State}
 use Rattle.wt_core.proofs.Slid.{kept-next}
+use Rattle.wt_adviser.specs.declared.adviser.Seen.{Seen}
+use Rattle.wt_adviser.specs.Advice.{saw_by}
 use Rattle.wt_adviser.specs.Follow.{slid_by, slid_towards}
 use Rattle.wt_adviser.proofs.SlidBy.{slid-none, slid-more}
 use Rattle.wt_adviser.proofs.following.follow.Goals as goal
@@ -27,6 +29,13 @@ loop-slides-preserved g c =
       same = kept-next first.regions.caps c.loop-slides.core.regions.caps c.slide_towards.new.core.regions.caps inv.same
           c.in_ok-slide_towards.ensures.same;
     }
+
+pub returns-then-is_whole-clause-advice : goal.returns-then-is_whole-clause-advice
+returns-then-is_whole-clause-advice g c =
+    let eq = g.K.PartialEq.eq in
+    let word = g.K.CacheKey.word in
+    c.loop-slides.invariant.adviser
+    ∙ ap (λ (s : Seen). saw_by eq word s c.args.key c.args.adviser.now) (c.is_whole.ensures c.if-is_whole.true)
 
 pub returns-then-is_whole-clause-state : goal.returns-then-is_whole-clause-state
 returns-then-is_whole-clause-state g c =
