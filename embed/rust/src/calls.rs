@@ -316,6 +316,10 @@ impl<K: Hash + Eq, V, E, S: BuildHasher> Loading<K, V, E, S> {
     {
         let value = Guarded::of(value);
         let hash = self.hash(key);
+        let value = match self.put_in_place(hash, key, value.take(), weight, now) {
+            Ok(left) => return Ok(left),
+            Err(value) => Guarded::of(value),
+        };
         let (mut shard, place, cloned) = self.place(self.shard(hash).take(), hash, key);
         let mut left = AllOut::none();
         let put = shard.store.put(place, value.take(), weight, now, &mut left);

@@ -1,12 +1,14 @@
 //! Which row is a key's. Keys of the caller's are compared and cloned while the lock is given back.
+use crate::life::Life;
 use crate::loading::Loading;
 use crate::panics::{Guarded, Panics};
 use crate::plain::are_plain;
 use crate::reads::notes::Note;
 use crate::reads::shared::{Locked, Shared};
 use crate::several::Several;
+use crate::shard::{AllGone, AllOut};
 use crate::store::Store;
-use crate::table::{hash_of, Place};
+use crate::table::{hash_of, Place, Terms, NEVER};
 use std::borrow::Borrow;
 use std::hash::{BuildHasher, Hash};
 use std::sync::Arc;
@@ -58,7 +60,7 @@ impl<K, V, E, S> Loading<K, V, E, S> {
         let latest = shard.latest.before();
         let reading = shard.nodes.read();
         let node = reading.find(hash, |node| (*node.key).borrow() == key)?;
-        let value = node.value().filter(|_| now <= latest && latest < node.until)?;
+        let value = node.value().filter(|_| now <= latest && latest < node.terms.until)?;
         let (value, note) = (value.share(), Note { number: node.number, at: node.at });
         reading.reader.count();
         drop(reading);
@@ -78,7 +80,7 @@ impl<K, V, E, S> Loading<K, V, E, S> {
         if reading.find(hash, |other| !std::ptr::eq(other, node)).is_some() {
             return None;
         }
-        let value = node.value().filter(|_| now <= latest && latest < node.until)?;
+        let value = node.value().filter(|_| now <= latest && latest < node.terms.until)?;
         let (value, note) = (value.share(), Note { number: node.number, at: node.at });
         let row = Guarded::of(node.key.clone());
         drop(reading);
@@ -86,6 +88,37 @@ impl<K, V, E, S> Loading<K, V, E, S> {
         self.readers.count_later();
         shard.note(note);
         Some(value)
+    }
+
+    /// Puts the value without the lock in place of one that never expires and weighs the same, and returns that one: to the library it is
+    /// a use. Gives the value back if that isn't there, or the key isn't compared among the nodes. A put that moves the time takes the lock.
+    #[inline(always)]
+    pub(crate) fn put_in_place<Q>(
+        &self,
+        hash: u64,
+        key: &Q,
+        value: Arc<V>,
+        (weight, life): (u32, Life),
+        now: u64,
+    ) -> Result<AllGone<K, V>, Arc<V>>
+    where
+        K: Borrow<Q>,
+        Q: Eq + ?Sized,
+    {
+        let shard = self.shard(hash);
+        if life != Life::NONE || !are_plain::<K, Q>() || !shard.is_shared() || now > shard.latest.before() {
+            return Err(value);
+        }
+        let terms = Terms { weight, until: NEVER };
+        let reading = shard.nodes.read();
+        let found = reading.find(hash, |node| (*node.key).borrow() == key).filter(|node| node.terms == terms);
+        let Some(node) = found else { return Err(value) };
+        let left = reading.put(node, value)?;
+        let note = Note { number: node.number, at: node.at };
+        reading.reader.count_put();
+        drop(reading);
+        shard.note(note);
+        Ok(shard.nodes.open(AllOut::of(left)))
     }
 
     /// The row that is alone of its hash. It is nearly always the key's: a call uses it at once, and has the key compared by

@@ -2,6 +2,7 @@
 use crate::life::Life;
 use crate::reads::times::Latest;
 use crate::sys::Looked;
+use crate::table::NEVER;
 use crate::window::{Seen, Share, Window};
 use crate::{Fault, Found, Numbers, OpenError, Setup, Token, Tokens};
 use std::sync::Arc;
@@ -17,6 +18,8 @@ pub(crate) struct Library {
     window: Window,
     // How long after its moment a value that is stored without a life is sure to be found, and not due.
     sure_for: u64,
+    // Whether a value without a life expires or gets due.
+    has_durations: bool,
 }
 
 impl Library {
@@ -29,7 +32,8 @@ impl Library {
         let shortest = [after_write, refresh].into_iter().filter(|&duration| duration != 0).min();
         // The library has to hear of each use at once if `after_access` is set: a hit it hears of late would keep nothing from expiring.
         let sure_for = if after_access == 0 { shortest.unwrap_or(u64::MAX) } else { 0 };
-        Ok(Library { tokens, seen, latest: Arc::default(), window, sure_for })
+        let has_durations = shortest.is_some() || after_access != 0;
+        Ok(Library { tokens, seen, latest: Arc::default(), window, sure_for, has_durations })
     }
 
     /// Whether entries expire by the time since their last use. Then no hit is ever sure.
@@ -110,10 +114,13 @@ impl Library {
         Ok(made)
     }
 
-    /// Until when a value that the latest call has stored is sure to be found, and not due.
+    /// Until when a value that the latest call has stored is sure to be found, and not due; NEVER if it always is.
     #[inline]
     pub(crate) fn until(&self, life: Life) -> u64 {
-        self.latest.get().saturating_add(life.within(self.sure_for))
+        if !self.has_durations && life == Life::NONE {
+            return NEVER;
+        }
+        self.latest.get().saturating_add(life.within(self.sure_for)).min(NEVER - 1)
     }
 
     /// Tells the library of hits of these numbers, at the latest moment: each is there. Returns how many look-ups it has made of them; it

@@ -68,12 +68,20 @@ impl<K: Hash + Eq, V, E, S: BuildHasher> Loading<K, V, E, S> {
         let value = Guarded::of(value.into());
         let hash = self.hash(key);
         let (mut shard, at) = self.found(self.shard(hash).take(), hash, key);
-        let Some(at) = at.filter(|&at| shard.holds(at, old, now)) else {
+        let Some(at) = at else {
             drop(shard);
             return Ok(false);
         };
+        shard.store.table.values.stop_puts();
+        if !shard.holds(at, old, now) {
+            shard.store.table.values.allow_puts();
+            drop(shard);
+            return Ok(false);
+        }
         let (mut left, mut panics) = (AllOut::none(), Panics::default());
-        match shard.store.put(Place::At(at), value.take(), (weight, Life::NONE), now, &mut left) {
+        let put = shard.store.put(Place::At(at), value.take(), (weight, Life::NONE), now, &mut left);
+        shard.store.table.values.allow_puts();
+        match put {
             Ok(()) => {
                 self.listener.release_into(shard.give_back(left), &mut panics);
                 panics.checked(Ok(true))

@@ -12,6 +12,11 @@ impl<T> Several<T> {
     }
 
     #[inline]
+    pub(crate) const fn of(one: T) -> Several<T> {
+        Several { first: Some(one), more: Vec::new() }
+    }
+
+    #[inline]
     pub(crate) fn push(&mut self, one: T) {
         if self.first.is_none() {
             self.first = Some(one);

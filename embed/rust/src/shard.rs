@@ -114,7 +114,7 @@ impl<K, V, E> Shard<K, V, E> {
         let is_there = |note: &&Note| {
             let Some(row) = table.get(note.at).filter(|row| row.number == note.number) else { return false };
             let node = reading.find(row.hash, |node| node.at == note.at);
-            node.is_some_and(|node| latest < node.until)
+            node.is_some_and(|node| latest < node.terms.until)
         };
         self.told += library.tell(notes.iter().filter(is_there).map(|note| note.number));
     }

@@ -3,7 +3,7 @@ use crate::library::Library;
 use crate::life::Life;
 use crate::panics::Panics;
 use crate::several::Several;
-use crate::table::{Place, Table, Values};
+use crate::table::{Place, Table, Terms, Values};
 use crate::window::Share;
 use crate::{Fault, Found, Landed, Numbers, OpenError, Setup, Token};
 use std::sync::Arc;
@@ -89,7 +89,7 @@ impl<K, M: Values<K>> Store<K, M> {
         let (number, token) = (self.table.number(&place), self.table.next_token(&place));
         match self.library.made(now, |tokens, now| tokens.put_lived(number, Token { token, weight }, life, now)) {
             Ok(()) => {
-                let old = self.table.store(place, value, self.library.until(life));
+                let old = self.table.store(place, value, Terms { weight, until: self.library.until(life) });
                 self.take_out(old, left);
                 Ok(())
             }
@@ -110,7 +110,8 @@ impl<K, M: Values<K>> Store<K, M> {
         let held = Token { token, weight };
         match self.library.made(now, |tokens, now| tokens.land_lived(id, number, held, life, now)) {
             Ok(landed @ Landed::Kept(_)) => {
-                let old = self.table.store(Place::At(at), value, self.library.until(life));
+                let terms = Terms { weight, until: self.library.until(life) };
+                let old = self.table.store(Place::At(at), value, terms);
                 let key = self.table.close(at);
                 self.take_out(old, left);
                 Ended { landed, value: None, key }

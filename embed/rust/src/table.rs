@@ -36,9 +36,18 @@ pub(crate) struct Entry<'a, K> {
     pub(crate) number: u64,
     /// The key's row.
     pub(crate) at: u32,
-    /// A look before this moment finds the value, and doesn't find it due.
+    pub(crate) terms: Terms,
+}
+
+/// On which terms a value is stored.
+#[derive(Clone, Copy, PartialEq, Eq)]
+pub(crate) struct Terms {
+    pub(crate) weight: u32,
+    /// A look before this moment finds the value, and doesn't find it due. If it is NEVER, the value never expires and is never due.
     pub(crate) until: u64,
 }
+
+pub(crate) const NEVER: u64 = u64::MAX;
 
 /// Where a table's values are.
 pub(crate) trait Values<K> {
@@ -273,12 +282,12 @@ impl<K, M: Values<K>> Table<K, M> {
     }
 
     /// Stores the value whose token was the next one. Returns the value before.
-    pub(crate) fn store(&mut self, place: Place<K>, value: M::Value, until: u64) -> Option<M::Out> {
+    pub(crate) fn store(&mut self, place: Place<K>, value: M::Value, terms: Terms) -> Option<M::Out> {
         let at = self.held(place);
         let row = &mut self.rows[at];
         row.turn = !row.turn;
         let Row { key, hash, number, kept, .. } = row;
-        let of = Entry { key, hash: *hash, number: *number, at, until };
+        let of = Entry { key, hash: *hash, number: *number, at, terms };
         let (new, old) = self.values.store(of, value, kept.take());
         *kept = Some(new);
         old

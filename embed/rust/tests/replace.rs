@@ -1,6 +1,8 @@
 //! Stores that depend on the value that is there.
 use rookdresser::{Cause, Fault, Loading, Setup};
+use std::cell::Cell;
 use std::hash::{Hash, Hasher};
+use std::sync::atomic::{AtomicU64, Ordering::SeqCst};
 use std::sync::{Arc, Mutex};
 use std::time::Duration;
 
@@ -39,6 +41,40 @@ fn the_listener_is_told_what_was_replaced_and_a_load_stores_nothing_over_it() {
     });
     assert_eq!((got, cache.look_at(&1, 10)), (Ok(Arc::new(9)), Ok(Some(Arc::new(8)))));
     assert_eq!(*told.lock().unwrap(), [(7, Cause::Replaced)]);
+}
+
+thread_local! {
+    // The value that a call of this thread has replaced.
+    static REPLACED: Cell<u64> = const { Cell::new(0) };
+}
+
+#[test]
+fn the_value_that_leaves_is_the_one_that_was_to_be_replaced_though_others_put() {
+    let cache = Cache::open(&Setup::of(8)).unwrap().with_listener(|left| REPLACED.set(*left.value));
+    cache.store(&1, 0, 1).unwrap();
+    let replaced = AtomicU64::new(0);
+    std::thread::scope(|threads| {
+        for thread in 1..=4 {
+            let (cache, replaced) = (&cache, &replaced);
+            threads.spawn(move || {
+                for call in 0..20_000 {
+                    let value = thread << 32 | call;
+                    if thread <= 2 {
+                        cache.store(&1, value, 1).unwrap();
+                        continue;
+                    }
+                    let old = cache.look(&1).unwrap().expect("nobody drops it");
+                    if cache.replace_if(&1, &old, value, 1 + (call % 8 / 7) as u32).unwrap() {
+                        assert_eq!(REPLACED.get(), *old);
+                        replaced.fetch_add(1, SeqCst);
+                    }
+                }
+            });
+        }
+    });
+    let replaced = replaced.into_inner();
+    assert!(replaced > 100, "{replaced}");
+    assert_eq!((cache.stats().replaced, cache.kept()), (40_000 + replaced, (1, 1)));
 }
 
 #[test]

@@ -1,8 +1,10 @@
 /* How a thread that takes something out of the chains waits for readers: readers.rs and nodes.rs, as a model for Spin.
 
    Two readers of two rounds each, on a stripe each or both on one (ONE), read a node of one link, and the value in it. A writer has the
-   node show another value, frees the old one once it has waited, takes the node out, waits, and frees it with its value. Whoever reads
-   what was freed is an error. The memory is that of x86, with a buffer of stores for each thread, or sequentially consistent (SC).
+   node show another value, frees the old one once it has waited, takes the node out, waits, and frees it with its value. In place of the
+   second reader there may be one who puts a value in place of the node's (PUT), waits once it is gone, and frees the one that was there.
+   Whoever reads or frees what was freed is an error. The memory is that of x86, with a buffer of stores for each thread, or sequentially
+   consistent (SC).
 
    Each of these mistakes leads to an error: NO_WAIT, the writer frees at once; NO_FENCE, its stores of links and values stay in its
    buffer while it looks at the stripes; NO_LOCKED, a reader's first store does. */
@@ -16,7 +18,7 @@
 
 byte memory[PLACES];
 bool freed_node = false;
-bool freed_value[2];
+bool freed_value[3];
 
 /* The stores that haven't reached the memory yet, the oldest first: of the writer, 0, and of two readers. */
 typedef Buffer { byte place[BUFFER]; byte value[BUFFER]; byte count };
@@ -87,6 +89,52 @@ inline store_in_order(t, to, what) {
 #endif
 }
 
+/* What was there; the new value may stay in the buffer by mistake. */
+inline swap(t, at, new, old) {
+#ifdef NO_FENCE
+    load(t, at, old);
+    store(t, at, new)
+#else
+    fence(t);
+    atomic {
+        old = memory[at];
+        memory[at] = new
+    }
+#endif
+}
+
+inline free_value(value) {
+    if
+    :: value != NONE ->
+        assert(!freed_value[value]);
+        freed_value[value] = true
+    :: else
+    fi
+}
+
+inline wait_for_readers(t) {
+    s = 0;
+    do
+    :: s < 2 ->
+#ifndef NO_WAIT
+        load(t, STRIPE(s), turn);
+        if
+        :: turn % 2 == 1 ->
+            do
+            :: load(t, STRIPE(s), again);
+                if
+                :: again != turn -> break
+                :: else
+                fi
+            od
+        :: else
+        fi;
+#endif
+        s++
+    :: else -> break
+    od
+}
+
 proctype Reader(byte t; byte stripe) {
     byte i, turn, link, value, round;
     bool is_done;
@@ -124,39 +172,51 @@ proctype Reader(byte t; byte stripe) {
     od
 }
 
-inline wait_for_readers() {
-    s = 0;
-    do
-    :: s < 2 ->
-#ifndef NO_WAIT
-        load(0, STRIPE(s), turn);
+proctype Putter(byte t; byte stripe) {
+    byte i, s, turn, again, link;
+    byte value = NONE;
+    bool is_done;
+    load(t, stripe, turn);
+    if
+    :: turn % 2 == 0 ->
+        exchange(t, stripe, turn, turn + 1, is_done);
         if
-        :: turn % 2 == 1 ->
-            do
-            :: load(0, STRIPE(s), again);
+        :: is_done ->
+            load(t, LINK, link);
+            if
+            :: link != NONE ->
+                assert(!freed_node);
+                load(t, VALUE, value);
                 if
-                :: again != turn -> break
+                :: value != NONE ->
+                    exchange(t, VALUE, value, 2, is_done);
+                    if
+                    :: !is_done -> value = NONE
+                    :: else
+                    fi
                 :: else
                 fi
-            od
+            :: else
+            fi;
+            store(t, stripe, turn + 2);
+            wait_for_readers(t);
+            free_value(value)
         :: else
-        fi;
-#endif
-        s++
-    :: else -> break
-    od
+        fi
+    :: else
+    fi
 }
 
 proctype Writer() {
-    byte i, s, turn, again;
-    store_in_order(0, VALUE, 1);
-    wait_for_readers();
-    freed_value[0] = true;
-    store_in_order(0, VALUE, NONE);
+    byte i, s, turn, again, value;
+    swap(0, VALUE, 1, value);
+    wait_for_readers(0);
+    free_value(value);
+    swap(0, VALUE, NONE, value);
     store_in_order(0, LINK, NONE);
-    wait_for_readers();
+    wait_for_readers(0);
     freed_node = true;
-    freed_value[1] = true
+    free_value(value)
 }
 
 /* A thread's oldest store reaches the memory at any time. */
@@ -175,9 +235,14 @@ init {
         run Writer();
         run Reader(1, STRIPE(0));
 #ifdef ONE
-        run Reader(2, STRIPE(0));
+#define SECOND STRIPE(0)
 #else
-        run Reader(2, STRIPE(1));
+#define SECOND STRIPE(1)
+#endif
+#ifdef PUT
+        run Putter(2, SECOND);
+#else
+        run Reader(2, SECOND);
 #endif
         run Drain(0);
         run Drain(1);

@@ -7,11 +7,11 @@ use crate::reads::heads::Heads;
 use crate::reads::may_lose_turn;
 use crate::reads::readers::{Reader, Readers};
 use crate::store::AllLeft;
-use crate::table::Entry;
-use crate::Left;
+use crate::table::{Entry, Terms};
+use crate::{Cause, Left};
 use std::marker::PhantomData;
 use std::ptr::{null_mut, NonNull};
-use std::sync::atomic::{AtomicPtr, Ordering::*};
+use std::sync::atomic::{AtomicBool, AtomicPtr, Ordering::*};
 use std::sync::Arc;
 
 /// A value with its key. While it is in a chain, only the value and the link change.
@@ -24,8 +24,8 @@ pub(crate) struct Node<K, V> {
     pub(crate) number: u64,
     /// The key's row.
     pub(crate) at: u32,
-    /// A look before this moment finds the value, and doesn't find it due.
-    pub(crate) until: u64,
+    /// On which each of its values is stored.
+    pub(crate) terms: Terms,
     next: AtomicPtr<Node<K, V>>,
 }
 
@@ -56,6 +56,8 @@ impl<V> Value<'_, V> {
 /// The chains of a shard, for those who read them.
 pub(crate) struct Nodes<K, V> {
     heads: AtomicPtr<Heads<Node<K, V>>>,
+    // Whether readers may put values in place of others.
+    may_put: AtomicBool,
     readers: Readers,
     // Readers drop shares in their own threads.
     _shares: PhantomData<(Arc<K>, Arc<V>)>,
@@ -119,7 +121,24 @@ impl<K, V> Reading<'_, K, V> {
         }
         None
     }
+
+    /// Puts a value in place of the node's, which is taken out. Gives it back if the node was taken out, or values may not be put now.
+    #[inline(always)]
+    pub(crate) fn put(&self, node: &Node<K, V>, value: Arc<V>) -> Result<Replaced<K, V>, Arc<V>> {
+        may_lose_turn(self.nodes);
+        let new = self.nodes.may_put.load(SeqCst).then(|| Arc::as_ptr(&value).cast_mut());
+        may_lose_turn(&node.value);
+        let old = node.value.fetch_update(SeqCst, SeqCst, |old| new.filter(|_| !old.is_null()));
+        let Ok(old) = old else { return Err(value) };
+        // The share is the node's now.
+        std::mem::forget(value);
+        let value = Sealed { node: null_mut(), value: old, readers: self.nodes.readers.name() };
+        Ok(Left { key: node.key.clone(), value, cause: Cause::Replaced })
+    }
 }
+
+/// What left its node to another value.
+pub(crate) type Replaced<K, V> = Left<Arc<K>, Sealed<K, V>>;
 
 /// What was taken out of a chain, where readers may still see it.
 #[must_use]
@@ -139,7 +158,7 @@ pub(crate) struct Writer<K, V> {
 impl<K, V> Writer<K, V> {
     pub(crate) fn of(readers: Readers) -> Self {
         let heads = Box::into_raw(Box::new(Heads::few())).into();
-        Writer { nodes: Arc::new(Nodes { heads, readers, _shares: PhantomData }), count: 0 }
+        Writer { nodes: Arc::new(Nodes { heads, may_put: true.into(), readers, _shares: PhantomData }), count: 0 }
     }
 
     fn follow(&self, link: &AtomicPtr<Node<K, V>>) -> Option<&Node<K, V>> {
@@ -158,17 +177,17 @@ impl<K, V> Writer<K, V> {
 
     /// Shows a value of a row, in place of the one before, which is taken out.
     pub(crate) fn show(&mut self, of: Entry<'_, K>, value: Arc<V>) -> Option<Sealed<K, V>> {
-        let Entry { key, hash, number, at, until } = of;
+        let Entry { key, hash, number, at, terms } = of;
         let value = Arc::into_raw(value).cast_mut();
         let link = self.link_to(hash, at);
         let node = self.follow(link);
-        if let Some(node) = node.filter(|node| node.until == until) {
+        if let Some(node) = node.filter(|node| node.terms == terms) {
             may_lose_turn(&node.value);
             return Some(self.sealed(null_mut(), node.value.swap(value, SeqCst)));
         }
         let next = node.map_or_else(null_mut, |node| node.next.load(Relaxed)).into();
         let new =
-            Box::into_raw(Box::new(Node { hash, key: key.clone(), value: value.into(), number, at, until, next }));
+            Box::into_raw(Box::new(Node { hash, key: key.clone(), value: value.into(), number, at, terms, next }));
         if let Some(node) = node {
             return Some(self.replaced(link, node, new));
         }
@@ -179,6 +198,19 @@ impl<K, V> Writer<K, V> {
             self.try_grow();
         }
         None
+    }
+
+    /// Has no reader put a value from now on, until they may again.
+    pub(crate) fn stop_puts(&mut self) {
+        may_lose_turn(&*self.nodes);
+        self.nodes.may_put.store(false, SeqCst);
+        self.nodes.readers.wait();
+    }
+
+    /// Lets readers put values again.
+    pub(crate) fn allow_puts(&mut self) {
+        may_lose_turn(&*self.nodes);
+        self.nodes.may_put.store(true, SeqCst);
     }
 
     /// Takes the row's value out.

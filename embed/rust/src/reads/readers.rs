@@ -25,6 +25,8 @@ struct Stripe {
     // The hits that readers have counted while they were there, and those that were counted later.
     hits: AtomicU64,
     later_hits: AtomicU64,
+    // The values that readers have put.
+    puts: AtomicU64,
 }
 
 /// The stripes of a cache. Clones have the same ones.
@@ -88,6 +90,12 @@ impl Readers {
         self.0.iter().map(|stripe| stripe.hits.load(Relaxed) + stripe.later_hits.load(Relaxed)).sum()
     }
 
+    /// The values that were put.
+    pub(crate) fn puts(&self) -> u64 {
+        self.0.iter().for_each(may_lose_turn);
+        self.0.iter().map(|stripe| stripe.puts.load(Relaxed)).sum()
+    }
+
     /// By this the stripes are told from others, as long as they are there.
     #[inline(always)]
     pub(crate) fn name(&self) -> *const () {
@@ -145,6 +153,13 @@ impl Reader<'_> {
     pub(crate) fn count(&self) {
         may_lose_turn(self.stripe);
         self.stripe.hits.store(self.stripe.hits.load(Relaxed) + 1, Relaxed);
+    }
+
+    /// Counts a value that was put.
+    #[inline(always)]
+    pub(crate) fn count_put(&self) {
+        may_lose_turn(self.stripe);
+        self.stripe.puts.store(self.stripe.puts.load(Relaxed) + 1, Relaxed);
     }
 }
 

@@ -17,6 +17,8 @@ enum Call {
     /// With a life of 10 milliseconds.
     StoreFor(u64, u64),
     Drop(u64, u64),
+    /// Of one that weighs two.
+    Heavy(u64, u64),
     Count,
 }
 
@@ -27,7 +29,8 @@ fn answer(cache: &Cache, call: Call, value: u64) -> Option<u64> {
     match call {
         Call::Look(key, now) => cache.look_at(&key, now).unwrap().map(|value| *value),
         Call::Get(key, now) => Some(*cache.get_at(&key, now, || Ok((value, 1))).unwrap()),
-        Call::Store(key, now) => cache.store_at(&key, value, 1, now).map(|()| None).unwrap(),
+        Call::Store(key, now) => cache.put_at(&key, value, 1, now).unwrap().first().map(|left| *left.value),
+        Call::Heavy(key, now) => cache.put_at(&key, value, 2, now).unwrap().first().map(|left| *left.value),
         Call::StoreFor(key, now) => {
             let life = Duration::from_millis(10);
             cache.store_for_at(&key, value, 1, life, now).map(|()| None).unwrap()
@@ -178,6 +181,39 @@ fn three_calls_of_two_threads_have_an_order_whatever_theirs_is() {
         }
     }
     assert!(orders > 10_000, "{orders}");
+}
+
+#[test]
+fn puts_of_two_threads_have_an_order_whatever_theirs_is() {
+    let calls = [Call::Store(2, 8), Call::Heavy(2, 8), Call::Look(2, 8), Call::StoreFor(2, 8)];
+    let (mut orders, setup) = (0, Setup::of(64));
+    for (first, second) in calls.into_iter().flat_map(|first| calls.map(|second| (first, second))) {
+        for other in [Call::Store(2, 8), Call::Drop(2, 8), Call::Heavy(2, 8), Call::Count] {
+            orders += calls_have_an_order(&setup, 0, [&[first, second], &[other]], 3);
+        }
+    }
+    assert!(orders > 3_000, "{orders}");
+}
+
+#[test]
+fn a_put_takes_no_lock_if_its_value_may_stand_in_place() {
+    let puts = |cache: &Cache, key, weight, now| {
+        let before = cache.readers.puts();
+        let left = cache.put_at(&key, 7, weight, now).unwrap();
+        (left.len(), cache.readers.puts() - before)
+    };
+    let cache = looked_at(&Setup::of(64), Reads::Shared, 0);
+    assert_eq!(puts(&cache, 2, 1, 8), (1, 1));
+    assert_eq!((cache.stats().replaced, cache.look_at(&2, 8).unwrap().as_deref()), (1, Some(&7)));
+    // A new key, another weight, a later moment, and an entry with a life.
+    assert_eq!((puts(&cache, 3, 1, 8), puts(&cache, 2, 2, 8), puts(&cache, 2, 2, 9)), ((0, 0), (1, 0), (1, 0)));
+    cache.store_for_at(&2, 7, 2, Duration::from_millis(50), 9).unwrap();
+    assert_eq!((puts(&cache, 2, 2, 9), puts(&cache, 2, 2, 9)), ((1, 0), (1, 1)));
+    // A value that expires has the moment of its own put.
+    let cache = looked_at(&aged(), Reads::Shared, 0);
+    assert_eq!(puts(&cache, 2, 1, 8), (1, 0));
+    let exact = looked_at(&Setup::of(64), Reads::Exact, 0);
+    assert_eq!(puts(&exact, 2, 1, 8), (1, 0));
 }
 
 #[test]
