@@ -1,11 +1,11 @@
 //! main CACHE KEYS ROUNDS THREADS [WORK]: hits, puts and read-through of the keys in a file, or the one of them that is named: a line
 //! for each round, with the nanoseconds an operation, all threads together, and the misses of the read-through. Each
 //! thread goes through all keys; in the work `stream`, a read-through too, each takes the next one. The work `get` is a read-through of
-//! keys that are held.
-use rookdresser::{future, Cache, Found, Loading, Reads, Setup, Token, Tokens};
+//! keys that are held, and in `new` one call in 32 puts a key that was never there.
+use rookdresser::{future, Cache, Folded, Found, Loading, Reads, Setup, Token, Tokens};
 use std::cell::RefCell;
 use std::future::Future;
-use std::hash::{BuildHasher, Hasher, RandomState};
+use std::hash::BuildHasher;
 use std::pin::pin;
 use std::sync::atomic::{AtomicUsize, Ordering::Relaxed};
 use std::sync::{Arc, Mutex};
@@ -109,32 +109,6 @@ impl Work for Locked {
     }
 }
 
-// A hasher that is cheaper than SipHash: the halves of a product, put together. Strangers who can time calls at length may find keys
-// that collide.
-#[derive(Clone, Default)]
-struct Folded(u64);
-
-impl Hasher for Folded {
-    fn finish(&self) -> u64 {
-        self.0
-    }
-    fn write(&mut self, _: &[u8]) {
-        unreachable!("the keys are numbers")
-    }
-    fn write_u64(&mut self, number: u64) {
-        let product = u128::from(self.0 ^ number) * 0x9E37_79B9_7F4A_7C15;
-        self.0 = product as u64 ^ (product >> 64) as u64;
-    }
-}
-
-impl BuildHasher for Folded {
-    type Hasher = Folded;
-
-    fn build_hasher(&self) -> Folded {
-        self.clone()
-    }
-}
-
 impl<S: BuildHasher> Work for Loading<u64, u64, (), S> {
     fn look(&self, key: u64, _: u64) -> bool {
         Loading::look(self, &key).expect("memory is there").is_some()
@@ -149,6 +123,27 @@ impl<S: BuildHasher> Work for Loading<u64, u64, (), S> {
             Ok((key, 1))
         };
         self.get(&key, load).expect("loads land at once");
+        there
+    }
+}
+
+// The same, with copies of the values in place of shares.
+struct Copied<S>(Loading<u64, u64, (), S>);
+
+impl<S: BuildHasher> Work for Copied<S> {
+    fn look(&self, key: u64, _: u64) -> bool {
+        self.0.look_copied(&key).expect("memory is there").is_some()
+    }
+    fn put(&self, key: u64, now: u64) {
+        Work::put(&self.0, key, now);
+    }
+    fn read_through(&self, key: u64, _: u64) -> bool {
+        let mut there = true;
+        let load = || {
+            there = false;
+            Ok((key, 1))
+        };
+        self.0.get_copied(&key, load).expect("loads land at once");
         there
     }
 }
@@ -235,13 +230,10 @@ fn made(cache: &str) -> Box<dyn Work + Sync> {
         }
         "exact" => Box::new(one_lock(SETUP).with_reads(Reads::Exact)),
         "follows-exact" => Box::new(one_lock(FOLLOWING).with_reads(Reads::Exact)),
-        "loading-folded" => {
-            let seed = Folded(RandomState::new().hash_one(0));
-            Box::new(
-                Loading::<u64, u64, (), _>::sharded_with_hasher(1, &SETUP, seed)
-                    .expect("the setup is within its ranges"),
-            )
-        }
+        "loading-folded" => Box::new(
+            Loading::<u64, u64, (), _>::sharded_with_hasher(1, &SETUP, Folded::new())
+                .expect("the setup is within its ranges"),
+        ),
         "loading-sharded" => {
             Box::new(Loading::<u64, u64, ()>::sharded(8, &EIGHTH).expect("the setup is within its ranges"))
         }
@@ -261,6 +253,10 @@ fn made(cache: &str) -> Box<dyn Work + Sync> {
                 "window" => owned(Setup { window: Some(entries()), ..Setup::of(entries()) }),
                 "exact" => Box::new(sized(size, Setup::of).with_reads(Reads::Exact)),
                 "loading" => Box::new(sized(size, Setup::of)),
+                "copied" => Box::new(Copied(sized(size, Setup::of))),
+                "folded" => Box::new(Copied(
+                    Loading::with_hasher(&Setup::of(entries()), Folded::new()).expect("the setup is within its ranges"),
+                )),
                 _ => panic!("there is no cache {cache}"),
             }
         }
@@ -306,7 +302,7 @@ fn main() {
     let bytes = std::fs::read(&given[2]).expect("the file of keys");
     let keys: Vec<u64> = bytes.chunks_exact(8).map(|b| u64::from_le_bytes(b.try_into().expect("8 bytes"))).collect();
     type Call = fn(&dyn Work, u64, u64) -> bool;
-    let works: [(&str, Call); 6] = [
+    let works: [(&str, Call); 7] = [
         ("hit", |cache, key, now| cache.look(key % HELD, now)),
         ("put", |cache, key, now| {
             cache.put(key % HELD, now);
@@ -319,16 +315,23 @@ fn main() {
             }
             is_put || cache.look(key % HELD, now)
         }),
+        ("new", |cache, key, now| {
+            let is_put = now % 32 == 31;
+            if is_put {
+                cache.put(1 << 63 | key << 32 | now, now);
+            }
+            is_put || cache.look(key % HELD, now)
+        }),
         ("read-through", |cache, key, now| cache.read_through(key, now)),
         ("stream", |cache, key, now| cache.read_through(key, now)),
         ("get", |cache, key, now| cache.read_through(key % HELD, now)),
     ];
-    let is_asked = |name| given.get(5).map_or(!["stream", "get"].contains(&name), |only| only == name);
+    let is_asked = |name| given.get(5).map_or(!["new", "stream", "get"].contains(&name), |only| only == name);
     for (name, work) in works.into_iter().filter(|work| is_asked(work.0)) {
         for _ in 0..rounds {
             let cache = made(&given[1]);
             let is_held = ["hit", "get", "put", "mixed"].contains(&name);
-            if is_held {
+            if is_held || name == "new" {
                 (0..HELD).for_each(|key| cache.put(key, 0));
             }
             let (each, missed) = timed(&*cache, &keys, threads, name == "stream", work);

@@ -46,10 +46,24 @@ impl<K: Hash + Eq, V, E, S: BuildHasher> Loading<K, V, E, S> {
         Q: Hash + Eq + ?Sized,
     {
         let hash = self.hash(key);
-        let mut shard = match self.hit(hash, key, now) {
-            Ok(value) => return Ok(Some(value)),
-            Err(shard) => shard,
-        };
+        match self.hit(hash, key, now) {
+            Ok(value) => Ok(Some(value)),
+            Err(shard) => self.look_alone(shard, hash, key, now),
+        }
+    }
+
+    // A look by whoever has the shard's lock.
+    fn look_alone<'a, Q>(
+        &'a self,
+        mut shard: Locked<'a, K, V, E>,
+        hash: u64,
+        key: &Q,
+        now: u64,
+    ) -> Result<Option<Arc<V>>, Fault>
+    where
+        K: Borrow<Q>,
+        Q: Hash + Eq + ?Sized,
+    {
         if !are_plain::<K, Q>() {
             if let Some((row, at)) = self.only(&shard, hash) {
                 let found = self.looked(shard, Some(at), hash, now);
@@ -61,6 +75,49 @@ impl<K: Hash + Eq, V, E, S: BuildHasher> Loading<K, V, E, S> {
         }
         let (shard, at) = self.found(shard, hash, key);
         self.looked(shard, at, hash, now)
+    }
+
+    /// A copy of the key's value, if it is there, with no load. It is as `look`, but no thread writes a count of the value's shares, which
+    /// four threads that hit the same keys do one after another. So they make more hits together.
+    ///
+    /// ```
+    /// # use rookdresser::{Loading, Setup};
+    /// # let cache = Loading::<String, u64, std::io::Error>::open(&Setup::of(100))?;
+    /// cache.store("a", 7, 1)?;
+    /// assert_eq!((cache.look_copied("a")?, cache.look_copied("b")?), (Some(7), None));
+    /// # Ok::<(), Box<dyn std::error::Error>>(())
+    /// ```
+    pub fn look_copied<Q>(&self, key: &Q) -> Result<Option<V>, Fault>
+    where
+        K: Borrow<Q>,
+        Q: Hash + Eq + ?Sized,
+        V: Copy,
+    {
+        self.look_copied_at(key, self.clock.now())
+    }
+
+    /// As `look_copied`, at a moment of the caller's clock, in milliseconds.
+    ///
+    /// ```
+    /// # use rookdresser::{Loading, Setup};
+    /// # use std::time::Duration;
+    /// # let cache = Loading::<String, u64, std::io::Error>::open(&Setup::of(100).after_write(Duration::from_millis(10)))?;
+    /// // Entries expire after 10 milliseconds here.
+    /// cache.store_at("a", 7, 1, 1000)?;
+    /// assert_eq!((cache.look_copied_at("a", 1009)?, cache.look_copied_at("a", 1010)?), (Some(7), None));
+    /// # Ok::<(), Box<dyn std::error::Error>>(())
+    /// ```
+    pub fn look_copied_at<Q>(&self, key: &Q, now: u64) -> Result<Option<V>, Fault>
+    where
+        K: Borrow<Q>,
+        Q: Hash + Eq + ?Sized,
+        V: Copy,
+    {
+        let hash = self.hash(key);
+        match self.hit_without_lock(hash, key, now, |value| value.copied()) {
+            Some(value) => Ok(Some(value)),
+            None => Ok(self.look_alone(self.shard(hash).take_for_look_up(), hash, key, now)?.map(|value| *value)),
+        }
     }
 
     #[inline]

@@ -3,6 +3,7 @@ use crate::life::Life;
 use crate::loading::Loading;
 use crate::panics::{Guarded, Panics};
 use crate::plain::are_plain;
+use crate::reads::nodes::Value;
 use crate::reads::notes::Note;
 use crate::reads::shared::{Locked, Shared};
 use crate::several::Several;
@@ -36,32 +37,37 @@ impl<K, V, E, S> Loading<K, V, E, S> {
         K: Borrow<Q>,
         Q: Eq + ?Sized,
     {
-        let shard = self.shard(hash);
-        if shard.is_shared() {
-            let found = if are_plain::<K, Q>() {
-                self.hit_of_plain(shard, hash, key, now)
-            } else {
-                self.hit_of_any(shard, hash, key, now)
-            };
-            if let Some(value) = found {
-                return Ok(value);
-            }
+        match self.hit_without_lock(hash, key, now, |value| value.share()) {
+            Some(value) => Ok(value),
+            None => Err(self.shard(hash).take_for_look_up()),
         }
-        Err(shard.take_for_look_up())
     }
 
-    // A hit without the lock, of a key that is compared among the nodes.
+    /// What is taken of the key's value, if the call is sure to hit.
     #[inline(always)]
-    fn hit_of_plain<Q>(&self, shard: &Shared<K, V, E>, hash: u64, key: &Q, now: u64) -> Option<Arc<V>>
+    pub(crate) fn hit_without_lock<Q, T>(
+        &self,
+        hash: u64,
+        key: &Q,
+        now: u64,
+        take: impl Fn(Value<'_, V>) -> T,
+    ) -> Option<T>
     where
         K: Borrow<Q>,
         Q: Eq + ?Sized,
     {
+        let shard = self.shard(hash);
+        if !shard.is_shared() {
+            return None;
+        }
+        if !are_plain::<K, Q>() {
+            return self.hit_of_any(shard, hash, key, now, take);
+        }
         let latest = shard.latest.before();
         let reading = shard.nodes.read();
         let node = reading.find(hash, |node| (*node.key).borrow() == key)?;
         let value = node.value().filter(|_| now <= latest && latest < node.terms.until)?;
-        let (value, note) = (value.share(), Note { number: node.number, at: node.at });
+        let (value, note) = (take(value), Note { number: node.number, at: node.at });
         reading.reader.count();
         drop(reading);
         shard.note(note);
@@ -69,7 +75,14 @@ impl<K, V, E, S> Loading<K, V, E, S> {
     }
 
     // The same of a key that is compared once the reader is gone: the one node of the hash is nearly always the key's.
-    fn hit_of_any<Q>(&self, shard: &Shared<K, V, E>, hash: u64, key: &Q, now: u64) -> Option<Arc<V>>
+    fn hit_of_any<Q, T>(
+        &self,
+        shard: &Shared<K, V, E>,
+        hash: u64,
+        key: &Q,
+        now: u64,
+        take: impl Fn(Value<'_, V>) -> T,
+    ) -> Option<T>
     where
         K: Borrow<Q>,
         Q: Eq + ?Sized,
@@ -81,7 +94,7 @@ impl<K, V, E, S> Loading<K, V, E, S> {
             return None;
         }
         let value = node.value().filter(|_| now <= latest && latest < node.terms.until)?;
-        let (value, note) = (value.share(), Note { number: node.number, at: node.at });
+        let (value, note) = (take(value), Note { number: node.number, at: node.at });
         let row = Guarded::of(node.key.clone());
         drop(reading);
         let value = self.is_of(row, key, value)?;

@@ -55,6 +55,56 @@ impl<K: Hash + Eq, V, E, S: BuildHasher> Loading<K, V, E, S> {
         self.get_at(key, self.clock.now(), load)
     }
 
+    /// As `get`, of which it returns a copy of the value. No thread that hits writes a count of the value's shares, as in
+    /// [`look_copied`](Loading::look_copied).
+    ///
+    /// ```
+    /// # use rookdresser::{Loading, Setup};
+    /// # let cache = Loading::<String, u64, std::io::Error>::open(&Setup::of(100))?;
+    /// assert_eq!(cache.get_copied("a", || Ok((7, 1)))?, 7);
+    /// assert_eq!(cache.get_copied("a", || unreachable!("it is there"))?, 7);
+    /// # Ok::<(), Box<dyn std::error::Error>>(())
+    /// ```
+    pub fn get_copied<Q>(&self, key: &Q, load: impl FnOnce() -> Result<(V, u32), E>) -> Result<V, GetError<E>>
+    where
+        K: Borrow<Q>,
+        Q: Hash + Eq + ToOwned<Owned = K> + ?Sized,
+        V: Copy,
+    {
+        self.get_copied_at(key, self.clock.now(), load)
+    }
+
+    /// As `get_copied`, at a moment of the caller's clock, in milliseconds.
+    ///
+    /// ```
+    /// # use rookdresser::{Loading, Setup};
+    /// # use std::time::Duration;
+    /// # let cache = Loading::<String, u64, std::io::Error>::open(&Setup::of(100).after_write(Duration::from_millis(10)))?;
+    /// // Entries expire after 10 milliseconds here.
+    /// assert_eq!(cache.get_copied_at("a", 1000, || Ok((7, 1)))?, 7);
+    /// assert_eq!(cache.get_copied_at("a", 1010, || Ok((8, 1)))?, 8);
+    /// # Ok::<(), Box<dyn std::error::Error>>(())
+    /// ```
+    pub fn get_copied_at<Q>(
+        &self,
+        key: &Q,
+        now: u64,
+        load: impl FnOnce() -> Result<(V, u32), E>,
+    ) -> Result<V, GetError<E>>
+    where
+        K: Borrow<Q>,
+        Q: Hash + Eq + ToOwned<Owned = K> + ?Sized,
+        V: Copy,
+    {
+        let load = Guarded::of(load);
+        if let Some(value) = self.hit_without_lock(self.hash(key), key, now, |value| value.copied()) {
+            let mut panics = Panics::default();
+            panics.of(|| drop(load));
+            return panics.checked(Ok(value));
+        }
+        self.get_at(key, now, load.take()).map(|value| *value)
+    }
+
     /// As `get`, with a loader that returns the value alone, which then weighs 1.
     ///
     /// ```

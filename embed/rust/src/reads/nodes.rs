@@ -41,6 +41,15 @@ impl<K, V> Node<K, V> {
 /// A value that a reader sees. It isn't dropped before the reader is gone.
 pub(crate) struct Value<'a, V>(NonNull<V>, PhantomData<&'a V>);
 
+impl<V: Copy> Value<'_, V> {
+    /// A copy of it.
+    #[inline(always)]
+    pub(crate) fn copied(self) -> V {
+        // SAFETY: it isn't dropped before this reader is gone, and nothing writes what is in an `Arc`.
+        unsafe { *self.0.as_ref() }
+    }
+}
+
 impl<V> Value<'_, V> {
     /// A share of it.
     #[inline(always)]
