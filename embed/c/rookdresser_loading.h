@@ -32,6 +32,7 @@ typedef rd_name_notice rd_loading_notice;
 #define RD_LOADING_LAND rd_land_name_for
 #define RD_LOADING_DROP rd_drop_key_name_with_notice
 #define RD_LOADING_KEY(key) (&(key))
+#define RD_LOADING_SAME(a, b) ((a).length == (b).length && !memcmp((a).bytes, (b).bytes, sizeof(a).bytes))
 static inline uint64_t rd_loading_number(rd_name key) {
     const uint64_t seed[2] = {0, 0};
     return rd_seeded(seed, key.bytes, key.length);
@@ -46,6 +47,7 @@ typedef rd_notice rd_loading_notice;
 #define RD_LOADING_LAND rd_land_for
 #define RD_LOADING_DROP rd_drop_key_with_notice
 #define RD_LOADING_KEY(key) (key)
+#define RD_LOADING_SAME(a, b) ((a) == (b))
 static inline uint64_t rd_loading_number(uint64_t key) { return key; }
 #endif
 
@@ -78,8 +80,11 @@ typedef struct rd_loading {
     rd_loading_listener *listener; /* null if there is none */
     void *context;                 /* the listener's */
     rd_follower follower;          /* closed if the window is fixed */
+    bool refuses_at_limit;
+    uint64_t load_timeout; /* how many milliseconds a load may take; 0: any */
+    uint64_t overdue_at;   /* no open load is overdue before */
 } rd_loading;
-#define RD_LOADING_INIT {PTHREAD_MUTEX_INITIALIZER, RD_CACHE_INIT, {{0}, {0}, {0}, 0}, 0, 0, 0, 0, RD_FOLLOWER_INIT}
+#define RD_LOADING_INIT {PTHREAD_MUTEX_INITIALIZER, RD_CACHE_INIT, {{0}, {0}, {0}, 0, 0, 0, 0}, 0, 0, 0, 0, RD_FOLLOWER_INIT, false, 0, 0}
 
 /* Opens an empty cache, as rd_open does. The cache calls destroy for each value once nobody has a share of it. */
 static inline uint64_t rd_loading_open(rd_loading *l, const rd_setup *setup, void (*destroy)(rd_shared *value)) {
@@ -119,6 +124,25 @@ static inline void rd_loading_listen(rd_loading *l, rd_loading_listener *listene
     pthread_mutex_lock(&l->lock);
     l->listener = listener;
     l->context = context;
+    pthread_mutex_unlock(&l->lock);
+}
+
+/* Says what a miss does while as many loads are open as flights allows. By default its thread loads beside the cache: it gets its own value,
+ * with the only share, which isn't stored, and no other thread shares its load. So a thousand threads that then miss one key load it a
+ * thousand times. With true it gets RD_TOO_MANY_FLIGHTS, which spares the source. A thread that asks for a key whose load is open waits for
+ * it all the same. Not promised: that a load beside the cache that asks for its own key is refused. Takes the lock, and no memory. O(1). */
+static inline void rd_loading_refuse_at_limit(rd_loading *l, bool refuses) {
+    pthread_mutex_lock(&l->lock);
+    l->refuses_at_limit = refuses;
+    pthread_mutex_unlock(&l->lock);
+}
+
+/* Has each load given up that has been open for so many milliseconds, by the moments of the calls; 0, the default: none is. Each get looks for
+ * such loads, as rd_loading_give_up does. It holds for the loads that are open, too. Takes the lock, and no memory. O(1). */
+static inline void rd_loading_load_timeout(rd_loading *l, uint64_t milliseconds) {
+    pthread_mutex_lock(&l->lock);
+    l->load_timeout = milliseconds;
+    l->overdue_at = 0;
     pthread_mutex_unlock(&l->lock);
 }
 
@@ -265,9 +289,14 @@ static inline void rd_loading_land(rd_loading *l, const rd_flight *of, rd_loadin
     if (fault || answer.kind != RD_KEPT) rd_loading_release(l, value);
 }
 
+/* The moment from which on a load is overdue that was begun now. */
+static inline uint64_t rd_loading_overdue_at(const rd_loading *l, uint64_t now) {
+    return l->load_timeout && now < UINT64_MAX - l->load_timeout ? now + l->load_timeout : UINT64_MAX;
+}
+
 /* A load that a thread has to make. */
 typedef struct rd_loading_task {
-    uint64_t id;
+    uint64_t id; /* the library's, of a load that it knows */
     rd_loading_key key;
     uint64_t now;
     rd_load *load;         /* or null: then the other one */
@@ -276,37 +305,143 @@ typedef struct rd_loading_task {
     rd_shared *old; /* the value of an entry that was due, with a share, or none */
 } rd_loading_task;
 
-/* Runs the load. Writes its value, of which the caller then has the only share, or its error. */
-static inline void rd_loading_run(const rd_loading_task *task, rd_flight *of, uint32_t *life) {
+/* An open load, with what ends it. */
+typedef struct rd_loading_flight {
+    rd_flight of; /* the first, so that each load of the list is one of these */
+    const rd_loading_task *task;
+} rd_loading_flight;
+
+/* Runs the load. Writes its value, of which the caller then has the only share, or returns its error. */
+static inline uint64_t rd_loading_run(const rd_loading_task *task, rd_token *loaded, uint32_t *life) {
     rd_shared *value = 0;
-    of->value.weight = 1;
-    of->error = task->load ? task->load(task->context, task->key, &value, &of->value.weight)
-                           : task->load_for(task->context, task->key, &value, &of->value.weight, life);
-    if (of->error) return;
+    loaded->weight = 1;
+    const uint64_t error = task->load ? task->load(task->context, task->key, &value, &loaded->weight)
+                                      : task->load_for(task->context, task->key, &value, &loaded->weight, life);
+    if (error) return error;
     value->shares = 1;
-    of->value.token = rd_loading_token(value);
+    loaded->token = rd_loading_token(value);
+    return RD_OK;
+}
+
+/* Writes what a caller gets whose load failed: the old value, if the entry was due; else it returns the error. */
+static inline uint64_t rd_loading_failed(const rd_loading_task *task, uint64_t error, rd_shared **value) {
+    *value = task->old;
+    return task->old ? (uint64_t)RD_OK : error;
+}
+
+/* The load was given up before it returned: its value is destroyed. The lock is held, and given back. */
+static inline uint64_t rd_loading_late(rd_loading *l, const rd_loading_task *task, uint64_t why, uint64_t error, rd_token loaded,
+                                       rd_shared *left, rd_shared **value) {
+    if (!error) l->stats.late++;
+    rd_loading_leave(l, left);
+    if (!error) rd_loading_release(l, rd_loading_value(loaded.token));
+    return rd_loading_failed(task, error ? error : why, value);
 }
 
 /* Makes a load. The lock is held, and given back. */
 static inline uint64_t rd_loading_lead(rd_loading *l, const rd_loading_task *task, rd_shared *left, rd_shared **value) {
-    rd_flight of;
+    rd_loading_flight flight;
+    rd_flight *of = &flight.of;
+    rd_token loaded = {0, 0};
     uint32_t life = 0;
     rd_shared *landed = 0, **end = &left; /* what left by the landing comes behind what left by the look-up */
-    rd_flight_begin(&l->loads, &of, task->id);
+    flight.task = task;
+    rd_flight_begin(&l->loads, of, task->id);
+    const uint64_t overdue_at = rd_loading_overdue_at(l, task->now);
+    if (overdue_at < l->overdue_at) l->overdue_at = overdue_at;
     pthread_mutex_unlock(&l->lock);
-    rd_loading_run(task, &of, &life);
+    const uint64_t error = rd_loading_run(task, &loaded, &life);
     pthread_mutex_lock(&l->lock);
-    rd_loading_land(l, &of, task->key, life, task->now, &landed);
+    if (of->is_over) return rd_loading_late(l, task, of->error, error, loaded, left, value);
+    of->error = error;
+    of->value = loaded;
+    rd_loading_land(l, of, task->key, life, task->now, &landed);
     while (*end) end = &(*end)->next;
     *end = landed;
-    long waits = rd_flight_tell(&of);
-    rd_flight_remove(&l->loads, &of);
-    if (!of.error) __atomic_add_fetch(&rd_loading_value(of.value.token)->shares, waits, __ATOMIC_RELAXED);
+    long waits = rd_flight_tell(of);
+    rd_flight_remove(&l->loads, of);
+    if (!error) __atomic_add_fetch(&rd_loading_value(loaded.token)->shares, waits, __ATOMIC_RELAXED);
     rd_loading_leave(l, left);
-    *value = of.error ? task->old : rd_loading_value(of.value.token);
-    if (of.error) return task->old ? (uint64_t)RD_OK : of.error;
+    if (error) return rd_loading_failed(task, error, value);
+    *value = rd_loading_value(loaded.token);
     rd_loading_release(l, task->old);
     return RD_OK;
+}
+
+/* Ends an open load with an error, before it has returned. The lock is held. */
+static inline void rd_loading_end(rd_loading *l, rd_flight *of, uint64_t error, rd_shared **left) {
+    const rd_loading_task *task = ((rd_loading_flight *)of)->task;
+    rd_answer answer;
+    uint64_t fault = RD_LOADING_CALL(rd_land_failed, &l->cache, of->id, RD_LOADING_KEY(task->key), task->now, &answer);
+    rd_loading_made(l, fault, &answer, 0, left);
+    l->stats.given_up++;
+    of->error = error;
+    rd_flight_tell(of);
+}
+
+/* Gives up each load that is overdue. The lock is held. */
+static inline void rd_loading_end_overdue(rd_loading *l, uint64_t now, rd_shared **left) {
+    l->overdue_at = UINT64_MAX;
+    for (rd_flight **at = &l->loads; *at;) {
+        rd_flight *of = *at;
+        const uint64_t overdue_at = rd_loading_overdue_at(l, ((rd_loading_flight *)of)->task->now);
+        if (now >= overdue_at) {
+            *at = of->next;
+            rd_loading_end(l, of, RD_TIMED_OUT, left);
+        } else {
+            if (overdue_at < l->overdue_at) l->overdue_at = overdue_at;
+            at = &of->next;
+        }
+    }
+}
+
+/* Gives up each open load that has been open for longer than rd_loading_load_timeout allows, at the moment now: its place is free, all threads
+ * that wait for it get RD_TIMED_OUT, and the next get of its key loads anew. The load itself goes on, since no thread can be stopped: once it
+ * returns, its value is destroyed, and its caller gets RD_TIMED_OUT too, or the old value if the entry was due. Each rd_loading_get does this
+ * first. Threads wait without a clock, so if nobody else calls, a timer of yours may call it. Takes the lock; no memory; O(1) if no load
+ * is overdue, else O(open loads). */
+static inline void rd_loading_give_up(rd_loading *l, uint64_t now) {
+    rd_shared *left = 0;
+    pthread_mutex_lock(&l->lock);
+    if (l->load_timeout && now >= l->overdue_at) rd_loading_end_overdue(l, now, &left);
+    rd_loading_leave(l, left);
+}
+
+/* Gives up the open loads of the key in the same way, with an error of yours, from RD_LOADING_ERRORS on, or RD_TIMED_OUT. Returns how many
+ * there were. Takes the lock; no memory; O(open loads). */
+static inline uint64_t rd_loading_abandon(rd_loading *l, rd_loading_key key, uint64_t error) {
+    rd_shared *left = 0;
+    uint64_t ended = 0;
+    pthread_mutex_lock(&l->lock);
+    for (rd_flight **at = &l->loads; *at;) {
+        rd_flight *of = *at;
+        if (RD_LOADING_SAME(((rd_loading_flight *)of)->task->key, key)) {
+            *at = of->next;
+            rd_loading_end(l, of, error, &left);
+            ended++;
+        } else {
+            at = &of->next;
+        }
+    }
+    rd_loading_leave(l, left);
+    return ended;
+}
+
+/* Inside rd_loading_get: the library has refused a seek. A miss at the limit of open loads is looked up, so that it counts as any other, and
+ * loaded beside the cache. The lock is held, and given back. */
+static inline uint64_t rd_loading_refused(rd_loading *l, uint64_t fault, const rd_loading_task *task, rd_shared *left, rd_shared **value) {
+    rd_answer answer;
+    rd_token loaded = {0, 0};
+    uint32_t life = 0;
+    const bool is_beside = fault == RD_TOO_MANY_FLIGHTS && !l->refuses_at_limit;
+    if (is_beside) fault = RD_LOADING_CALL(rd_look, &l->cache, RD_LOADING_KEY(task->key), task->now, &answer);
+    rd_loading_made(l, fault, &answer, 0, &left);
+    rd_loading_follow(l, fault, task->key);
+    if (!fault) l->stats.beside++;
+    rd_loading_leave(l, left);
+    if (!fault) fault = rd_loading_run(task, &loaded, &life);
+    if (!fault) *value = rd_loading_value(loaded.token);
+    return fault;
 }
 
 /* Inside rd_loading_get: looks the key up, and loads it or waits for its load. */
@@ -316,13 +451,14 @@ static inline uint64_t rd_loading_ask(rd_loading *l, rd_loading_key key, uint64_
     rd_shared *left = 0, *held = 0;
     *value = 0;
     pthread_mutex_lock(&l->lock);
+    if (l->load_timeout && now >= l->overdue_at) rd_loading_end_overdue(l, now, &left);
     uint64_t fault = RD_LOADING_CALL(rd_seek, &l->cache, RD_LOADING_KEY(key), now, &answer);
+    if (fault) {
+        const rd_loading_task task = {0, key, now, load, load_for, context, 0};
+        return rd_loading_refused(l, fault, &task, left, value);
+    }
     rd_loading_made(l, fault, &answer, 0, &left);
     rd_loading_follow(l, fault, key);
-    if (fault) {
-        rd_loading_leave(l, left);
-        return fault;
-    }
     if (answer.kind == RD_JOIN) return rd_loading_join(l, rd_flight_of(l->loads, answer.number), deadline, left, value);
     if (answer.kind != RD_LEAD) held = rd_loading_share(rd_loading_value(answer.token));
     if (answer.kind != RD_HIT) {
@@ -338,7 +474,8 @@ static inline uint64_t rd_loading_ask(rd_loading *l, rd_loading_key key, uint64_
  * threads that ask meanwhile share the load. While an entry that is due is loaded, the others get the old value; if the load fails,
  * this thread gets it too. The value's age counts from now. With an error or a fault it writes null.
  *
- * Faults, in this order: those of rd_seek, or of rd_seek_name; RD_WAITS_FOR_ITSELF if a load asks for its own key, or for a key of this
+ * Faults, in this order: those of rd_seek, or of rd_seek_name, of which RD_TOO_MANY_FLIGHTS comes only with rd_loading_refuse_at_limit; the
+ * error with which the load was given up; RD_WAITS_FOR_ITSELF if a load asks for its own key, or for a key of this
  * cache whose load waits for this thread; the error of the load. Takes the lock for the look-up and for the landing, and waits with no
  * lock held. Not promised: that a load ends, nor that a circle is found that leads through another cache or through threads that a
  * load starts. */

@@ -9,6 +9,9 @@ typedef struct rd_stats {
     uint64_t left[RD_SIZE + 1];           /* entries that left, by rd_cause */
     uint64_t refused[RD_STEPS_SPENT + 1]; /* refused calls, by rd_fault up to RD_STEPS_SPENT */
     uint64_t misused;                     /* calls that were refused as RD_CLOSED or by a later rd_fault */
+    uint64_t beside;                      /* rookdresser_loading.h alone: misses that loaded beside the cache, at the limit of open loads */
+    uint64_t given_up;                    /* the same: loads that ended before their load returned */
+    uint64_t late;                        /* the same: values that these brought later, which were destroyed */
 } rd_stats;
 
 /* Counts the fault and the answer of a call, and returns the fault. So you can write rd_count(&stats, rd_look(..), &answer). */

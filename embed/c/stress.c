@@ -44,7 +44,7 @@ static void destroy(rd_shared *shared) {
     free(shared);
 }
 
-/* A load, which may fail, or drop its own key. */
+/* A load, which may fail, drop its own key, or be given up. */
 typedef struct request {
     rd_loading *of;
     uint64_t key;
@@ -57,6 +57,8 @@ static uint64_t load(void *context, rd_loading_key key, rd_shared **got, uint32_
     if (r->what < 10) {
         uint64_t fault = rd_loading_drop(r->of, key, moment);
         CHECK(fault == RD_OK || fault == RD_CLOSED);
+    } else if (r->what < 15) {
+        rd_loading_abandon(r->of, key, RD_LOADING_ERRORS);
     } else {
         sched_yield();
     }
@@ -185,6 +187,7 @@ static void check_whole(rd_loading *l, const tally *to) {
     CHECK(rd_evicted(&s) == n.evicted && rd_held(&s) == n.entries && s.misused == 0);
     /* Each load that was begun has landed once. */
     CHECK(s.answers[RD_LEAD] + s.answers[RD_HIT_LEAD] == rd_loads(&s) + s.answers[RD_FAILED] && s.answers[RD_GONE] == 0);
+    CHECK(s.given_up > 0 && s.late == s.given_up);
     CHECK(s.answers[RD_HIT_LEAD] > 0 && s.answers[RD_LOOSE] > 0 && s.left[RD_EXPIRED] > 0);
 #ifdef NAMES
     rd_shared *got;
