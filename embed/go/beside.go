@@ -14,13 +14,14 @@ import (
 type besideLoad[K comparable, V any] struct {
 	shard *shard[K, V]
 	key   K
+	begun time.Duration
 	err   error
 	outer *besideLoad[K, V] // another one of the goroutine's, within which it is made
 }
 
 // beginBeside returns a load beside the cache for this goroutine, or ErrWaitsForItself if it makes one of the key already. Whoever has the
 // lock calls it.
-func (s *shard[K, V]) beginBeside(key K) (*besideLoad[K, V], error) {
+func (s *shard[K, V]) beginBeside(key K, now time.Duration) (*besideLoad[K, V], error) {
 	me := goroutine.Current()
 	outer := s.beside[me]
 	for at := outer; at != nil; at = at.outer {
@@ -31,7 +32,7 @@ func (s *shard[K, V]) beginBeside(key K) (*besideLoad[K, V], error) {
 	if s.beside == nil {
 		s.beside = map[uintptr]*besideLoad[K, V]{}
 	}
-	s.beside[me] = &besideLoad[K, V]{s, key, ErrPanicked, outer}
+	s.beside[me] = &besideLoad[K, V]{s, key, now, ErrPanicked, outer}
 	s.stats.Beside++
 	return s.beside[me], nil
 }
@@ -46,7 +47,7 @@ func (of *besideLoad[K, V]) end(took time.Duration) {
 	} else {
 		s.beside[me] = of.outer
 	}
-	s.stats.LoadTime += took
+	s.stats.took(took)
 	if of.err != nil {
 		s.stats.Failed++
 	} else {
@@ -57,8 +58,7 @@ func (of *besideLoad[K, V]) end(took time.Duration) {
 
 // loadBeside makes a load beside the cache.
 func (c *Cache[K, V]) loadBeside(ctx context.Context, of *besideLoad[K, V], fetch fetcher[V]) (v V, err error) {
-	begun := c.clock.elapsed()
-	defer func() { of.end(c.clock.elapsed() - begun) }()
+	defer func() { of.end(c.clock.elapsed() - of.begun) }()
 	loading := newLoading(ctx, 1)
 	defer c.limit(loading)()
 	v, _, _, of.err = fetch(loading)

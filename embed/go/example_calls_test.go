@@ -8,6 +8,7 @@ import (
 	"fmt"
 	"log"
 	"sort"
+	"strings"
 	"time"
 
 	"rookdresser"
@@ -283,6 +284,26 @@ func ExampleInBackground() {
 	fmt.Println(c.GetWith(context.Background(), "a page", func(ctx context.Context) (string, error) { return load(ctx, "a page") }))
 	<-loaded
 	// Output: a text <nil>
+}
+
+func ExampleCache_Loads() {
+	c := opened(rookdresser.Setup{Entries: 1000})
+	defer c.Close()
+	_, _ = c.GetWith(context.Background(), "a page", func(context.Context) (string, error) {
+		for _, load := range c.Loads() {
+			fmt.Println(load.Key, load.Age > 0, load.Waiting)
+		}
+		return "a text", nil
+	})
+	// Output: a page true 0
+}
+
+func ExampleCache_Describe() {
+	c := opened(rookdresser.Setup{Entries: 1000})
+	defer c.Close()
+	lines := strings.Split(c.Describe(), "\n")
+	fmt.Println(lines[0])
+	// Output: *rookdresser.Cache[string,string]
 }
 
 func ExampleAtLimit_String() {

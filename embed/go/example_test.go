@@ -13,6 +13,7 @@ import (
 	"net/http/httptest"
 	"os"
 	"sort"
+	"strings"
 	"time"
 
 	"rookdresser"
@@ -139,21 +140,28 @@ func ExampleCache_Stats_prometheus() {
 		counter("misses", s.Misses)
 		counter("loads", s.Loads)
 		counter("load_failures", s.Failed)
-		counter("load_seconds", s.LoadTime.Seconds())
 		counter("evictions", s.Expired+s.Size)
+		counter("loads_given_up", s.GivenUp)
+		counter("loads_beside", s.Beside)
+		fmt.Fprintln(w, "# TYPE pages_load_duration_seconds histogram")
+		loads := uint64(0)
+		for i, count := range s.LoadTimes {
+			loads += count
+			bound := "+Inf"
+			if i < len(rookdresser.LoadTimeBounds) {
+				bound = fmt.Sprint(rookdresser.LoadTimeBounds[i].Seconds())
+			}
+			fmt.Fprintf(w, "pages_load_duration_seconds_bucket{le=%q} %d\n", bound, loads)
+		}
+		fmt.Fprintf(w, "pages_load_duration_seconds_sum %v\npages_load_duration_seconds_count %d\n", s.LoadTime.Seconds(), loads)
+		fmt.Fprintf(w, "# TYPE pages_oldest_load_seconds gauge\npages_oldest_load_seconds %v\n", s.OldestLoad.Seconds())
 	}
 
 	told := httptest.NewRecorder()
 	metrics(told, nil)
-	var name string
-	var value float64
-	for body := told.Body; body.Len() > 0; {
-		head, _ := body.ReadString('\n')
-		row, _ := body.ReadString('\n')
-		if _, err := fmt.Sscanf(row, "%s %g", &name, &value); err != nil || head != "# TYPE "+name+" counter\n" {
-			fmt.Println(head, row, err)
-		} else if name != "pages_load_seconds_total" {
-			fmt.Println(name, value)
+	for _, row := range strings.Split(told.Body.String(), "\n") {
+		if strings.HasSuffix(row, "{le=\"+Inf\"} 2") || strings.Contains(row, "_total ") && !strings.HasPrefix(row, "# ") || strings.Contains(row, "_count ") {
+			fmt.Println(row)
 		}
 	}
 	// Output:
@@ -162,4 +170,8 @@ func ExampleCache_Stats_prometheus() {
 	// pages_loads_total 1
 	// pages_load_failures_total 1
 	// pages_evictions_total 0
+	// pages_loads_given_up_total 0
+	// pages_loads_beside_total 0
+	// pages_load_duration_seconds_bucket{le="+Inf"} 2
+	// pages_load_duration_seconds_count 2
 }

@@ -46,10 +46,7 @@ func (c *Cache[K, V]) timeOut(l *load[K, V]) {
 
 // giveUp lands an open load as one that failed, and returns what left. Whoever has the shard's lock calls it.
 func (c *Cache[K, V]) giveUp(l *load[K, V], why error) []Left[K, V] {
-	s, took := l.shard, time.Duration(0)
-	if begun := l.begun.Load(); begun != 0 {
-		took = c.clock.elapsed() - time.Duration(begun)
-	}
+	s, took := l.shard, c.ageOf(l)
 	s.stats.GivenUp++
 	s.fail(l)
 	s.end(l, &landing[V]{err: why}, took)

@@ -410,7 +410,11 @@ func TestNoCallReturnsTheValueOfALoadThatWasGivenUp(t *testing.T) {
 			}
 		}
 	}
-	if t.Log(s); s.Late != late || s.GivenUp != late || s.Failed != late || s.Loads+s.Failed != uint64(loads.Load()) || n.Failed != late || late == 0 || s.Beside == 0 {
+	t.Log(s)
+	if s.Late != late || s.GivenUp != late || s.Failed != late || n.Failed != late || s.Loads+s.Failed != uint64(loads.Load()) {
+		t.Fatal(late, loads.Load(), s, n)
+	}
+	if late == 0 || s.Beside == 0 {
 		t.Fatal(late, loads.Load(), s, n)
 	}
 }

@@ -18,9 +18,10 @@ type load[K comparable, V any] struct {
 	number, now  uint64
 	id           uint64 // the library's, if it has heard of the load; 0 if it refused it
 	ctx          *loading
-	timer        timer // nil if the load has no time limit
-	begun        atomic.Int64
-	isTold       bool // whether the library has heard of it
+	timer        timer        // nil if the load has no time limit
+	begun        atomic.Int64 // by the cache's own clock; 0 as long as fetch isn't called
+	waiting      atomic.Int32 // callers that wait
+	isTold       bool         // whether the library has heard of it
 	node         *node[K, V]
 	done         chan struct{} // there is one once another goroutine has joined
 	value        V             // and err are for those who joined
@@ -108,7 +109,7 @@ func (c *Cache[K, V]) seek(key K, ctx context.Context, b *batch[K, V]) (found so
 	}
 	found.value, found.isHit = s.looked(now)
 	if isBeside {
-		found.beside, err = s.beginBeside(key)
+		found.beside, err = s.beginBeside(key, c.clock.elapsed())
 	} else if s.lib.leads() {
 		if found.isHit && c.background != nil {
 			b = nil
@@ -211,7 +212,7 @@ func (s *shard[K, V]) end(l *load[K, V], got *landing[V], took time.Duration) {
 	if l.node.load == l {
 		l.node.load = nil
 	}
-	s.stats.LoadTime += took
+	s.stats.took(took)
 	l.value, l.err = got.value, got.err
 	l.over.Store(true)
 	if l.done != nil {

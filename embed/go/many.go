@@ -166,7 +166,7 @@ func (b *batch[K, V]) end(took time.Duration, listens bool) (err error) {
 		got := &b.got[i]
 		if of := b.leads[i]; of != nil {
 			b.left = append(b.left, of.land(got, took, listens)...)
-			took = 0
+			took = isCounted
 		}
 		if got.err == nil {
 			b.found[key] = got.value
@@ -178,7 +178,7 @@ func (b *batch[K, V]) end(took time.Duration, listens bool) (err error) {
 		if of := b.beside[i]; of != nil {
 			of.err = b.got[i].err
 			of.end(took)
-			took = 0
+			took = isCounted
 		}
 	}
 	return err

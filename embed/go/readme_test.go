@@ -97,8 +97,8 @@ func TestEachCallHasAnExampleAndEachNameASentence(t *testing.T) {
 	for _, of := range told.Vars {
 		hasSentence(of.Names[0], of.Doc)
 	}
-	// Open, OpenHashed, OnLeave, Weigh, Life, InBackground, 22 of a Cache, 2 of Stats, Fault.Error, and String of AtLimit, Cause, Choice and Reads.
-	if calls != 35 {
+	// Open, OpenHashed, OnLeave, Weigh, Life, InBackground, 24 of a Cache, 2 of Stats, Fault.Error, and String of AtLimit, Cause, Choice and Reads.
+	if calls != 37 {
 		t.Error(calls)
 	}
 }

@@ -27,6 +27,7 @@ type Cache[K comparable, V any] struct {
 	listener func(Left[K, V])
 	weigh    func(K, V) uint32
 	life     func(K, V) time.Duration
+	setup    Setup
 	timeout  time.Duration // of a load; 0 is none
 	// Loads an entry that is due; nil if its caller does.
 	background func(context.Context, K) (V, error)
@@ -58,7 +59,7 @@ func newCache[K comparable, V any](s Setup, hash hasher[K], options []Option[K, 
 		return nil, err
 	}
 	// The clock is the caller's, and may panic.
-	c := &Cache[K, V]{hash: hash, timeout: s.LoadTimeout, clock: clock{began: time.Now(), given: s.Clock}}
+	c := &Cache[K, V]{hash: hash, setup: s, timeout: s.LoadTimeout, clock: clock{began: time.Now(), given: s.Clock}}
 	if s.AfterWrite != 0 || s.AfterAccess != 0 || s.Refresh != 0 {
 		c.clock.start()
 	}

@@ -20,11 +20,13 @@ type Stats struct {
 	Loads, Failed                     uint64 // loads that returned a value; that returned an error, panicked or ended their goroutine
 	Refreshes                         uint64 // loads of a key that was there but due
 	LoadTime                          time.Duration
-	Loose                             uint64 // values that were loaded and not stored
-	Beside                            uint64 // loads that were made beside the cache, since too many were open: of Loads and Failed
-	GivenUp                           uint64 // loads that LoadTimeout or Abandon gave up: of Failed
-	Late                              uint64 // loads given up whose fetch has ended since. What it returned was dropped.
-	Explicit, Replaced, Expired, Size uint64 // entries that left, by their cause
+	LoadTimes                         LoadTimes     // of which LoadTime is the sum
+	OldestLoad                        time.Duration // how long the oldest open load has taken so far; 0 if none is open
+	Loose                             uint64        // values that were loaded and not stored
+	Beside                            uint64        // loads that were made beside the cache, since too many were open: of Loads and Failed
+	GivenUp                           uint64        // loads that LoadTimeout or Abandon gave up: of Failed
+	Late                              uint64        // loads given up whose fetch has ended since. What it returned was dropped.
+	Explicit, Replaced, Expired, Size uint64        // entries that left, by their cause
 	Refused                           map[Fault]uint64
 }
 
@@ -74,6 +76,9 @@ func (c *Cache[K, V]) Stats() Stats {
 	for _, s := range c.shards {
 		s.take()
 		sum.add(&s.stats)
+		if age := c.ageOf(s.loads.first); age > sum.OldestLoad {
+			sum.OldestLoad = age
+		}
 		hits, puts := s.stripes.made()
 		sum.Hits += hits
 		sum.Replaced += puts
@@ -90,6 +95,9 @@ func (s *Stats) add(other *Stats) {
 	s.Failed += other.Failed
 	s.Refreshes += other.Refreshes
 	s.LoadTime += other.LoadTime
+	for i, count := range other.LoadTimes {
+		s.LoadTimes[i] += count
+	}
 	s.Loose += other.Loose
 	s.Beside += other.Beside
 	s.GivenUp += other.GivenUp

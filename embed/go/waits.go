@@ -28,6 +28,8 @@ func (l *load[K, V]) wait(ctx context.Context) (v V, err error) {
 		return v, err
 	}
 	defer waits.end(me)
+	l.waiting.Add(1)
+	defer l.waiting.Add(-1)
 	select {
 	case <-l.done:
 		return l.value, l.err
