@@ -78,7 +78,7 @@ module _ {K V : Type 0} (members : Members K V) (finds : (p : Place) → FindsYo
       }
 
   module _ (returns : K → Result V ℕ → Type 0) where
-    Outcome : Layout → Calling K V → V → Type 0
+    abbrev Outcome : Layout → Calling K V → V → Type 0
     Outcome l new v = IsYoung members key now l new v ⊎ IsOfLoad members key now returns new v
 
     -- what a get of a caller brings

@@ -2,8 +2,8 @@ use Rattle.std.proofs.Common.{inr}
 use Rattle.rookdresser.proofs.Slid.{followed-more}
 use Rattle.rookdresser.proofs.cache.Cache.follow.Goals as goal
 
-pub returns-in-Some : goal.returns-in-Some
-returns-in-Some g c = record {
+pub returns-in-Some-unseen : goal.returns-in-Some-unseen
+returns-in-Some-unseen g c = record {
   made = inr (record {
     slides = c.follow_by.result;
     made = c.follow_by.ensures.made;
