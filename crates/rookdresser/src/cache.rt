@@ -33,7 +33,7 @@ pub struct Cache<'d, 'c, 'f, K: CacheKey, V: Value<K>, W: World<K, V>> {
     pub(crate) caller: &'d mut Caller<'c, K, V, W::Loader, W::Books, W::Waiting>,
     // There if the windows follow the stream.
     pub(crate) followers: Option<&'f Followers<K>>,
-    // The keys that this thread keeps for the followers, if there was memory for them.
+    // The keys that this thread keeps for the followers, once there was memory for them.
     pub(crate) unseen: Option<Unseen<K>>,
     // Whether a get reads first.
     pub(crate) reads: bool,
@@ -58,8 +58,11 @@ impl<'d, 'c, 'f, K: CacheKey, V: Value<K>, W: World<K, V>> Cache<'d, 'c, 'f, K, 
             Some(unseen) => {
                 let _ = self.caller.follow_by(followers, unseen, key, now);
             }
+            // The first look-up makes the list for those behind it.
             None => {
                 let _ = self.caller.follow(followers, key, now);
+                let shards = self.caller.cache().shards();
+                self.unseen = Unseen::new(self.alloc, shards).ok();
             }
         }
     }

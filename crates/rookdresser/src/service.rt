@@ -12,7 +12,7 @@ use crate::world::{Chosen, World};
 use std::alloc::Global;
 use std::sync::{Mutex, Wait};
 use std::thread::Threads;
-use wt_cache::{Caller, Followers, Loader, Tally, Unseen};
+use wt_cache::{Caller, Followers, Loader, Tally};
 use wt_core::Config;
 use wt_keys::{CacheKey, Fault, Field, NoMemory};
 use wt_shards::{Books, Value};
@@ -106,7 +106,6 @@ impl Tallies {
 #[derive(Drop)]
 struct Shared<K: CacheKey> {
     followers: Option<Followers<K>>,
-    shards: usize,
     reads: bool,
     alloc: Global,
     tallies: Tallies,
@@ -132,7 +131,6 @@ impl<K: CacheKey> Shared<K> {
         }
         Ok(Shared {
             followers,
-            shards,
             reads: config.refresh.is_none(),
             alloc,
             tallies,
@@ -188,7 +186,7 @@ impl<
         let mut cache: Cache<K, V, Chosen<Self, B, R, T>> = Cache {
             caller,
             followers: shared.followers.as_ref(),
-            unseen: Unseen::new(shared.alloc, shared.shards).ok(),
+            unseen: None,
             reads: shared.reads,
             clock: self.clock,
             alloc: shared.alloc,
