@@ -2,7 +2,7 @@
 use crate::life::Life;
 use crate::panics::{Guarded, Panics};
 use crate::several::Several;
-use crate::store::{drop_each, Ended, Store};
+use crate::table::store::{drop_each, Ended, Store};
 use crate::table::{hash_of, place, InRows, Place};
 use crate::window::{Advice, Share};
 use crate::{Fault, Found, Landed, Left, Numbers, OpenError, Setup, Token};

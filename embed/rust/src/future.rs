@@ -1,7 +1,7 @@
 //! The same cache for tasks: a `get` waits by `await`, on any runtime.
-use crate::flight::Joined;
 use crate::get::{shared, Sought};
 use crate::life::Life;
+use crate::loads::flight::Joined;
 use crate::many::{Batch, Many};
 use crate::panics::{Guarded, Panics};
 use crate::{GetError, OpenError, Setup};

@@ -1,14 +1,14 @@
 //! A look-up that loads what isn't there.
-use crate::flight::{Flight, Outcome};
-use crate::lead::Lead;
 use crate::life::Life;
 use crate::loading::Loading;
+use crate::loads::flight::{Flight, Outcome};
+use crate::loads::lead::Lead;
+use crate::loads::waits::{new_number, Making, WaitsForItself};
 use crate::panics::{Guarded, Panics};
 use crate::plain::are_plain;
 use crate::reads::shared::Locked;
 use crate::shard::AllGone;
 use crate::table::Place;
-use crate::waits::{new_number, Making, WaitsForItself};
 use crate::{Fault, Found, GetError};
 use std::borrow::Borrow;
 use std::hash::{BuildHasher, Hash};

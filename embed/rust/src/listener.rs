@@ -1,7 +1,7 @@
 //! Who is told what left. No lock is held here.
 use crate::panics::Panics;
 use crate::shard::{AllGone, Gone};
-use crate::store::drop_each;
+use crate::table::store::drop_each;
 
 type Function<K, V> = Box<dyn Fn(&Gone<K, V>) + Send + Sync>;
 

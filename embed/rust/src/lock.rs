@@ -5,7 +5,7 @@ use std::sync::{Mutex, MutexGuard, PoisonError, TryLockError};
 #[cfg(not(test))]
 pub(crate) type Taken<'a, T> = MutexGuard<'a, T>;
 #[cfg(test)]
-pub(crate) use crate::turns::Taken;
+pub(crate) use crate::reads::turns::Taken;
 
 /// A lock on two cache lines of its own, which processors fetch together: whoever takes one doesn't slow its neighbours.
 #[repr(align(128))]
@@ -20,7 +20,7 @@ impl<T> Lock<T> {
     #[inline]
     pub(crate) fn take(&self) -> Taken<'_, T> {
         #[cfg(test)]
-        crate::turns::takes(self.address());
+        crate::reads::turns::takes(self.address());
         self.attempt().unwrap_or_else(|| self.wait())
     }
 
@@ -28,7 +28,7 @@ impl<T> Lock<T> {
     #[inline]
     pub(crate) fn try_take(&self) -> Option<Taken<'_, T>> {
         #[cfg(test)]
-        crate::turns::uses(self.address());
+        crate::reads::turns::uses(self.address());
         self.attempt()
     }
 

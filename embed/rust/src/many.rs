@@ -1,10 +1,10 @@
 //! A look-up of several keys. One call of the loader loads those that aren't there and that nobody else loads.
-use crate::flight::{Flight, Outcome};
 use crate::get::{shared, Sought};
-use crate::lead::Lead;
 use crate::life::Life;
 use crate::listener::Listener;
 use crate::loading::Loading;
+use crate::loads::flight::{Flight, Outcome};
+use crate::loads::lead::Lead;
 use crate::panics::{Guarded, GuardedMap, Panics};
 use crate::shard::AllGone;
 use crate::{Fault, GetError};

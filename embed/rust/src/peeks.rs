@@ -1,6 +1,6 @@
 //! The calls that use no entry: what is there.
 use crate::loading::Loading;
-use crate::store::Store;
+use crate::table::store::Store;
 use std::borrow::Borrow;
 use std::hash::{BuildHasher, Hash};
 use std::sync::Arc;

@@ -1,10 +1,10 @@
 //! What one lock of a [`Loading`](crate::Loading) guards.
-use crate::flight::Flight;
+use crate::loads::flight::Flight;
 use crate::reads::nodes::{Sealed, Writer};
 use crate::reads::notes::Note;
 use crate::reads::readers::Readers;
-use crate::slab::Slab;
-use crate::store::{AllLeft, Store};
+use crate::table::slab::Slab;
+use crate::table::store::{AllLeft, Store};
 use crate::table::{place, Entry, Place, Values};
 use crate::window::Share;
 use crate::{Fault, Left, Numbers, OpenError, Setup, Stats, Token};

@@ -4,6 +4,7 @@
 //! threads walk the chains without the lock ([`nodes`]). A thread that walks is a reader: it says so in a stripe, and what was taken out
 //! of the chains isn't used again before each reader that may have seen it is gone ([`readers`]). A call that isn't sure to hit takes the
 //! lock ([`shared`]). The library hears of a part of the hits, and later ([`notes`]).
+mod find;
 mod heads;
 pub(crate) mod nodes;
 pub(crate) mod notes;
@@ -13,12 +14,14 @@ pub(crate) mod shared;
 #[cfg(test)]
 mod tests;
 pub(crate) mod times;
+#[cfg(test)]
+pub(crate) mod turns;
 
 /// In a test of every order a thread may lose its turn here, before it uses what others use without a lock.
 #[inline(always)]
 fn may_lose_turn<T: ?Sized>(_before_it_uses: &T) {
     #[cfg(test)]
-    crate::turns::uses(std::ptr::from_ref(_before_it_uses).cast::<()>() as usize);
+    crate::reads::turns::uses(std::ptr::from_ref(_before_it_uses).cast::<()>() as usize);
 }
 
 /// How the hits of a [`Loading`](crate::Loading) are made.

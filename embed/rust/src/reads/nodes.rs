@@ -6,7 +6,7 @@
 use crate::reads::heads::Heads;
 use crate::reads::may_lose_turn;
 use crate::reads::readers::{Reader, Readers};
-use crate::store::AllLeft;
+use crate::table::store::AllLeft;
 use crate::table::{Entry, Terms};
 use crate::{Cause, Left};
 use std::marker::PhantomData;

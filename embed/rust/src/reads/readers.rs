@@ -61,7 +61,7 @@ impl Readers {
         loop {
             own::try_next_stripe();
             #[cfg(test)]
-            crate::turns::takes(self.own().address());
+            crate::reads::turns::takes(self.own().address());
             if let Some(reader) = self.own().come() {
                 return reader;
             }
@@ -111,7 +111,7 @@ impl Stripe {
             return None;
         }
         #[cfg(test)]
-        crate::turns::holds(self.address());
+        crate::reads::turns::holds(self.address());
         Some(Reader { stripe: self, next: turn + 2 })
     }
 
@@ -127,7 +127,7 @@ impl Stripe {
     #[cold]
     fn wait_while(&self, turn: u64) {
         #[cfg(test)]
-        crate::turns::takes(self.address());
+        crate::reads::turns::takes(self.address());
         let mut round = 0;
         while self.turn.load(Acquire) == turn {
             pause(round);
@@ -167,7 +167,7 @@ impl Drop for Reader<'_> {
     #[inline(always)]
     fn drop(&mut self) {
         #[cfg(test)]
-        crate::turns::gives(self.stripe.address());
+        crate::reads::turns::gives(self.stripe.address());
         self.stripe.turn.store(self.next, Release);
     }
 }

@@ -6,7 +6,7 @@ use crate::reads::own::{self, Told};
 use crate::reads::times::Latest;
 use crate::reads::Reads;
 use crate::shard::{AllGone, Shard};
-use crate::store::AllLeft;
+use crate::table::store::AllLeft;
 use std::ops::{Deref, DerefMut};
 use std::sync::Arc;
 

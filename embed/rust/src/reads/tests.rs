@@ -1,6 +1,6 @@
 //! Hits without the lock give the answers of hits that take it, whatever the order in which threads take their turns.
 use crate::reads::own::use_stripe;
-use crate::turns::{begin_call, every_order};
+use crate::reads::turns::{begin_call, every_order};
 use crate::{Fault, GetError, Loading, Numbers, Reads, Setup, Stats};
 use std::hash::{BuildHasherDefault, DefaultHasher, Hash, Hasher};
 use std::panic::{catch_unwind, AssertUnwindSafe};

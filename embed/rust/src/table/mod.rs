@@ -1,12 +1,15 @@
 //! The keys in use, each with its number of the library's and what it keeps of its value. No code of the caller's runs here: keys are
 //! compared by whoever calls, and what is let go of is handed out.
-use crate::slab::Slab;
-use crate::store::AllLeft;
+pub(crate) mod slab;
+pub(crate) mod store;
+
 use crate::{Cause, Fault, Left};
+use slab::Slab;
 use std::collections::{HashSet, TryReserveError};
 use std::hash::{BuildHasher, Hash, Hasher};
 use std::marker::PhantomData;
 use std::sync::Arc;
+use store::AllLeft;
 
 /// A key in use: by an entry, by loads, or by both.
 pub(crate) struct Row<K, T> {

@@ -1,8 +1,8 @@
 //! A load under way, and who waits for it: threads, and tasks by their wakers.
+use crate::loads::waits::{outside, Waiting, WaitsForItself};
 use crate::lock::locked;
 use crate::panics::Panics;
-use crate::slab::Slab;
-use crate::waits::{outside, Waiting, WaitsForItself};
+use crate::table::slab::Slab;
 use std::future::Future;
 use std::pin::Pin;
 use std::sync::atomic::{AtomicBool, Ordering};

@@ -1,12 +1,12 @@
 //! A load that this caller makes.
-use crate::flight::{Flight, Outcome};
 use crate::life::Life;
 use crate::listener::Listener;
+use crate::loads::flight::{Flight, Outcome};
+use crate::loads::waits::Making;
 use crate::panics::Panics;
 use crate::reads::shared::Shared;
 use crate::shard::{AllGone, AllOut};
-use crate::store::Ended;
-use crate::waits::Making;
+use crate::table::store::Ended;
 use crate::{GetError, Landed};
 use std::sync::Arc;
 use std::time::{Duration, Instant};

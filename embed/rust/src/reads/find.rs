@@ -8,7 +8,7 @@ use crate::reads::notes::Note;
 use crate::reads::shared::{Locked, Shared};
 use crate::several::Several;
 use crate::shard::{AllGone, AllOut};
-use crate::store::Store;
+use crate::table::store::Store;
 use crate::table::{hash_of, Place, Terms, NEVER};
 use std::borrow::Borrow;
 use std::hash::{BuildHasher, Hash};
