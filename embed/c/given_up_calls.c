@@ -164,6 +164,83 @@ static void test_a_refresh_that_is_given_up_returns_the_old_value(void) {
     }
 }
 
+/* Due entries whose loads another thread makes. */
+static rd_loading_job *job;
+static bool takes;
+
+static bool keep(void *context, rd_loading_job *given) {
+    CHECK(context == &takes && !job);
+    if (takes) job = given;
+    return takes;
+}
+
+static void make_job(void) {
+    rd_loading_job *made = job;
+    job = NULL;
+    rd_loading_make(made);
+}
+
+static void *make_in_thread(void *joins) {
+    wait_for_joins(&l, *(uint64_t *)joins);
+    make_job();
+    return NULL;
+}
+
+static void test_jobs(void) {
+    const rd_setup setup = {.entries = 8, .window = 1, .flights = 8, .bound = 100, .after_write = 100, .refresh = 50};
+    request due = {.of = &l, .key = 1, .now = 50, .number = 4}, fails = {.of = &l, .key = 1, .now = 50};
+    int got;
+    CHECK(rd_loading_close(&l) == RD_OK && rd_loading_open(&l, &setup, destroy) == RD_OK);
+    CHECK(rd_loading_put(&l, 1, new_value(3), 1, 0) == RD_OK);
+    rd_loading_refresh_with(&l, keep, &takes);
+    /* The old value at once, also for the others; then the new one. */
+    takes = true;
+    get(&due);
+    CHECK(due.fault == RD_OK && due.got == 3 && asked(1, 50, 9, &got) == RD_OK && got == 3 && job && flights() == 1);
+    make_job();
+    CHECK(looked(&l, 1, 50) == 4);
+    whole();
+    /* One that fails, is cancelled, or is given up, before it is made or cancelled, leaves the old value. */
+    uint64_t at = 50;
+    for (int how = 0; how < 4; how++) {
+        CHECK(rd_loading_put(&l, 1, new_value(3), 1, at) == RD_OK);
+        fails.now = due.now = at += 50;
+        get(how ? &due : &fails);
+        CHECK((how ? due.got : fails.got) == 3 && job);
+        if (how >= 2) CHECK(rd_loading_abandon(&l, 1, STOPPED) == 1);
+        if (how % 2) rd_loading_cancel(job, STOPPED), job = NULL;
+        else make_job();
+        CHECK(!job && looked(&l, 1, at) == 3);
+        whole();
+    }
+    /* If the job isn't taken, the caller makes the load. */
+    takes = false;
+    get(&due);
+    CHECK(due.got == 4 && looked(&l, 1, at) == 4);
+    fails.now = at += 50;
+    get(&fails);
+    CHECK(fails.fault == RD_OK && fails.got == 4);
+    whole();
+    /* A caller whose entry has expired meanwhile waits for the job, though it has handed it on itself. */
+    takes = true;
+    due.now = at;
+    get(&due);
+    pthread_t maker;
+    uint64_t joins = stats_of().answers[RD_JOIN] + 1;
+    CHECK(due.got == 4 && !pthread_create(&maker, NULL, make_in_thread, &joins));
+    CHECK(asked(1, at += 50, 9, &got) == RD_OK && got == 4);
+    CHECK(!pthread_join(maker, NULL) && rd_loading_clear(&l, at) == RD_OK);
+    whole();
+    /* A cache that is closed before the job is made stores nothing. */
+    CHECK(rd_loading_put(&l, 1, new_value(3), 1, at) == RD_OK);
+    due.now = at + 50;
+    get(&due);
+    CHECK(job && rd_loading_close(&l) == RD_OK);
+    make_job();
+    CHECK(live == 0 && !l.loads && rd_loading_open(&l, &setup, destroy) == RD_OK);
+    rd_loading_refresh_with(&l, NULL, NULL);
+}
+
 /* Each load brings a number of its own. One whose caller is told that it was given up is late, and nobody may ever get it. */
 static atomic_int serial;
 static atomic_uchar is_late[THREADS * CALLS + 1], is_seen[THREADS * CALLS + 1];
@@ -230,6 +307,8 @@ int main(void) {
     test_forgotten_and_closed();
     test_a_refresh_that_is_given_up_returns_the_old_value();
     test_a_late_value_is_never_seen_in_a_storm();
+    CHECK(rd_loading_clear(&l, 0) == RD_OK);
+    test_jobs();
     CHECK(rd_loading_close(&l) == RD_OK && live == 0);
     puts("given up calls: ok");
     return 0;

@@ -204,6 +204,39 @@ static void test_refused_memory(void) {
     CHECK(loose > 0);
 }
 
+static rd_loading_job *job;
+
+static bool keep(void *context, rd_loading_job *given) {
+    (void)context;
+    job = given;
+    return true;
+}
+
+/* Of the refresh of an entry each allocation is refused: the get is, or its caller makes the load, or else a job is handed on. */
+static void test_a_job_that_is_refused_memory(void) {
+    long refused = 0, made = 0;
+    request r; /* is there until the job is made */
+    rd_loading_refresh_with(&l, keep, NULL);
+    for (long i = 0; !job; i++) {
+        r = (request){.key = 9, .now = 210, .number = 4};
+        CHECK(rd_loading_clear(&l, 160) == RD_OK && rd_loading_put(&l, 9, new_value(3), 1, 160) == RD_OK);
+        refuse_in = i;
+        get(&r);
+        bool was = refuse_in == -1;
+        refuse_in = -1;
+        CHECK(r.fault == RD_OK ? r.got == (job ? 3 : 4) && was == !job : was && r.fault == RD_OUT_OF_MEMORY);
+        refused += r.fault != RD_OK;
+        made += r.fault == RD_OK && !job;
+        if (!job) whole();
+        CHECK(rd_loading_close(&l) == RD_OK);
+        if (!job) CHECK(rd_loading_open(&l, &(rd_setup){.entries = 8, .window = 1, .flights = 4, .bound = 100, .after_write = 100, .refresh = 50}, destroy) == RD_OK);
+    }
+    rd_loading_make(job);
+    rd_loading_refresh_with(&l, NULL, NULL);
+    printf("%ld refreshes refused memory, %ld made by their callers\n", refused, made);
+    CHECK(made == 1 && live == 0);
+}
+
 static void test_closing(void) {
     rd_shared *kept, *got;
     rd_numbers n;
@@ -282,6 +315,8 @@ int main(void) {
     test_a_destroy_that_uses_the_cache();
     test_refused_memory();
     test_closing();
+    CHECK(rd_loading_open(&l, &setup, destroy) == RD_OK);
+    test_a_job_that_is_refused_memory();
     CHECK(rd_loading_open(&l, &setup, destroy) == RD_OK && rd_loading_clear(&l, 0) == RD_OK && rd_loading_close(&l) == RD_OK);
     test_a_window_that_follows();
     puts("loading calls: ok");

@@ -15,6 +15,7 @@
 typedef struct rd_flight {
     uint64_t id;
     pthread_t thread;
+    bool is_handed_on; /* no thread makes it yet */
     rd_token value; /* with the error, once the load has returned */
     uint64_t error;
     bool is_over;    /* its value or its error has been handed to each wait */
@@ -42,7 +43,7 @@ static inline rd_flight *rd_flight_of(rd_flight *loads, uint64_t id) {
 
 /* Lock is held: begins a load that this thread makes. */
 static inline void rd_flight_begin(rd_flight **loads, rd_flight *of, uint64_t id) {
-    const rd_flight begun = {id, pthread_self(), {0, 0}, RD_OK, false, 0, 0, *loads};
+    const rd_flight begun = {id, pthread_self(), false, {0, 0}, RD_OK, false, 0, 0, *loads};
     *of = begun;
     *loads = of;
 }
@@ -57,8 +58,8 @@ static inline const rd_flight *rd_blocks_for(const rd_flight *loads, pthread_t t
 
 /* Lock is held: whether the load waits for this thread, since the thread makes it, or a load for which the load's thread sleeps. */
 static inline bool rd_flight_waits_for(const rd_flight *loads, const rd_flight *of, pthread_t thread) {
-    while (of && !pthread_equal(of->thread, thread)) of = rd_blocks_for(loads, of->thread);
-    return of != 0;
+    while (of && !of->is_handed_on && !pthread_equal(of->thread, thread)) of = rd_blocks_for(loads, of->thread);
+    return of && !of->is_handed_on;
 }
 
 /* Lock is held: hands the wait the end of its load. */

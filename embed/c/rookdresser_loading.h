@@ -11,12 +11,14 @@
  * Keys are numbers, or names if you define ROOKDRESSER_LOADING_NAMES before you include this header. Your load, your listener and your
  * destroy run with no lock held. They may use the cache, take long or block: no call waits for them but the one that made them run, and
  * those for the key that is loaded. They have to return: they must neither longjmp out nor be cancelled. Each call returns an rd_fault;
- * the two gets may also return an error. After rd_loading_close all calls return RD_CLOSED. The header takes no memory of its own. It
+ * the two gets may also return an error. After rd_loading_close all calls return RD_CLOSED. The header takes no memory of its own but for
+ * jobs. It
  * was written by hand; it is tested with the address, undefined-behaviour and thread sanitizers, and not proved. It needs pthreads and
  * the __atomic functions of gcc or clang.
  */
 #ifndef ROOKDRESSER_LOADING_H
 #define ROOKDRESSER_LOADING_H
+#include <stdlib.h>
 #include "rookdresser_adaptive.h"
 #include "rookdresser_flights.h"
 #include "rookdresser_stats.h"
@@ -51,6 +53,9 @@ typedef rd_notice rd_loading_notice;
 static inline uint64_t rd_loading_number(uint64_t key) { return key; }
 #endif
 
+/* Of what a load of rd_loading_get runs through: in one piece it makes fewer instructions. */
+#define RD_LOADING_INLINE static inline __attribute__((always_inline))
+
 /* The beginning of each value. The cache has a share of each value that it holds, and a caller has one of each value that it got. */
 typedef struct rd_shared {
     long shares;
@@ -71,6 +76,12 @@ typedef uint64_t rd_load_for(void *context, rd_loading_key key, rd_shared **valu
 /* Gets an entry that left, with its value, which is whole until the listener returns. */
 typedef void rd_loading_listener(void *context, rd_loading_key key, rd_shared *value, enum rd_cause cause);
 
+/* A load of an entry that is due, which another thread is to make: rd_loading_make does, and rd_loading_cancel gives it up. */
+typedef struct rd_loading_job rd_loading_job;
+
+/* Takes a job for another thread and returns true; or returns false, and then the caller of the get makes the load. */
+typedef bool rd_loading_hand_on(void *context, rd_loading_job *job);
+
 typedef struct rd_loading {
     pthread_mutex_t lock; /* of all that follows */
     rd_cache cache;
@@ -83,8 +94,10 @@ typedef struct rd_loading {
     bool refuses_at_limit;
     uint64_t load_timeout; /* how many milliseconds a load may take; 0: any */
     uint64_t overdue_at;   /* no open load is overdue before */
+    rd_loading_hand_on *hand_on; /* null if callers make the loads of due entries */
+    void *hand_on_context;
 } rd_loading;
-#define RD_LOADING_INIT {PTHREAD_MUTEX_INITIALIZER, RD_CACHE_INIT, {{0}, {0}, {0}, 0, 0, 0, 0}, 0, 0, 0, 0, RD_FOLLOWER_INIT, false, 0, 0}
+#define RD_LOADING_INIT {PTHREAD_MUTEX_INITIALIZER, RD_CACHE_INIT, {{0}, {0}, {0}, 0, 0, 0, 0}, 0, 0, 0, 0, RD_FOLLOWER_INIT, false, 0, 0, 0, 0}
 
 /* Opens an empty cache, as rd_open does. The cache calls destroy for each value once nobody has a share of it. */
 static inline uint64_t rd_loading_open(rd_loading *l, const rd_setup *setup, void (*destroy)(rd_shared *value)) {
@@ -271,7 +284,7 @@ static inline uint64_t rd_loading_join(rd_loading *l, rd_flight *of, const struc
 }
 
 /* Closes a load. A value of which memory is refused isn't stored. The lock is held. */
-static inline void rd_loading_land(rd_loading *l, const rd_flight *of, rd_loading_key key, uint32_t life, uint64_t now, rd_shared **left) {
+RD_LOADING_INLINE void rd_loading_land(rd_loading *l, const rd_flight *of, rd_loading_key key, uint32_t life, uint64_t now, rd_shared **left) {
     rd_answer answer;
     rd_loading_notice first;
     uint64_t fault;
@@ -338,17 +351,21 @@ static inline uint64_t rd_loading_late(rd_loading *l, const rd_loading_task *tas
     return rd_loading_failed(task, error ? error : why, value);
 }
 
-/* Makes a load. The lock is held, and given back. */
-static inline uint64_t rd_loading_lead(rd_loading *l, const rd_loading_task *task, rd_shared *left, rd_shared **value) {
-    rd_loading_flight flight;
-    rd_flight *of = &flight.of;
+/* Opens a load. The lock is held. */
+static inline void rd_loading_begin(rd_loading *l, rd_loading_flight *flight, const rd_loading_task *task) {
+    const uint64_t overdue_at = rd_loading_overdue_at(l, task->now);
+    flight->task = task;
+    rd_flight_begin(&l->loads, &flight->of, task->id);
+    if (overdue_at < l->overdue_at) l->overdue_at = overdue_at;
+}
+
+/* Makes an open load in this thread. The lock is held, and given back. */
+RD_LOADING_INLINE uint64_t rd_loading_finish(rd_loading *l, rd_loading_flight *flight, rd_shared *left, rd_shared **value) {
+    const rd_loading_task *task = flight->task;
+    rd_flight *of = &flight->of;
     rd_token loaded = {0, 0};
     uint32_t life = 0;
     rd_shared *landed = 0, **end = &left; /* what left by the landing comes behind what left by the look-up */
-    flight.task = task;
-    rd_flight_begin(&l->loads, of, task->id);
-    const uint64_t overdue_at = rd_loading_overdue_at(l, task->now);
-    if (overdue_at < l->overdue_at) l->overdue_at = overdue_at;
     pthread_mutex_unlock(&l->lock);
     const uint64_t error = rd_loading_run(task, &loaded, &life);
     pthread_mutex_lock(&l->lock);
@@ -366,6 +383,13 @@ static inline uint64_t rd_loading_lead(rd_loading *l, const rd_loading_task *tas
     *value = rd_loading_value(loaded.token);
     rd_loading_release(l, task->old);
     return RD_OK;
+}
+
+/* Makes a load. The lock is held, and given back. */
+RD_LOADING_INLINE uint64_t rd_loading_lead(rd_loading *l, const rd_loading_task *task, rd_shared *left, rd_shared **value) {
+    rd_loading_flight flight;
+    rd_loading_begin(l, &flight, task);
+    return rd_loading_finish(l, &flight, left, value);
 }
 
 /* Ends an open load with an error, before it has returned. The lock is held. */
@@ -427,6 +451,82 @@ static inline uint64_t rd_loading_abandon(rd_loading *l, rd_loading_key key, uin
     return ended;
 }
 
+struct rd_loading_job {
+    rd_loading *of;
+    rd_loading_task task;
+    rd_loading_flight flight;
+};
+
+/* Has each due entry loaded by another thread: its caller gets the old value at once. hand_on gets a job, and hands it to a thread, which
+ * makes it by rd_loading_make; each job is made or cancelled once, while the cache may be closed, but is there. hand_on runs with no lock
+ * held; it may use the cache, and may make the job itself. If it returns false, or if memory is refused for a job, the caller makes the load
+ * and gets the new value. The context that was given to the get has to be there until the job is made. Null ends it: callers make the loads.
+ * Takes the lock, and no memory. O(1). */
+static inline void rd_loading_refresh_with(rd_loading *l, rd_loading_hand_on *hand_on, void *context) {
+    pthread_mutex_lock(&l->lock);
+    l->hand_on = hand_on;
+    l->hand_on_context = context;
+    pthread_mutex_unlock(&l->lock);
+}
+
+/* Makes a job's load in this thread, unless it was given up before, and frees the job. Writes the new value, or else the old one. */
+static inline void rd_loading_make_here(rd_loading_job *job, rd_shared **value) {
+    rd_loading *l = job->of;
+    rd_flight *of = &job->flight.of;
+    *value = job->task.old;
+    pthread_mutex_lock(&l->lock);
+    of->thread = pthread_self();
+    of->is_handed_on = false;
+    if (of->is_over)
+        pthread_mutex_unlock(&l->lock);
+    else
+        rd_loading_finish(l, &job->flight, 0, value);
+    free(job);
+}
+
+/* Makes a job's load in this thread, unless it was given up before, and frees the job. If the load fails, the old value stays until it
+ * expires, and the next get of the key finds it due again. */
+static inline void rd_loading_make(rd_loading_job *job) {
+    rd_loading *l = job->of;
+    rd_shared *value;
+    rd_loading_make_here(job, &value);
+    rd_loading_release(l, value);
+}
+
+/* Gives a job up, and frees it: who waits for its load gets the error, one of yours or RD_TIMED_OUT. */
+static inline void rd_loading_cancel(rd_loading_job *job, uint64_t error) {
+    rd_loading *l = job->of;
+    rd_flight *of = &job->flight.of;
+    rd_shared *left = 0;
+    pthread_mutex_lock(&l->lock);
+    if (!of->is_over) {
+        rd_flight_remove(&l->loads, of);
+        rd_loading_end(l, of, error, &left);
+    }
+    rd_loading_leave(l, left);
+    rd_loading_release(l, job->task.old);
+    free(job);
+}
+
+/* Inside rd_loading_get: an entry is due, of whose value this caller has a share. The lock is held, and given back. */
+static inline uint64_t rd_loading_hand(rd_loading *l, const rd_loading_task *task, rd_shared *left, rd_shared **value) {
+    rd_loading_hand_on *hand_on = l->hand_on;
+    void *context = l->hand_on_context;
+    rd_loading_job *job = hand_on ? (rd_loading_job *)malloc(sizeof *job) : 0;
+    if (!job) return rd_loading_lead(l, task, left, value);
+    job->of = l;
+    job->task = *task;
+    rd_loading_share(task->old); /* for the job */
+    rd_loading_begin(l, &job->flight, &job->task);
+    job->flight.of.is_handed_on = true;
+    rd_loading_leave(l, left);
+    *value = task->old;
+    if (hand_on(context, job)) return RD_OK;
+    rd_loading_release(l, task->old);
+    rd_loading_make_here(job, value);
+    return RD_OK;
+}
+
 /* Inside rd_loading_get: the library has refused a seek. A miss at the limit of open loads is looked up, so that it counts as any other, and
  * loaded beside the cache. The lock is held, and given back. */
 static inline uint64_t rd_loading_refused(rd_loading *l, uint64_t fault, const rd_loading_task *task, rd_shared *left, rd_shared **value) {
@@ -463,7 +563,7 @@ static inline uint64_t rd_loading_ask(rd_loading *l, rd_loading_key key, uint64_
     if (answer.kind != RD_LEAD) held = rd_loading_share(rd_loading_value(answer.token));
     if (answer.kind != RD_HIT) {
         const rd_loading_task task = {answer.number, key, now, load, load_for, context, held};
-        return rd_loading_lead(l, &task, left, value);
+        return held ? rd_loading_hand(l, &task, left, value) : rd_loading_lead(l, &task, left, value);
     }
     rd_loading_leave(l, left);
     *value = held;
