@@ -164,6 +164,31 @@ static void test_a_refresh_that_is_given_up_returns_the_old_value(void) {
     }
 }
 
+static void test_the_open_loads_are_listed(void) {
+    rd_loading_open_load loads[4];
+    rd_stats before = stats_of();
+    request waits[2];
+    CHECK(rd_loading_loads(&l, 0, loads, 4) == 0 && rd_loading_loads(&l, 0, NULL, 0) == 0);
+    hang(3);
+    for (int i = 0; i < 2; i++) {
+        waits[i] = (request){.of = &l, .key = 1001};
+        begin(&waits[i]);
+    }
+    wait_for_joins(&l, before.answers[RD_JOIN] + 2);
+    CHECK(rd_loading_loads(&l, 70, loads, 4) == 3);
+    for (int i = 0; i < 3; i++) {
+        CHECK(loads[i].key == (uint64_t)(1002 - i) && loads[i].age == 70 && loads[i].waiting == (i == 1 ? 2 : 0));
+        CHECK(pthread_equal(loads[i].thread, hung[2 - i].thread) && !loads[i].is_job && !loads[i].is_refresh);
+    }
+    CHECK(rd_loading_loads(&l, 0, loads, 1) == 3 && loads[0].key == 1002 && loads[0].age == 0);
+    CHECK(rd_loading_abandon(&l, 1001, STOPPED) == 1 && rd_loading_loads(&l, 0, loads, 4) == 2 && loads[1].key == 1000);
+    for (int i = 0; i < 2; i++) end(&waits[i]);
+    may_end = true;
+    for (int i = 0; i < 3; i++) end(&hung[i]);
+    CHECK(rd_loading_loads(&l, 0, loads, 4) == 0 && rd_loading_clear(&l, 0) == RD_OK);
+    whole();
+}
+
 /* Due entries whose loads another thread makes. */
 static rd_loading_job *job;
 static bool takes;
@@ -197,6 +222,8 @@ static void test_jobs(void) {
     takes = true;
     get(&due);
     CHECK(due.fault == RD_OK && due.got == 3 && asked(1, 50, 9, &got) == RD_OK && got == 3 && job && flights() == 1);
+    rd_loading_open_load of;
+    CHECK(rd_loading_loads(&l, 60, &of, 1) == 1 && of.key == 1 && of.age == 10 && of.is_job && of.is_refresh);
     make_job();
     CHECK(looked(&l, 1, 50) == 4);
     whole();
@@ -304,6 +331,7 @@ int main(void) {
     test_a_healthy_key_is_answered_while_all_loads_hang();
     test_after_load_timeout_the_cache_is_as_new();
     test_after_abandon_the_cache_is_as_new();
+    test_the_open_loads_are_listed();
     test_forgotten_and_closed();
     test_a_refresh_that_is_given_up_returns_the_old_value();
     test_a_late_value_is_never_seen_in_a_storm();

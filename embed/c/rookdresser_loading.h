@@ -527,6 +527,36 @@ static inline uint64_t rd_loading_hand(rd_loading *l, const rd_loading_task *tas
     return RD_OK;
 }
 
+/* An open load, as rd_loading_loads tells of it. */
+typedef struct rd_loading_open_load {
+    rd_loading_key key;
+    uint64_t age;     /* for how many milliseconds, by the moments of the calls */
+    uint64_t waiting; /* how many threads wait for it, besides the one that makes it */
+    pthread_t thread; /* that makes it; of a job that no thread makes yet, the one whose get handed it on */
+    bool is_job;      /* it is a job that no thread makes yet */
+    bool is_refresh;  /* of an entry that is there */
+} rd_loading_open_load;
+
+/* Writes the open loads, the latest first, as many as there is room for, and returns how many there are. If a source hangs, its keys are
+ * among them. Takes the lock; no memory; O(open loads and waits). */
+static inline uint64_t rd_loading_loads(rd_loading *l, uint64_t now, rd_loading_open_load *loads, uint64_t room) {
+    uint64_t count = 0;
+    pthread_mutex_lock(&l->lock);
+    for (const rd_flight *of = l->loads; of; of = of->next, count++) {
+        const rd_loading_task *task = ((const rd_loading_flight *)of)->task;
+        if (count >= room) continue;
+        loads[count].key = task->key;
+        loads[count].age = now > task->now ? now - task->now : 0;
+        loads[count].waiting = 0;
+        for (const rd_wait *wait = of->waits; wait; wait = wait->next) loads[count].waiting++;
+        loads[count].thread = of->thread;
+        loads[count].is_job = of->is_handed_on;
+        loads[count].is_refresh = task->old != 0;
+    }
+    pthread_mutex_unlock(&l->lock);
+    return count;
+}
+
 /* Inside rd_loading_get: the library has refused a seek. A miss at the limit of open loads is looked up, so that it counts as any other, and
  * loaded beside the cache. The lock is held, and given back. */
 static inline uint64_t rd_loading_refused(rd_loading *l, uint64_t fault, const rd_loading_task *task, rd_shared *left, rd_shared **value) {
