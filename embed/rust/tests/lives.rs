@@ -190,7 +190,7 @@ fn a_hundred_thousand_random_calls_are_those_of_a_map_with_deadlines() {
             let given = if life == 0 { Duration::MAX } else { ms(life) };
             let until = [life, after_write].into_iter().filter(|&age| age != 0).min().map_or(u64::MAX, |age| now + age);
             let there = model.get(&key).filter(|&&(_, until)| now < until).map(|&(value, _)| value);
-            // Most calls are look-ups, and they come in runs, so that the shard opens.
+            // Most calls are look-ups, and they come in runs.
             match if turn % 1000 < 700 { 2 } else { random(20) } {
                 0 => {
                     cache.store_for_at(&key, turn, 1, given, now).unwrap();

@@ -55,10 +55,9 @@ fn a_key_whose_load_is_open_is_not_there() {
 }
 
 #[test]
-fn a_peek_of_an_open_shard_finds_what_is_there() {
+fn a_peek_beside_hits_without_the_lock_finds_what_is_there() {
     let cache = Cache::sharded(1, &Setup::of(8)).unwrap();
     cache.store(&1, 7, 1).unwrap();
-    // The shard opens after some hundred looks.
     (0..1000).for_each(|_| assert!(cache.look(&1).unwrap().is_some()));
     assert!(cache.contains_key(&1) && !cache.contains_key(&2));
     assert_eq!((cache.keys(), cache.stats().hits), (vec![Arc::new(1)], 1000));

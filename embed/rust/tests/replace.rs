@@ -157,10 +157,10 @@ fn a_load_stores_nothing_over_what_was_inserted_and_waits_for_nothing() {
 }
 
 #[test]
-fn an_open_shard_is_asked_for_what_is_there() {
+fn what_is_there_is_found_without_the_lock() {
     let cache = Cache::sharded(1, &Setup::of(8)).unwrap();
     cache.store(&1, 7, 1).unwrap();
-    // The shard opens after some hundred hits, by these calls too.
+    // All but the last of these calls take no lock.
     (0..1000).for_each(|_| assert_eq!(cache.get_or_insert(&1, 8, 1), Ok(Arc::new(7))));
     assert_eq!(cache.get_or_insert(&2, 8, 1), Ok(Arc::new(8)));
     assert_eq!((cache.stats().hits, cache.stats().misses, cache.kept()), (1000, 1, (2, 2)));

@@ -329,6 +329,24 @@ fn a_hit_that_is_told_after_later_ones_takes_no_entry_out() {
     }
 }
 
+#[test]
+fn a_hit_whose_entry_has_expired_since_is_not_told() {
+    for has_another_life in [false, true] {
+        let cache = looked_at(&Setup::of(64).after_write(Duration::from_millis(15)), Reads::Shared, 0);
+        // It takes the lock, so the next two hits are told for sure, and together.
+        assert!(cache.look_at(&1, 10).unwrap().is_some() && cache.look_at(&1, 10).unwrap().is_some());
+        if has_another_life {
+            cache.store_for_at(&1, 4, 1, Duration::from_millis(5), 12).unwrap();
+        }
+        // The first entry has expired by then.
+        cache.store_at(&3, 3, 1, 20).unwrap();
+        assert!(cache.look_at(&2, 20).unwrap().is_some());
+        let (stats, numbers, kept) = seen(&cache);
+        assert_eq!((beside(&cache), stats.expired, numbers.entries, kept), (2, 0, 3, (3, 3)));
+        assert_eq!((cache.look_at(&1, 20), cache.kept(), cache.stats().expired), (Ok(None), (2, 2), 1));
+    }
+}
+
 // A key of the caller's, of which two have one hash.
 #[derive(Clone, PartialEq, Eq)]
 struct Coarse(u64);
