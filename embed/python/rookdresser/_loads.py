@@ -5,7 +5,7 @@ import asyncio
 import inspect
 import warnings
 from collections.abc import Coroutine
-from typing import TYPE_CHECKING, Any, Awaitable, Callable, Dict, Generic, Hashable, Iterable, List, Mapping, Optional, Tuple, TypeVar, Union
+from typing import TYPE_CHECKING, Any, Awaitable, Callable, Dict, Generic, Hashable, Iterable, List, Literal, Mapping, Optional, Tuple, TypeVar, Union
 
 from ._native import Load
 from ._refreshes import Refreshes
@@ -79,7 +79,7 @@ class Loads(Refreshes[K, V]):
             raise TypeError("load has to be callable; for a default call get(key, default)")
         task, loop = _this_task()
         mine: Optional[Load[V]] = None
-        of: Optional[Load[V]] = None
+        of: Union[Load[V], Literal[False], None] = None
         try:
             while True:
                 mine, of = Load(), None
@@ -214,7 +214,7 @@ class Loads(Refreshes[K, V]):
     def _seek_many(self, keys: Iterable[K], asked: Asked[K, V], task: Optional[asyncio.Task[Any]],
                    loop: Optional[asyncio.AbstractEventLoop]) -> None:
         """Looks the keys up, and joins or begins a load of each that has no value."""
-        of: Optional[Load[V]] = None
+        of: Union[Load[V], Literal[False], None] = None
         try:
             for key in dict.fromkeys(keys):
                 asked.begun.append(Load())
@@ -301,7 +301,8 @@ class Loads(Refreshes[K, V]):
 
 async def _loaded(load: Callable[[K], Union[V, Awaitable[V]]], key: K) -> V:
     told = load(key)
-    return await told if inspect.isawaitable(told) else told  # type: ignore[return-value]
+    value: V = await told if inspect.isawaitable(told) else told
+    return value
 
 
 def _this_task() -> Tuple[asyncio.Task[Any], asyncio.AbstractEventLoop]:
